@@ -1,0 +1,84 @@
+# Sourced by run and sample: where things are, what is missing, how to build.
+
+here=$(cd "$(dirname "${BASH_SOURCE[0]}")" && pwd)
+root=$(dirname "$here")
+built=$here/target
+
+files=(
+    window.rs
+    timer.rs
+    crypto/dtls_aead.rs
+    crypto/provider.rs
+    dtls13/engine.rs
+    dtls13/incoming.rs
+    dtls13/message/handshake.rs
+    dtls13/message/record.rs
+)
+
+missing=0
+
+# Says what is missing, and goes on to the next check.
+lacks() {
+    echo "$(basename "$0"): $1" >&2
+    missing=1
+}
+
+# Cargo, the two packages and the Rust's files.
+check_rust() {
+    command -v cargo >/dev/null ||
+        lacks "cargo is missing: install Rust 1.90 or later"
+    local package
+    for package in nom arrayvec; do
+        if [ -z "$(crates_of "$package")" ]; then
+            lacks "the package librust-$package-dev is missing: apt-get install librust-$package-dev"
+        fi
+    done
+    source=${DIMPL_SRC:-}
+    if [ -z "$source" ]; then
+        source=$root/docs/src
+        [ -d "$source" ] || source=$root/../shared/docs/src
+    fi
+    local file
+    for file in "${files[@]}"; do
+        if [ ! -f "$source/$file" ]; then
+            lacks "the Rust source $file is missing in $source: set DIMPL_SRC to the folder that holds it"
+        fi
+    done
+}
+
+# The folder of crates that a Debian package is in.
+crates_of() {
+    dpkg -L "librust-$1-dev" 2>/dev/null | sed -n "s|/$1-[^/]*/Cargo.toml\$||p"
+}
+
+stop_if_missing() {
+    [ "$missing" = 0 ] || exit 2
+}
+
+# Runs a command and shows its output only if it fails.
+quietly() {
+    mkdir -p "$built"
+    if ! "$@" >"$built/log" 2>&1; then
+        cat "$built/log" >&2
+        echo "$(basename "$0"): failed: $1 $2" >&2
+        exit 2
+    fi
+}
+
+# Builds one of the two programs.
+build() {
+    local file copy
+    for file in "${files[@]}"; do
+        copy=$built/dimpl/$file
+        if ! cmp -s "$source/$file" "$copy"; then
+            mkdir -p "$(dirname "$copy")"
+            cp --no-preserve=all "$source/$file" "$copy"
+        fi
+    done
+    # A lock from other versions of the packages would stop an offline build.
+    rm -f "$here/Cargo.lock"
+    quietly cargo build --release --offline --bin "$1" \
+        --manifest-path "$here/Cargo.toml" --target-dir "$built" \
+        --config 'source.crates-io.replace-with="debian"' \
+        --config "source.debian.directory=\"$(crates_of nom)\""
+}

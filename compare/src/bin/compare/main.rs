@@ -1,0 +1,188 @@
+//! Asks the Rust and the Rattle library the same inputs and compares the answers.
+//!
+//! compare COUNT SEED
+
+use std::env;
+use std::ops::Range;
+use std::process::ExitCode;
+
+use dimpl::SeededRng;
+use dimpl::leaves::{LEAVES, Leaf, hex, named};
+
+mod rattle;
+
+/// Random inputs are at most about as long as the longest datagram.
+const MOST: usize = 16_500;
+
+/// Both answers to one input.
+struct Answers {
+    rust: Vec<u8>,
+    rattle: Vec<u8>,
+}
+
+struct Comparison<'a> {
+    leaf: &'a Leaf,
+    answers: Answers,
+    count: u64,
+    failed: Option<Vec<u8>>,
+}
+
+impl Comparison<'_> {
+    fn differ(&mut self, input: &[u8]) -> bool {
+        let Answers { rust, rattle } = &mut self.answers;
+        rust.clear();
+        rattle.clear();
+        (self.leaf.rust)(input, rust);
+        rattle::answer(self.leaf.letter, input, rattle);
+        rust != rattle
+    }
+
+    /// Compares one input, until one has failed.
+    fn input(&mut self, input: &[u8]) {
+        if self.failed.is_some() {
+            return;
+        }
+        assert!(
+            (self.leaf.domain)(input),
+            "{} {}",
+            self.leaf.letter,
+            hex(input)
+        );
+        self.count += 1;
+        if self.differ(input) {
+            self.failed = Some(input.to_vec());
+        }
+    }
+
+    /// Tries the input, and takes it over if it fails too.
+    fn try_instead(&mut self, current: &mut Vec<u8>, input: Vec<u8>) -> bool {
+        let fails = (self.leaf.domain)(&input) && self.differ(&input);
+        if fails {
+            *current = input;
+        }
+        fails
+    }
+
+    /// Takes the bytes in `range` out, if the input then fails too.
+    fn take_out(&mut self, input: &mut Vec<u8>, range: Range<usize>) -> bool {
+        let mut shorter = input.clone();
+        shorter.drain(range);
+        self.try_instead(input, shorter)
+    }
+
+    /// Takes parts out and makes bytes smaller for as long as the input fails.
+    fn shrink(&mut self, mut input: Vec<u8>) -> Vec<u8> {
+        loop {
+            let before = input.clone();
+            self.shorten(&mut input);
+            for at in 0..input.len() {
+                let value = input[at];
+                for smaller in [0, 1, value / 2, value.saturating_sub(1)] {
+                    if smaller < input[at] {
+                        let mut other = input.clone();
+                        other[at] = smaller;
+                        if !self.try_instead(&mut input, other.clone()) && at + 1 < input.len() {
+                            other[at + 1] = 255;
+                            self.try_instead(&mut input, other);
+                        }
+                    }
+                }
+            }
+            if input == before {
+                return input;
+            }
+        }
+    }
+
+    fn shorten(&mut self, input: &mut Vec<u8>) {
+        let unit = self.leaf.unit;
+        if unit == 0 {
+            return;
+        }
+        // The longest front and the longest end that can go.
+        let parts = input.len() / unit;
+        _ = (1..=parts).rev().any(|n| self.take_out(input, 0..n * unit));
+        let parts = input.len() / unit;
+        _ = (0..parts).any(|n| self.take_out(input, n * unit..input.len()));
+        // Parts in the middle: any long one, then the short ones at every place.
+        let mut size = input.len() / unit;
+        while size > 0 {
+            let stride = unit * if size > 20 { size / 2 } else { 1 };
+            let mut at = 0;
+            while at + size * unit <= input.len() {
+                if !self.take_out(input, at..at + size * unit) {
+                    at += stride;
+                }
+            }
+            size = if size > 40 { size / 2 } else { size - 1 };
+        }
+    }
+
+    fn report(&mut self, input: Vec<u8>) {
+        let leaf = self.leaf;
+        let input = self.shrink(input);
+        self.differ(&input);
+        let line = |label: &str, fields, bytes: &[u8]| {
+            println!("  {label:<7} {} {}", leaf.letter, hex(bytes));
+            for names in named(fields, bytes) {
+                println!("          {names}");
+            }
+        };
+        println!("{} {}: the answers differ", leaf.letter, leaf.name);
+        line("input", leaf.input, &input);
+        line("Rust", leaf.answer, &self.answers.rust);
+        line("Rattle", leaf.answer, &self.answers.rattle);
+    }
+}
+
+fn main() -> ExitCode {
+    let args: Vec<String> = env::args().skip(1).collect();
+    let numbers: Vec<u64> = args.iter().filter_map(|arg| arg.parse().ok()).collect();
+    let ([count, seed], 2) = (numbers[..].try_into().unwrap_or([0, 0]), args.len()) else {
+        eprintln!("usage: compare COUNT SEED");
+        return ExitCode::from(2);
+    };
+
+    let mut lines = Vec::new();
+    let mut failures = 0;
+    for leaf in LEAVES {
+        let mut comparison = Comparison {
+            leaf,
+            answers: Answers {
+                rust: Vec::new(),
+                rattle: Vec::new(),
+            },
+            count: 0,
+            failed: None,
+        };
+        (leaf.short)(&mut |input| comparison.input(input));
+        (leaf.limits)(&mut |input| comparison.input(input));
+        // Each leaf has its own random numbers, so that one leaf's do not move another's.
+        let mut rng = SeededRng::new(Some(seed ^ (leaf.letter as u64) << 56));
+        for _ in 0..count {
+            if comparison.failed.is_some() {
+                break;
+            }
+            comparison.input(&(leaf.random)(&mut rng, MOST));
+        }
+        if let Some(input) = comparison.failed.take() {
+            comparison.report(input);
+            failures += 1;
+        }
+        lines.push(format!(
+            "{} {:<28} {:>10} inputs compared",
+            leaf.letter, leaf.name, comparison.count
+        ));
+    }
+
+    for line in lines {
+        println!("{line}");
+    }
+    let leaves = LEAVES.len();
+    if failures > 0 {
+        println!("{failures} of {leaves} leaves differ (COUNT {count}, SEED {seed})");
+        return ExitCode::FAILURE;
+    }
+    println!("all {leaves} leaves agree (COUNT {count}, SEED {seed})");
+    ExitCode::SUCCESS
+}

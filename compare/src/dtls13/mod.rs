@@ -1,0 +1,4 @@
+pub mod engine;
+pub mod incoming;
+pub mod message;
+pub mod queue;

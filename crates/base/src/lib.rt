@@ -1,0 +1,40 @@
+// What every crate reads bytes with; specs/ has the laws that all of them cite.
+ghost use mathlib.Core.Path.{_≡_};
+ghost use Prim.Native.Nat.{_+_, _<_, _≤_};
+ghost use lib.ListN.{length, getD};
+ghost use Rattle.base.specs.Bytes.{beAt};
+
+// A byte as a wider number.
+pub fn wide(x: u8) -> u64
+    ensures { λ r. ⌜ (r ≡ x) × (r < 256) ⌝ }
+{
+    x as u64
+}
+
+// The number that two bytes make, from place i on.
+pub fn be16(d: &[u8], i: usize) -> u64
+    requires { ⌜ i + 2 ≤ length (now d) ⌝ }
+    ensures { λ r. ⌜ (r ≡ beAt 2 (now (d .entry)) i) × (r < 65536) ⌝ }
+{
+    let j = i + 1;
+    wide(d[i]) * 256 + wide(d[j])
+}
+
+// The number that three bytes make, from place i on.
+pub fn be24(d: &[u8], i: usize) -> u64
+    requires { ⌜ i + 3 ≤ length (now d) ⌝ }
+    ensures { λ r. ⌜ (r ≡ beAt 3 (now (d .entry)) i) × (r < 16777216) ⌝ }
+{
+    let j = i + 1;
+    wide(d[i]) * 65536 + be16(d, j)
+}
+
+// The byte at place i; 0 beyond the end.
+pub fn byte_or_zero(d: &[u8], i: usize) -> u64
+    ensures { λ r. ⌜ (r ≡ getD (now (d .entry)) i 0) × (r < 256) ⌝ }
+{
+    if i < d.len() {
+        return wide(d[i]);
+    }
+    0
+}

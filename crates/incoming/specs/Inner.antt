@@ -1,0 +1,118 @@
+-- What an opened record holds (RFC 8446, section 5.2, DTLSInnerPlaintext; 01: "trailing zeros are removed; the last byte left is the
+-- content type; what precedes it" the content), and its laws. Assumes nothing.
+use mathlib.Core.List.{List, [], _∷_, _++_, reverse, reverse-append, reverse-reverse, append-assoc, append-nil, reverseAux-eq}
+use mathlib.Core.Logic.{_⊎_, inl, inr}
+use mathlib.Core.Path.{_≡_, refl, sym, ap, subst, _∙_}
+use Prim.Native.Nat.{ℕ, zero, suc, _+_, _-_, _<_, _≤_}
+use native.Mathlib.Omega.{arith}
+use lib.ListN.{length, take, getD, replicate, length-reverse}
+use lib.Seq.{take-suc, length-take-le}
+use Rattle.incoming.specs.declared.Inner.{Inner}
+use Rattle.incoming.specs.declared.Inner.the-variants as inner
+
+-- read from the end: zeros are passed, then comes the type, and the rest is the content
+abbrev pub fromEnd : List ℕ → Inner
+fromEnd [] = inner.Nothing
+fromEnd (zero ∷ l) = fromEnd l
+fromEnd (suc t ∷ l) = inner.Found (suc t) (length l)
+
+unfoldable pub innerOf : List ℕ → Inner
+innerOf d = fromEnd (reverse d)
+
+-- one byte more at the end: a zero changes nothing, another byte is the type
+pub inner-zero : (d : List ℕ) → innerOf (d ++ (0 ∷ [])) ≡ innerOf d
+unfolding innerOf
+inner-zero d = ap fromEnd (reverse-append d (0 ∷ []))
+
+pub inner-type : (d : List ℕ) (t : ℕ) → (t ≡ 0 → ⊥) → innerOf (d ++ (t ∷ [])) ≡ inner.Found t (length d)
+unfolding innerOf
+inner-type d zero ne = absurd (ne refl)
+inner-type d (suc t) ne = ap fromEnd (reverse-append d (suc t ∷ [])) ∙ ap (inner.Found (suc t)) (length-reverse d)
+
+-- `replicate` of zeros
+abbrev pub zeros : ℕ → List ℕ
+zeros k = replicate k 0
+
+replicate-end : (k : ℕ) → zeros k ++ (0 ∷ []) ≡ 0 ∷ zeros k
+replicate-end zero = refl
+replicate-end (suc k) = ap (λ (l : List ℕ). 0 ∷ l) (replicate-end k)
+
+-- zeros at the end change nothing
+pub inner-padded : (d : List ℕ) (k : ℕ) → innerOf (d ++ zeros k) ≡ innerOf d
+inner-padded d zero = ap innerOf (append-nil d)
+inner-padded d (suc k) =
+    ap (λ (l : List ℕ). innerOf (d ++ l)) (sym (replicate-end k)) ∙ ap innerOf (sym (append-assoc d (zeros k) (0 ∷ [])))
+    ∙ inner-zero (d ++ zeros k) ∙ inner-padded d k
+
+-- content, type and padding as they were sealed are found again
+pub inner-sealed : (content : List ℕ) (t k : ℕ) → (t ≡ 0 → ⊥) → innerOf (content ++ (t ∷ zeros k)) ≡ inner.Found t (length content)
+inner-sealed content t k ne =
+    ap innerOf (sym (append-assoc content (t ∷ []) (zeros k))) ∙ inner-padded (content ++ (t ∷ [])) k ∙ inner-type content t ne
+
+-- zeros alone hold nothing
+pub inner-zeros : (k : ℕ) → innerOf (zeros k) ≡ inner.Nothing
+unfolding innerOf
+inner-zeros k = inner-padded [] k
+
+-- ---- and nothing else is found: an answer tells what the bytes are
+
+pub record Holds (d : List ℕ) (t n : ℕ) : Type 0 where
+  pub content : List ℕ
+  pub padding : ℕ
+  pub bytes : d ≡ content ++ (t ∷ zeros padding)
+  pub long : length content ≡ n
+  pub typed : t ≡ 0 → ⊥
+
+from-end : (b : ℕ) (l r : List ℕ) → reverse (b ∷ l) ++ r ≡ reverse l ++ (b ∷ r)
+from-end b l r = ap (λ (x : List ℕ). x ++ r) (reverseAux-eq l (b ∷ [])) ∙ append-assoc (reverse l) (b ∷ []) r
+
+-- a list read from its end, behind k zeros
+holds-end : (l : List ℕ) (k : ℕ) {t n : ℕ} → fromEnd l ≡ inner.Found t n → Holds (reverse l ++ zeros k) t n
+holds-end [] k e = let z : _≡_ {A = ℕ} 0 1 = cc in absurd (omega arith)
+holds-end (zero ∷ l) k {t} {n} e =
+    subst (λ (d : List ℕ). Holds d t n) (sym (from-end 0 l (zeros k))) (holds-end l (suc k) e)
+holds-end (suc b ∷ l) k {t} {n} e =
+    let same : suc b ≡ t = cc in
+    record {
+      content = reverse l;
+      padding = k;
+      bytes = from-end (suc b) l (zeros k) ∙ ap (λ (x : ℕ). reverse l ++ (x ∷ zeros k)) same;
+      long = let len : length l ≡ n = cc in length-reverse l ∙ len;
+      typed = λ z. omega arith;
+    }
+
+pub inner-holds : (d : List ℕ) {t n : ℕ} → innerOf d ≡ inner.Found t n → Holds d t n
+unfolding innerOf
+inner-holds d {t} {n} e =
+    subst (λ (x : List ℕ). Holds x t n) (append-nil (reverse (reverse d)) ∙ reverse-reverse d) (holds-end (reverse d) 0 e)
+
+zeros-end : (l : List ℕ) → fromEnd l ≡ inner.Nothing → reverse l ≡ zeros (length l)
+zeros-end [] e = refl
+zeros-end (zero ∷ l) e = reverseAux-eq l (0 ∷ []) ∙ ap (λ (x : List ℕ). x ++ (0 ∷ [])) (zeros-end l e) ∙ replicate-end (length l)
+zeros-end (suc b ∷ l) e = let z : _≡_ {A = ℕ} 0 1 = cc in absurd (omega arith)
+
+pub inner-nothing : (d : List ℕ) → innerOf d ≡ inner.Nothing → d ≡ zeros (length d)
+unfolding innerOf
+inner-nothing d e = sym (reverse-reverse d) ∙ zeros-end (reverse d) e ∙ ap zeros (length-reverse d)
+
+-- ---- one byte less
+
+pub take-last : (d : List ℕ) (n : ℕ) → (n ≡ 0 → ⊥) → n ≤ length d → take n d ≡ take (n - 1) d ++ (getD d (n - 1) 0 ∷ [])
+take-last d n ne h =
+    let e : n ≡ suc (n - 1) = omega arith in
+    ap (λ (k : ℕ). take k d) e ∙ take-suc d (n - 1) 0 (omega arith)
+
+pub inner-none : (d : List ℕ) (n : ℕ) → n ≡ 0 → inner.Nothing ≡ innerOf (take n d)
+unfolding innerOf
+inner-none d n e = ap (λ (k : ℕ). innerOf (take k d)) (sym e)
+
+pub inner-less : (d : List ℕ) (n : ℕ) → (n ≡ 0 → ⊥) → n ≤ length d → getD d (n - 1) 0 ≡ 0 → innerOf (take (n - 1) d) ≡ innerOf (take n d)
+inner-less d n ne h z =
+    sym (ap innerOf (take-last d n ne h) ∙ ap (λ (b : ℕ). innerOf (take (n - 1) d ++ (b ∷ []))) z ∙ inner-zero (take (n - 1) d))
+
+pub inner-last : (d : List ℕ) (n : ℕ) → (n ≡ 0 → ⊥) → n ≤ length d → (getD d (n - 1) 0 ≡ 0 → ⊥)
+    → inner.Found (getD d (n - 1) 0) (n - 1) ≡ innerOf (take n d)
+inner-last d n ne h typed =
+    sym
+    (ap innerOf (take-last d n ne h) ∙ inner-type (take (n - 1) d) (getD d (n - 1) 0) typed
+    ∙ ap (inner.Found (getD d (n - 1) 0)) (length-take-le (n - 1) d (omega arith)))

@@ -1,0 +1,290 @@
+// Record headers read and written, after record.rs, and the cut of a datagram into records, after `Records::parse_records` of
+// incoming.rs.
+ghost use mathlib.Core.Path.{_≡_};
+ghost use Prim.Native.Nat.{_+_, _-_, _≤_, _<_};
+ghost use lib.ListN.{length, drop};
+ghost use Rattle.base.specs.Parts.{part};
+ghost use Rattle.record.specs.Record.{
+  headerLen,
+  fragmentLen,
+  partialOf,
+  isType,
+  isVersion,
+  isPlaintext,
+  numberOf,
+  parseCiphertext,
+  parsePlaintext,
+  parsed,
+  headOf,
+  sizeOf,
+  contentOf,
+  restOf,
+  plaintextHeader,
+  unifiedHeader,
+};
+
+// The versions that a plaintext header may carry; the second is written.
+const DTLS1_0: [u8; 2] = [0xFE, 0xFF];
+
+const DTLS1_2: [u8; 2] = [0xFE, 0xFD];
+
+// Bytes of a plaintext header: type 1, version 2, epoch 2, number 6, length 2.
+const PLAINTEXT_HEADER_LEN: usize = 13;
+
+pub struct Plaintext {
+    pub content_type: u8,
+    pub sequence_number: u64,
+    pub length: usize,
+}
+
+// A sealed record: the low bits of its epoch, whether its number has two bytes, these bytes as they lie, and how long header and
+// protected part are.
+pub struct Ciphertext {
+    pub epoch_bits: u8,
+    pub s_flag: bool,
+    pub sequence_number: u64,
+    pub header_len: usize,
+    pub length: usize,
+}
+
+// What begins the rest of a datagram.
+pub enum Parsed {
+    // Nothing more, or a header with a connection ID: the datagram ends here.
+    End,
+    // A header or a length beyond its bytes (refusal 2).
+    Incomplete,
+    // A plaintext record of so many bytes whose type, version or epoch is not allowed (refusal 4).
+    Invalid(usize),
+    Plaintext(Plaintext),
+    Ciphertext(Ciphertext),
+}
+
+// Bytes of a unified header, by its flags.
+fn header_len(flags: u8) -> usize
+    ensures { λ r. ⌜ (r ≡ headerLen flags) × (2 ≤ r) × (r ≤ 5) ⌝ }
+{
+    let s = flags / 8 % 2;
+    let l = flags / 4 % 2;
+    (2 + s + l * 2) as usize
+}
+
+// The length field of a unified header, its last two bytes; without one the record runs to the end.
+fn fragment_len(d: &[u8], flags: u8, head: usize) -> usize
+    requires { ⌜ (head ≡ headerLen flags) × (2 ≤ head) × (head ≤ length (now d)) ⌝ }
+    ensures { λ r. ⌜ r ≡ fragmentLen (now (d .entry)) flags ⌝ }
+{
+    if flags / 4 % 2 == 1 {
+        return base::be16(d, head - 2) as usize;
+    }
+    d.len() - head
+}
+
+// The number bytes of a unified header, as they lie.
+pub fn partial(d: &[u8], s_flag: bool) -> u64
+    ensures { λ r. ⌜ r ≡ partialOf (now (d .entry)) «s_flag» ⌝ }
+{
+    if s_flag {
+        return base::byte_or_zero(d, 1) * 256 + base::byte_or_zero(d, 2);
+    }
+    base::byte_or_zero(d, 1)
+}
+
+fn parse_ciphertext(d: &[u8], flags: u8) -> Parsed
+    ensures { λ r. ⌜ r ≡ parseCiphertext (now (d .entry)) flags ⌝ }
+{
+    let n = d.len();
+    let head = header_len(flags);
+    if n < head {
+        return Parsed::Incomplete;
+    }
+    let length = fragment_len(d, flags, head);
+    if n - head < length {
+        return Parsed::Incomplete;
+    }
+    let s_flag = flags / 8 % 2 == 1;
+    Parsed::Ciphertext(Ciphertext {
+        epoch_bits: flags % 4,
+        s_flag: s_flag,
+        sequence_number: partial(d, s_flag),
+        header_len: head,
+        length: length,
+    })
+}
+
+fn is_type(t: u8) -> bool
+    ensures { λ r. ⌜ r ≡ isType t ⌝ }
+{
+    if t == 21 {
+        return true;
+    }
+    if t == 22 {
+        return true;
+    }
+    t == 26
+}
+
+fn is_version(a: u8, b: u8) -> bool
+    ensures { λ r. ⌜ r ≡ isVersion a b ⌝ }
+{
+    if a == DTLS1_2[0] {
+        if b == DTLS1_0[1] {
+            return true;
+        }
+        return b == DTLS1_2[1];
+    }
+    false
+}
+
+// Whether type, version and epoch of a plaintext header are allowed.
+fn is_plaintext(d: &[u8]) -> bool
+    requires { ⌜ 13 ≤ length (now d) ⌝ }
+    ensures { λ r. ⌜ r ≡ isPlaintext (now (d .entry)) ⌝ }
+{
+    if is_type(d[0]) {
+        if is_version(d[1], d[2]) {
+            return base::be16(d, 3) == 0;
+        }
+    }
+    false
+}
+
+// The six bytes of a plaintext header's number.
+fn number(d: &[u8]) -> u64
+    requires { ⌜ 13 ≤ length (now d) ⌝ }
+    ensures { λ r. ⌜ r ≡ numberOf (now (d .entry)) ⌝ }
+{
+    base::be24(d, 5) * 0x100_0000 + base::be24(d, 8)
+}
+
+fn parse_plaintext(d: &[u8]) -> Parsed
+    ensures { λ r. ⌜ r ≡ parsePlaintext (now (d .entry)) ⌝ }
+{
+    let n = d.len();
+    if n < PLAINTEXT_HEADER_LEN {
+        return Parsed::Incomplete;
+    }
+    let length = base::be16(d, 11) as usize;
+    if n - PLAINTEXT_HEADER_LEN < length {
+        return Parsed::Incomplete;
+    }
+    if is_plaintext(d) {
+        return Parsed::Plaintext(Plaintext {
+            content_type: d[0],
+            sequence_number: number(d),
+            length: length,
+        });
+    }
+    Parsed::Invalid(length)
+}
+
+// What begins the rest of a datagram.
+pub fn parse(d: &[u8]) -> Parsed
+    ensures { λ r. ⌜ r ≡ parsed (now (d .entry)) ⌝ }
+{
+    if d.len() == 0 {
+        return Parsed::End;
+    }
+    let flags = d[0];
+    if flags / 32 == 1 {
+        if flags / 16 % 2 == 1 {
+            return Parsed::End;
+        }
+        return parse_ciphertext(d, flags);
+    }
+    parse_plaintext(d)
+}
+
+// What follows the first n bytes; nothing beyond the end.
+pub fn behind(d: &[u8], n: usize) -> &[u8]
+    ensures { λ r. ⌜ now r ≡ drop n (now (d .entry)) ⌝ }
+{
+    if n < d.len() {
+        return &d[n..];
+    }
+    let end = d.len();
+    &d[end..]
+}
+
+// The part of so many bytes that starts at a place; what lies beyond the end is left out.
+pub fn fragment(d: &[u8], start: usize, length: usize) -> &[u8]
+    ensures { λ r. ⌜ now r ≡ part start length (now (d .entry)) ⌝ }
+{
+    let t = behind(d, start);
+    if length < t.len() {
+        return &t[..length];
+    }
+    t
+}
+
+// Where the content of a record begins, and how long it is.
+fn head_of(p: Parsed) -> usize
+    ensures { λ r. ⌜ r ≡ headOf p ⌝ }
+{
+    match p {
+        Parsed::Plaintext(_) => PLAINTEXT_HEADER_LEN,
+        Parsed::Ciphertext(r) => r.header_len,
+        Parsed::Invalid(_) => PLAINTEXT_HEADER_LEN,
+        Parsed::End => 0,
+        Parsed::Incomplete => 0,
+    }
+}
+
+fn size_of(p: Parsed) -> usize
+    ensures { λ r. ⌜ r ≡ sizeOf p ⌝ }
+{
+    match p {
+        Parsed::Plaintext(r) => r.length,
+        Parsed::Ciphertext(r) => r.length,
+        Parsed::Invalid(n) => n,
+        Parsed::End => 0,
+        Parsed::Incomplete => 0,
+    }
+}
+
+// The content of the record that a slice begins with, as a part of it.
+pub fn content(d: &[u8], p: Parsed) -> &[u8]
+    ensures { λ r. ⌜ now r ≡ contentOf (now (d .entry)) p ⌝ }
+{
+    fragment(d, head_of(p), size_of(p))
+}
+
+// What follows the record that a slice begins with, as a part of it.
+pub fn rest(d: &[u8], p: Parsed) -> &[u8]
+    ensures { λ r. ⌜ now r ≡ restOf (now (d .entry)) p ⌝ }
+{
+    behind(behind(d, head_of(p)), size_of(p))
+}
+
+// The header of a plaintext record: epoch 0, the low 48 bits of the number.
+pub fn plaintext_header(content_type: u8, sequence_number: u64, length: u16) -> [u8; 13]
+    ensures { λ r. ⌜ r ≡ plaintextHeader «content_type» «sequence_number» length ⌝ }
+{
+    [
+        content_type,
+        DTLS1_2[0],
+        DTLS1_2[1],
+        0,
+        0,
+        (sequence_number / 0x100_0000_0000 % 256) as u8,
+        (sequence_number / 0x1_0000_0000 % 256) as u8,
+        (sequence_number / 0x100_0000 % 256) as u8,
+        (sequence_number / 0x1_0000 % 256) as u8,
+        (sequence_number / 0x100 % 256) as u8,
+        (sequence_number % 256) as u8,
+        (length / 256 % 256) as u8,
+        (length % 256) as u8,
+    ]
+}
+
+// The unified header of a sealed record, its number not yet masked: two number bytes, a length.
+pub fn unified_header(epoch: u16, sequence_number: u64, length: u16) -> [u8; 5]
+    ensures { λ r. ⌜ r ≡ unifiedHeader epoch «sequence_number» length ⌝ }
+{
+    [
+        0x2C + (epoch % 4) as u8,
+        (sequence_number / 256 % 256) as u8,
+        (sequence_number % 256) as u8,
+        (length / 256 % 256) as u8,
+        (length % 256) as u8,
+    ]
+}

@@ -1,0 +1,64 @@
+// The replay window, after window.rs.
+ghost use mathlib.Core.Path.{_≡_};
+ghost use Rattle.window.specs.Window.{width, unmarked, isFresh, marking};
+
+// The highest number marked, and the marks of it and the 63 below it: bit k is the mark of max_seq - k.
+pub struct ReplayWindow {
+    pub max_seq: u64,
+    pub window: u64,
+}
+
+impl ReplayWindow {
+    // Highest 0, nothing marked.
+    pub fn new() -> Self
+        ensures { λ r. ⌜ r ≡ unmarked ⌝ }
+    {
+        ReplayWindow {
+            max_seq: 0,
+            window: 0,
+        }
+    }
+
+    // Whether a number is fresh: neither marked nor too old.
+    pub fn check(self, seqno: u64) -> bool
+        ensures { λ r. ⌜ r ≡ isFresh width self seqno ⌝ }
+    {
+        let top = self.max_seq;
+        if top < seqno {
+            return true;
+        }
+        let offset = top - seqno;
+        if offset < 64 {
+            return (self.window >> offset) % 2 == 0;
+        }
+        false
+    }
+
+    // The window with a number marked. Call it only once the record is opened.
+    pub fn update(self, seqno: u64) -> Self
+        ensures { λ r. ⌜ r ≡ marking width self seqno ⌝ }
+    {
+        let top = self.max_seq;
+        if top < seqno {
+            let delta = seqno - top;
+            if delta < 64 {
+                return ReplayWindow {
+                    max_seq: seqno,
+                    window: (self.window << delta) | 1,
+                };
+            }
+            return ReplayWindow {
+                max_seq: seqno,
+                window: 1,
+            };
+        }
+        let offset = top - seqno;
+        if offset < 64 {
+            return ReplayWindow {
+                max_seq: top,
+                window: self.window | (1 << offset),
+            };
+        }
+        self
+    }
+}
