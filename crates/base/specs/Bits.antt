@@ -2,7 +2,7 @@
 use mathlib.Core.Logic.{⊎-elim}
 use mathlib.Core.Path.{_≡_, refl, sym, ap, _∙_}
 use Prim.Native.Nat.{ℕ, zero, suc, _+_, _-_, _*_, _/_, _%_, _^_, _<_, _≤_, max}
-use native.Mathlib.Nat.{mod-lt, mul-mod-left, div-eq-of-lt, mul-assoc, zero-max}
+use native.Mathlib.Nat.{mod-lt, mul-mod-left, div-eq-of-lt, mul-assoc, zero-max, zero-div}
 use native.Mathlib.Omega.{arith}
 use lib.Bits.{bitOr, or-shr, or-mod}
 use lib.Pow.{pow-lt, pow-add, shl-shr, shr-shr, field, mod-mod-pow}
@@ -15,6 +15,10 @@ bit w k = w / 2 ^ k % 2
 pub bit-lt : (w k : ℕ) → bit w k < 2
 unfolding bit
 bit-lt w k = mod-lt (w / 2 ^ k) (omega arith)
+
+pub bit-zero : (k : ℕ) → bit 0 k ≡ 0
+unfolding bit
+bit-zero k = ap (λ (x : ℕ). x % 2) (zero-div (2 ^ k))
 
 -- `|` of two digits
 or-digit : (a b : ℕ) → a < 2 → b < 2 → bitOr a b ≡ max a b

@@ -1,0 +1,97 @@
+-- The window follows the list of the numbers used: "highest used plus one, or 0", fresh and marked, for every width above 0.
+-- Assumes nothing.
+use mathlib.Core.Bool.{Bool, true, false, true≢false}
+use mathlib.Core.List.{List, [], _∷_, List·Memᴰ as Mem, List·Memᴰ·head as here, List·Memᴰ·tail as there, List·Memᴰ·cases-cons as mem-cases}
+use mathlib.Core.Logic.{_⊎_, inl, inr, ⊎-elim, _↔_}
+use mathlib.Core.Path.{_≡_, refl, sym, ap, subst, _∙_}
+use Prim.Native.Nat.{ℕ, zero, suc, _+_, _-_, _<_, _≤_, max}
+use native.Mathlib.Omega.{arith}
+use borrow.Author.Tests.{eq-eqb, ne-eqb}
+use lib.Dec.{eqb}
+use Rattle.base.specs.Bits.{bit, bit-zero}
+use Rattle.base.specs.Choose.{choose, if-true, if-false, lt-or-ge}
+use Rattle.window.specs.declared.ReplayWindow.{ReplayWindow}
+use Rattle.window.specs.Window.{unmarked, Marked, isFresh, marking}
+use Rattle.window.specs.Laws.{After, after, verdict, fresh-is}
+
+-- the highest number used plus one, or 0 if none was
+abbrev pub above : List ℕ → ℕ
+above [] = 0
+above (n ∷ ns) = max (suc n) (above ns)
+
+-- the same read off the window: the highest number has a mark if any was used
+unfoldable pub expected : ReplayWindow → ℕ
+expected w = choose (eqb (bit (w .window) 0) 1) (w .«max_seq» + 1) 0
+
+pub used-below : {n : ℕ} (ns : List ℕ) → Mem n ns → n < above ns
+used-below [] m = absurd (elim m [ ])
+used-below {n} (k ∷ ns) m = ⊎-elim (λ (e : n ≡ k). omega arith) (λ (r : Mem n ns). omega (arith, used-below ns r)) (mem-cases m)
+
+-- the highest number used is one of them
+pub highest-used : (n : ℕ) (ns : List ℕ) → Mem (above (n ∷ ns) - 1) (n ∷ ns)
+highest-used n [] = let e : above (n ∷ []) - 1 ≡ n = omega arith in here e
+highest-used n (k ∷ ns) =
+    ⊎-elim (λ l. there (subst (λ (x : ℕ). Mem x (k ∷ ns)) (lower l) (highest-used k ns))) (λ l. here (upper l)) (lt-or-ge n (above (k ∷ ns)))
+  where
+    lower : n < above (k ∷ ns) → above (k ∷ ns) - 1 ≡ above (n ∷ k ∷ ns) - 1
+    lower l = omega arith
+
+    upper : above (k ∷ ns) ≤ n → above (n ∷ k ∷ ns) - 1 ≡ n
+    upper l = omega arith
+
+-- the window holds the numbers used, as far as it reaches
+pub record Agrees (width : ℕ) (w : ReplayWindow) (used : List ℕ) : Type 0 where
+  pub highest : w .«max_seq» ≡ above used - 1
+  pub marks : (n : ℕ) → above used ≤ n + width → Marked width w n ↔ Mem n used
+
+module _ (width : ℕ) (wide : 0 < width) where
+  pub agrees-new : Agrees width unmarked []
+  agrees-new = record { highest = refl; marks = λ n l. (λ m. absurd (omega (arith, bit-zero (0 - n))), λ m. elim m [ ]) }
+
+  module _ {w : ReplayWindow} {used : List ℕ} (a : Agrees width w used) where
+    -- marking a number is using it
+    pub agrees-marked : (n : ℕ) → Agrees width (marking width w n) (n ∷ used)
+    agrees-marked n =
+        let f = after width wide w n in
+        let h = a .highest in
+        let top : marking width w n .«max_seq» ≡ above (n ∷ used) - 1 = omega (arith, f .highest) in
+        record {
+          highest = top;
+          marks = λ k l. (
+            λ m. ⊎-elim (λ e. here e) (λ o. there (a .marks k (omega arith) .0 o)) (f .only k m),
+            λ m. ⊎-elim (λ (e : k ≡ n). subst (λ (x : ℕ). Marked width (marking width w n) x) (sym e) (f .itself (omega arith)))
+                (λ (r : Mem k used). f .kept k (a .marks k (omega arith) .1 r) (omega arith)) (mem-cases m),
+          );
+        }
+
+    -- a fresh number was not used
+    pub fresh-unused : (n : ℕ) → isFresh width w n ≡ true → Mem n used → ⊥
+    fresh-unused n e m =
+        let f = verdict width wide w n .fresh e in
+        let h = a .highest in
+        let b = used-below used m in
+        f .1 (a .marks n (omega (arith, f .0)) .1 m)
+
+    -- one that was not used is fresh while the window reaches it
+    pub unused-fresh : (n : ℕ) → (Mem n used → ⊥) → above used ≤ n + width → isFresh width w n ≡ true
+    unused-fresh n unused l =
+        let h = a .highest in
+        fresh-is width wide w n (omega arith) (λ m. unused (a .marks n l .0 m))
+
+  pub expects : {w : ReplayWindow} (used : List ℕ) → Agrees width w used → expected w ≡ above used
+  unfolding expected
+  expects {w} [] a =
+      let h = a .highest in
+      let unset : bit (w .window) 0 ≡ 1 → ⊥ = λ e. elim (a .marks 0 (omega arith) .0 (omega arith, omega arith, subst (λ (x : ℕ). bit (w .window) x ≡ 1) (sym zero-below) e)) [ ] in
+      if-false _ _ (ne-eqb _ _ unset)
+    where
+      zero-below : w .«max_seq» - 0 ≡ 0
+      zero-below = omega (arith, a .highest)
+  expects {w} (n ∷ used) a =
+      let h = a .highest in
+      let m = a .marks (above (n ∷ used) - 1) (omega arith) .1 (highest-used n used) in
+      let set : bit (w .window) 0 ≡ 1 = subst (λ (x : ℕ). bit (w .window) x ≡ 1) none (m .2) in
+      if-true _ _ (eq-eqb _ _ set) ∙ omega arith
+    where
+      none : w .«max_seq» - (above (n ∷ used) - 1) ≡ 0
+      none = omega (arith, a .highest)
