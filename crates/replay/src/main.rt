@@ -16,26 +16,6 @@ fn push(out: &mut [u8], at: usize, b: u8) -> usize {
     at
 }
 
-fn push2(out: &mut [u8], at: usize, v: u64) -> usize {
-    let n = push(out, at, (v / 256 % 256) as u8);
-    push(out, n, (v % 256) as u8)
-}
-
-fn push3(out: &mut [u8], at: usize, v: u64) -> usize {
-    let n = push(out, at, (v / 65536 % 256) as u8);
-    push2(out, n, v)
-}
-
-fn push4(out: &mut [u8], at: usize, v: u64) -> usize {
-    let n = push2(out, at, v / 65536);
-    push2(out, n, v)
-}
-
-fn push8(out: &mut [u8], at: usize, v: u64) -> usize {
-    let n = push4(out, at, v / 0x1_0000_0000);
-    push4(out, n, v)
-}
-
 fn push_bool(out: &mut [u8], at: usize, b: bool) -> usize {
     if b {
         return push(out, at, 1);
@@ -112,13 +92,28 @@ fn windows(d: &[u8], out: &mut [u8]) -> usize {
     n
 }
 
+// Byte k of a number, the lowest being byte 0.
+fn byte(v: u64, k: u64) -> u8 {
+    if k < 8 {
+        return ((v >> (8 * k)) % 256) as u8;
+    }
+    0
+}
+
 fn sequences(d: &[u8], out: &mut [u8]) -> usize {
     let s_flag = get1(d, 0) == 1;
-    push8(
-        out,
-        0,
-        sequence::reconstruct_sequence(get8(d, 1), get8(d, 9), s_flag),
-    )
+    let n = sequence::reconstruct_sequence(get8(d, 1), get8(d, 9), s_flag);
+    let answer = [
+        byte(n, 7),
+        byte(n, 6),
+        byte(n, 5),
+        byte(n, 4),
+        byte(n, 3),
+        byte(n, 2),
+        byte(n, 1),
+        byte(n, 0),
+    ];
+    push_all(out, 0, &answer)
 }
 
 fn nonces(d: &[u8], out: &mut [u8]) -> usize {
@@ -140,54 +135,83 @@ fn nonces(d: &[u8], out: &mut [u8]) -> usize {
     push_all(out, 0, &nonce)
 }
 
-// kind, content type, epoch bits, S flag, number, length of the header, length of the content
-fn push_parsed(
-    out: &mut [u8],
+fn flag(b: bool) -> u8 {
+    if b {
+        return 1;
+    }
+    0
+}
+
+// What stands in an answer about a record: kind, content type, epoch bits, S flag, number, length of the header, length of the content.
+struct Summary {
     kind: u8,
-    t: u8,
+    content_type: u8,
     bits: u8,
-    s_flag: bool,
+    s_flag: u8,
     number: u64,
-    head: usize,
-    length: usize,
-) -> usize {
-    let a = push(out, 0, kind);
-    let b = push(out, a, t);
-    let c = push(out, b, bits);
-    let e = push_bool(out, c, s_flag);
-    let f = push8(out, e, number);
-    let g = push2(out, f, head as u64);
-    push2(out, g, length as u64)
+    head: u64,
+    length: u64,
+}
+
+fn bare(kind: u8, head: u64, length: u64) -> Summary {
+    Summary {
+        kind: kind,
+        content_type: 0,
+        bits: 0,
+        s_flag: 0,
+        number: 0,
+        head: head,
+        length: length,
+    }
+}
+
+fn told(p: Parsed) -> Summary {
+    match p {
+        Parsed::End => bare(0, 0, 0),
+        Parsed::Incomplete => bare(1, 0, 0),
+        Parsed::Invalid(n) => bare(2, 13, n as u64),
+        Parsed::Plaintext(r) => Summary {
+            kind: 3,
+            content_type: r.content_type,
+            bits: 0,
+            s_flag: 0,
+            number: r.sequence_number,
+            head: 13,
+            length: r.length as u64,
+        },
+        Parsed::Ciphertext(r) => Summary {
+            kind: 4,
+            content_type: 0,
+            bits: r.epoch_bits,
+            s_flag: flag(r.s_flag),
+            number: r.sequence_number,
+            head: r.header_len as u64,
+            length: r.length as u64,
+        },
+    }
 }
 
 fn records(d: &[u8], out: &mut [u8]) -> usize {
-    match record::parse(d) {
-        Parsed::End => push_parsed(out, 0, 0, 0, false, 0, 0, 0),
-        Parsed::Incomplete => push_parsed(out, 1, 0, 0, false, 0, 0, 0),
-        Parsed::Invalid(n) => push_parsed(out, 2, 0, 0, false, 0, 13, n),
-        Parsed::Plaintext(r) => push_parsed(
-            out,
-            3,
-            r.content_type,
-            0,
-            false,
-            r.sequence_number,
-            13,
-            r.length,
-        ),
-        Parsed::Ciphertext(r) => {
-            push_parsed(
-                out,
-                4,
-                0,
-                r.epoch_bits,
-                r.s_flag,
-                r.sequence_number,
-                r.header_len,
-                r.length,
-            )
-        }
-    }
+    let t = told(record::parse(d));
+    let answer = [
+        t.kind,
+        t.content_type,
+        t.bits,
+        t.s_flag,
+        byte(t.number, 7),
+        byte(t.number, 6),
+        byte(t.number, 5),
+        byte(t.number, 4),
+        byte(t.number, 3),
+        byte(t.number, 2),
+        byte(t.number, 1),
+        byte(t.number, 0),
+        byte(t.head, 1),
+        byte(t.head, 0),
+        byte(t.length, 1),
+        byte(t.length, 0),
+    ];
+    push_all(out, 0, &answer)
 }
 
 fn plaintext_headers(d: &[u8], out: &mut [u8]) -> usize {
@@ -212,38 +236,50 @@ fn handshake_headers(d: &[u8], out: &mut [u8]) -> usize {
     push_all(out, 0, &h)
 }
 
+fn header_told(p: ParsedHeader) -> [u8; 13] {
+    match p {
+        ParsedHeader::Incomplete => [0; 13],
+        ParsedHeader::Read(h) => [
+            1,
+            h.msg_type,
+            byte(h.length as u64, 2),
+            byte(h.length as u64, 1),
+            byte(h.length as u64, 0),
+            byte(h.message_seq as u64, 1),
+            byte(h.message_seq as u64, 0),
+            byte(h.fragment_offset as u64, 2),
+            byte(h.fragment_offset as u64, 1),
+            byte(h.fragment_offset as u64, 0),
+            byte(h.fragment_length as u64, 2),
+            byte(h.fragment_length as u64, 1),
+            byte(h.fragment_length as u64, 0),
+        ],
+    }
+}
+
 fn headers_read(d: &[u8], out: &mut [u8]) -> usize {
-    match Header::parse_header(d) {
-        ParsedHeader::Incomplete => {
-            let zeros = [0u8; 13];
-            push_all(out, 0, &zeros)
-        }
-        ParsedHeader::Read(h) => {
-            let a = push(out, 0, 1);
-            let b = push(out, a, h.msg_type);
-            let c = push3(out, b, h.length as u64);
-            let e = push2(out, c, h.message_seq as u64);
-            let f = push3(out, e, h.fragment_offset as u64);
-            push3(out, f, h.fragment_length as u64)
-        }
+    let answer = header_told(Header::parse_header(d));
+    push_all(out, 0, &answer)
+}
+
+fn inner_told(p: Inner) -> [u8; 4] {
+    match p {
+        Inner::Nothing => [0; 4],
+        Inner::Found {
+            content_type,
+            length,
+        } => [
+            1,
+            content_type,
+            byte(length as u64, 1),
+            byte(length as u64, 0),
+        ],
     }
 }
 
 fn inner_types(d: &[u8], out: &mut [u8]) -> usize {
-    match incoming::recover_inner_content_type(d) {
-        Inner::Nothing => {
-            let a = push2(out, 0, 0);
-            push2(out, a, 0)
-        }
-        Inner::Found {
-            content_type,
-            length,
-        } => {
-            let a = push(out, 0, 1);
-            let b = push(out, a, content_type);
-            push2(out, b, length as u64)
-        }
-    }
+    let answer = inner_told(incoming::recover_inner_content_type(d));
+    push_all(out, 0, &answer)
 }
 
 // The answer of the leaf that a letter names.
