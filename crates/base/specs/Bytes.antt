@@ -1,12 +1,12 @@
 -- Big-endian integers (RFC 8446, section 3.3) and bytes XORed onto bytes, with their laws. Assumes nothing.
 use mathlib.Core.Path.{_≡_, refl, sym, ap, _∙_}
 use mathlib.Core.List.{List, [], _∷_, _++_}
-use Prim.Native.Nat.{ℕ, zero, suc, _+_, _-_, _*_, _/_, _%_, _^_, _<_, _≤_}
+use Prim.Native.Nat.{ℕ, zero, suc, _+_, _*_, _/_, _%_, _^_, _<_}
 use native.Mathlib.Nat.{mod-eq-of-lt, add-assoc, pow-suc, pow-succ'}
 use native.Mathlib.Numerals.{add-one}
 use native.Mathlib.Omega.{arith}
 use lib.Arith.{bin-ind, mod-mul}
-use lib.Bits.{bitXor, differ, xor-step, xor-self, xor-zero-l, xor-comm}
+use lib.Bits.{bitXor, differ, xor-step, xor-self, xor-comm}
 use lib.ListN.{length, getD}
 use lib.Seq.{getD-append-add}
 

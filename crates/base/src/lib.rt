@@ -1,8 +1,9 @@
-// What every crate reads bytes with; specs/ has the laws that all of them cite.
+// Bytes and parts of a slice as every crate reads them; specs/ has the laws that all of them cite.
 ghost use mathlib.Core.Path.{_≡_};
 ghost use Prim.Native.Nat.{_+_, _<_, _≤_};
-ghost use lib.ListN.{length, getD};
+ghost use lib.ListN.{length, getD, drop};
 ghost use Rattle.base.specs.Bytes.{beAt};
+ghost use Rattle.base.specs.Parts.{part};
 
 // A byte as a wider number.
 pub fn wide(x: u8) -> u64
@@ -37,4 +38,26 @@ pub fn byte_or_zero(d: &[u8], i: usize) -> u64
         return wide(d[i]);
     }
     0
+}
+
+// What follows the first n bytes; nothing beyond the end.
+pub fn behind(d: &[u8], n: usize) -> &[u8]
+    ensures { λ r. ⌜ now r ≡ drop n (now (d .entry)) ⌝ }
+{
+    if n < d.len() {
+        return &d[n..];
+    }
+    let end = d.len();
+    &d[end..]
+}
+
+// The part of so many bytes that starts at a place; what lies beyond the end is left out.
+pub fn fragment(d: &[u8], start: usize, length: usize) -> &[u8]
+    ensures { λ r. ⌜ now r ≡ part start length (now (d .entry)) ⌝ }
+{
+    let t = behind(d, start);
+    if length < t.len() {
+        return &t[..length];
+    }
+    t
 }

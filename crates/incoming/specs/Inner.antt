@@ -1,9 +1,8 @@
 -- What an opened record holds (RFC 8446, section 5.2, DTLSInnerPlaintext; 01: "trailing zeros are removed; the last byte left is the
 -- content type; what precedes it" the content), and its laws. Assumes nothing.
 use mathlib.Core.List.{List, [], _∷_, _++_, reverse, reverse-append, reverse-reverse, append-assoc, append-nil, reverseAux-eq}
-use mathlib.Core.Logic.{_⊎_, inl, inr}
 use mathlib.Core.Path.{_≡_, refl, sym, ap, subst, _∙_}
-use Prim.Native.Nat.{ℕ, zero, suc, _+_, _-_, _<_, _≤_}
+use Prim.Native.Nat.{ℕ, zero, suc, _-_, _≤_}
 use native.Mathlib.Omega.{arith}
 use lib.ListN.{length, take, getD, replicate, length-reverse}
 use lib.Seq.{take-suc, length-take-le}

@@ -1,41 +1,19 @@
 -- What is cut lies within its bytes, and a header that was written reads back. Assumes nothing.
-use mathlib.Core.Bool.{Bool, true, false, true≢false, false≢true}
-use mathlib.Core.List.{List, [], _∷_, _++_}
+use mathlib.Core.Bool.{true}
+use mathlib.Core.List.{List, _++_}
 use mathlib.Core.Path.{_≡_, refl, sym, ap, _∙_}
-use Prim.Native.Nat.{ℕ, zero, suc, _+_, _-_, _*_, _/_, _%_, _^_, _<_, _≤_}
+use Prim.Native.Nat.{ℕ, _+_, _-_, _/_, _%_, _^_, _<_, _≤_}
 use native.Mathlib.Nat.{mod-eq-of-lt}
 use native.Mathlib.Omega.{arith}
-use borrow.Author.Tests.{ltb-true, ltb-false, lt-ltb, le-ltb, eq-eqb, ne-eqb, eqb-true}
-use lib.Dec.{ltb, eqb}
-use lib.ListN.{length, getD, take, drop, length-append}
-use lib.Seq.{drop-at, take-append-seam, drop-append-seam}
+use borrow.Author.Tests.{le-ltb, eq-eqb, ne-eqb, eqb-true}
+use lib.Dec.{eqb}
+use lib.ListN.{length, getD, length-append}
+use lib.Seq.{take-append-seam, drop-append-seam}
 use Rattle.base.specs.Bytes.{be, beAt, beAt-be}
-use Rattle.base.specs.Choose.{choose, both, either, if-true, if-false, by-test, by-less, test-cases, both-true, either-false}
+use Rattle.base.specs.Choose.{both, either, if-true, if-false, by-test, by-less, test-cases, either-false}
 use Rattle.record.specs.declared.Parsed.{Parsed}
 use Rattle.record.specs.declared.Parsed.the-variants as variant
-use Rattle.record.specs.Record.{
-  isCiphertext,
-  cFlag,
-  sFlag,
-  lFlag,
-  headerLen,
-  fragmentLen,
-  partialOf,
-  ciphertextOf,
-  parseCiphertext,
-  isType,
-  isVersion,
-  isPlaintext,
-  plaintextOf,
-  parsePlaintext,
-  parsed,
-  headOf,
-  sizeOf,
-  contentOf,
-  restOf,
-  plaintextHeader,
-  unifiedHeader,
-}
+use Rattle.record.specs.Record.{sFlag, headerLen, fragmentLen, partialOf, ciphertextOf, parseCiphertext, isType, isVersion, isPlaintext, plaintextOf, parsePlaintext, parsed, contentOf, restOf, plaintextHeader, unifiedHeader}
 
 -- ---- what is cut
 

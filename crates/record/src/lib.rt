@@ -2,8 +2,7 @@
 // incoming.rs.
 ghost use mathlib.Core.Path.{_≡_};
 ghost use Prim.Native.Nat.{_+_, _-_, _≤_, _<_};
-ghost use lib.ListN.{length, drop};
-ghost use Rattle.base.specs.Parts.{part};
+ghost use lib.ListN.{length};
 ghost use Rattle.record.specs.Record.{
   headerLen,
   fragmentLen,
@@ -194,28 +193,6 @@ pub fn parse(d: &[u8]) -> Parsed
     parse_plaintext(d)
 }
 
-// What follows the first n bytes; nothing beyond the end.
-pub fn behind(d: &[u8], n: usize) -> &[u8]
-    ensures { λ r. ⌜ now r ≡ drop n (now (d .entry)) ⌝ }
-{
-    if n < d.len() {
-        return &d[n..];
-    }
-    let end = d.len();
-    &d[end..]
-}
-
-// The part of so many bytes that starts at a place; what lies beyond the end is left out.
-pub fn fragment(d: &[u8], start: usize, length: usize) -> &[u8]
-    ensures { λ r. ⌜ now r ≡ part start length (now (d .entry)) ⌝ }
-{
-    let t = behind(d, start);
-    if length < t.len() {
-        return &t[..length];
-    }
-    t
-}
-
 // Where the content of a record begins, and how long it is.
 fn head_of(p: Parsed) -> usize
     ensures { λ r. ⌜ r ≡ headOf p ⌝ }
@@ -245,14 +222,14 @@ fn size_of(p: Parsed) -> usize
 pub fn content(d: &[u8], p: Parsed) -> &[u8]
     ensures { λ r. ⌜ now r ≡ contentOf (now (d .entry)) p ⌝ }
 {
-    fragment(d, head_of(p), size_of(p))
+    base::fragment(d, head_of(p), size_of(p))
 }
 
 // What follows the record that a slice begins with, as a part of it.
 pub fn rest(d: &[u8], p: Parsed) -> &[u8]
     ensures { λ r. ⌜ now r ≡ restOf (now (d .entry)) p ⌝ }
 {
-    behind(behind(d, head_of(p)), size_of(p))
+    base::behind(base::behind(d, head_of(p)), size_of(p))
 }
 
 // The header of a plaintext record: epoch 0, the low 48 bits of the number.

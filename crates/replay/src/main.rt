@@ -358,10 +358,10 @@ fn replay_line(line: &[u8]) {
     let mut input = [0u8; 32768];
     let mut found = [0u8; 4096];
     let mut text = [0u8; 16384];
-    let n = decode(record::behind(line, 2), &mut input);
-    let k = answer(letter, record::fragment(&input, 0, n), &mut found);
-    let m = encode(letter, record::fragment(&found, 0, k), &mut text);
-    io::write_all(1, record::fragment(&text, 0, m));
+    let n = decode(base::behind(line, 2), &mut input);
+    let k = answer(letter, base::fragment(&input, 0, n), &mut found);
+    let m = encode(letter, base::fragment(&found, 0, k), &mut text);
+    io::write_all(1, base::fragment(&text, 0, m));
 }
 
 // Where the next line begins: behind the newline, and no further than the end.
@@ -378,8 +378,8 @@ fn next_line(i: usize, n: usize, end: usize) -> usize
 fn replay_lines(text: &[u8]) {
     let mut i = 0;
     while i < text.len() {
-        let n = line_len(record::behind(text, i));
-        replay_line(record::fragment(text, i, n));
+        let n = line_len(base::behind(text, i));
+        replay_line(base::fragment(text, i, n));
         i = next_line(i, n, text.len());
     }
 }
@@ -387,5 +387,5 @@ fn replay_lines(text: &[u8]) {
 fn main() {
     let mut space = io::large_buffer();
     let n = io::read_full(0, &mut space);
-    replay_lines(record::fragment(&space, 0, n));
+    replay_lines(base::fragment(&space, 0, n));
 }

@@ -1,18 +1,17 @@
 -- The laws of the replay window, for every width above 0: what is marked after a number is marked, what is fresh, and how both follow the
 -- list of the numbers used. Assumes nothing.
 use mathlib.Core.Bool.{Bool, true, false, true≢false}
-use mathlib.Core.List.{List, [], _∷_, List·Memᴰ as Mem, List·Memᴰ·head as here, List·Memᴰ·tail as there, List·Memᴰ·cases-cons as mem-cases}
-use mathlib.Core.Logic.{_⊎_, inl, inr, ⊎-elim, _↔_}
+use mathlib.Core.Logic.{_⊎_, inl, inr, ⊎-elim}
 use mathlib.Core.Path.{_≡_, refl, sym, ap, _∙_}
-use Prim.Native.Nat.{ℕ, _+_, _-_, _*_, _/_, _%_, _^_, _<_, _≤_, max, suc}
+use Prim.Native.Nat.{ℕ, _-_, _*_, _%_, _^_, _<_, _≤_, max}
 use native.Mathlib.Omega.{arith}
 use borrow.Author.Tests.{eqb-true, eqb-false}
 use lib.Bits.{bitOr}
-use lib.Dec.{ltb, eqb}
+use lib.Dec.{eqb}
 use Rattle.base.specs.Bits.{bit, bit-lt, bit-or, bit-low, bit-shl, bit-shl-low, bit-of-one, bit-of-other}
 use Rattle.base.specs.Choose.{by-less, lt-or-ge, eq-or-ne, test-cases}
 use Rattle.window.specs.declared.ReplayWindow.{ReplayWindow}
-use Rattle.window.specs.Window.{unmarked, Marked, isFresh, marking}
+use Rattle.window.specs.Window.{Marked, isFresh, marking}
 
 -- what marking n makes of w: the highest, and the marks of n and of what was marked, of those that the window still reaches
 pub record After (width : ℕ) (w : ReplayWindow) (n : ℕ) (v : ReplayWindow) : Type 0 where

@@ -1,10 +1,10 @@
 -- The window follows the list of the numbers used: "highest used plus one, or 0", fresh and marked, for every width above 0.
 -- Assumes nothing.
-use mathlib.Core.Bool.{Bool, true, false, true≢false}
+use mathlib.Core.Bool.{true}
 use mathlib.Core.List.{List, [], _∷_, List·Memᴰ as Mem, List·Memᴰ·head as here, List·Memᴰ·tail as there, List·Memᴰ·cases-cons as mem-cases}
-use mathlib.Core.Logic.{_⊎_, inl, inr, ⊎-elim, _↔_}
-use mathlib.Core.Path.{_≡_, refl, sym, ap, subst, _∙_}
-use Prim.Native.Nat.{ℕ, zero, suc, _+_, _-_, _<_, _≤_, max}
+use mathlib.Core.Logic.{⊎-elim, _↔_}
+use mathlib.Core.Path.{_≡_, refl, sym, subst, _∙_}
+use Prim.Native.Nat.{ℕ, suc, _+_, _-_, _<_, _≤_, max}
 use native.Mathlib.Omega.{arith}
 use borrow.Author.Tests.{eq-eqb, ne-eqb}
 use lib.Dec.{eqb}
@@ -12,7 +12,7 @@ use Rattle.base.specs.Bits.{bit, bit-zero}
 use Rattle.base.specs.Choose.{choose, if-true, if-false, lt-or-ge}
 use Rattle.window.specs.declared.ReplayWindow.{ReplayWindow}
 use Rattle.window.specs.Window.{unmarked, Marked, isFresh, marking}
-use Rattle.window.specs.Laws.{After, after, verdict, fresh-is}
+use Rattle.window.specs.Laws.{after, verdict, fresh-is}
 
 -- the highest number used plus one, or 0 if none was
 abbrev pub above : List ℕ → ℕ

@@ -1,7 +1,7 @@
 -- The replay window (RFC 9147, section 4.5.1; 01, "ReplayWindow"), over the width of its marks.
 use mathlib.Core.Bool.{Bool, true, false}
 use mathlib.Core.Path.{_≡_}
-use Prim.Native.Nat.{ℕ, _+_, _-_, _*_, _%_, _^_, _<_, _≤_}
+use Prim.Native.Nat.{ℕ, _-_, _*_, _%_, _^_, _<_, _≤_}
 use lib.Bits.{bitOr}
 use lib.Dec.{ltb, eqb}
 use Rattle.base.specs.Bits.{bit}

@@ -2,10 +2,10 @@
 use borrow.Author.Needs.{needs}
 use borrow.Fn.Kinds.{In}
 use borrow.Fn.PlainCycle.{Measures, is, falls, and}
-use mathlib.Core.Path.{sym, ap, _∙_}
+use mathlib.Core.Path.{_∙_}
 use native.Mathlib.Omega.{arith}
 use Prim.Native.Nat.{ℕ, _<_}
-use Rattle.incoming.specs.Inner.{innerOf, inner-none, inner-less, inner-last}
+use Rattle.incoming.specs.Inner.{inner-none, inner-less, inner-last}
 use Rattle.incoming.proofs.strip.Reads as strip
 use Rattle.incoming.proofs.strip.Kinds as strip-kinds
 use Rattle.incoming.proofs.+strip.Lts-strip as strip-lts

@@ -1,6 +1,6 @@
 -- `leaves::flat_parsed` meets its contract, case by case. Assumes nothing.
 use borrow.Author.Needs.{needs}
-use mathlib.Core.Path.{sym, ap, _∙_}
+use mathlib.Core.Path.{sym, ap}
 use Rattle.leaves.specs.Flat.{flatParsed}
 use Rattle.leaves.proofs.flat_parsed.Statement.{statement}
 use Rattle.leaves.proofs.flat_parsed.Tie as tie

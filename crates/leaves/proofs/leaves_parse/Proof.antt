@@ -1,6 +1,6 @@
 -- `leaves::leaves_parse` meets its contract. Assumes nothing.
 use borrow.Author.Needs.{needs}
-use mathlib.Core.Path.{sym, ap, _∙_}
+use mathlib.Core.Path.{ap, _∙_}
 use Rattle.leaves.specs.Flat.{flatParsed}
 use Rattle.leaves.proofs.leaves_parse.Statement.{statement}
 use Rattle.leaves.proofs.leaves_parse.Tie as tie

@@ -1,6 +1,6 @@
 -- `leaves::leaves_parse_handshake_header` meets its contract. Assumes nothing.
 use borrow.Author.Needs.{needs}
-use mathlib.Core.Path.{sym, ap, _∙_}
+use mathlib.Core.Path.{ap, _∙_}
 use Rattle.leaves.specs.Flat.{flatHeader}
 use Rattle.leaves.proofs.leaves_parse_handshake_header.Statement.{statement}
 use Rattle.leaves.proofs.leaves_parse_handshake_header.Tie as tie

@@ -1,6 +1,6 @@
 -- `leaves::leaves_recover_inner_content_type` meets its contract. Assumes nothing.
 use borrow.Author.Needs.{needs}
-use mathlib.Core.Path.{sym, ap, _∙_}
+use mathlib.Core.Path.{ap, _∙_}
 use Rattle.leaves.specs.Flat.{flatInner}
 use Rattle.leaves.proofs.leaves_recover_inner_content_type.Statement.{statement}
 use Rattle.leaves.proofs.leaves_recover_inner_content_type.Tie as tie

@@ -1,6 +1,6 @@
 -- `leaves::leaves_window_new` meets its contract. Assumes nothing.
 use borrow.Author.Needs.{needs}
-use mathlib.Core.Path.{sym, ap, _∙_}
+use mathlib.Core.Path.{ap}
 use Rattle.leaves.specs.Flat.{flatWindow}
 use Rattle.leaves.proofs.leaves_window_new.Statement.{statement}
 use Rattle.leaves.proofs.leaves_window_new.Tie as tie

@@ -1,6 +1,5 @@
 -- `record::content` meets its contract. Assumes nothing.
 use borrow.Author.Needs.{needs}
-use mathlib.Core.Path.{sym, ap, _∙_}
 use Rattle.record.proofs.content.Statement.{statement}
 use Rattle.record.proofs.content.Tie as tie
 

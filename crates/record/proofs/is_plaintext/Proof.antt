@@ -1,6 +1,6 @@
 -- `record::is_plaintext` meets its contract: type, version, epoch, in that order. Assumes nothing.
 use borrow.Author.Needs.{needs}
-use mathlib.Core.Path.{sym, ap, _∙_}
+use mathlib.Core.Path.{sym, _∙_}
 use Rattle.base.specs.Choose.{both-true, both-false}
 use Rattle.record.specs.Record.{isPlaintext}
 use Rattle.record.proofs.is_plaintext.Statement.{statement}

@@ -1,6 +1,6 @@
 -- `record::is_type` meets its contract. Assumes nothing.
-use borrow.Author.Tests.{lt-ltb, le-ltb, eq-eqb, ne-eqb}
-use mathlib.Core.Path.{sym, ap, _∙_}
+use borrow.Author.Tests.{eq-eqb, ne-eqb}
+use mathlib.Core.Path.{sym, _∙_}
 use Rattle.base.specs.Choose.{either-true, either-false}
 use Rattle.record.specs.Record.{isType}
 use Rattle.record.proofs.is_type.Statement.{statement}

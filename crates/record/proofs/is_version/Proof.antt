@@ -1,7 +1,7 @@
 -- `record::is_version` meets its contract. Assumes nothing.
 use borrow.Author.Needs.{needs}
-use borrow.Author.Tests.{lt-ltb, le-ltb, eq-eqb, ne-eqb}
-use mathlib.Core.Path.{sym, ap, _∙_}
+use borrow.Author.Tests.{eq-eqb, ne-eqb}
+use mathlib.Core.Path.{sym, _∙_}
 use Rattle.base.specs.Choose.{either-true, either-false, both-true, both-false}
 use Rattle.record.specs.Record.{isVersion}
 use Rattle.record.proofs.is_version.Statement.{statement}

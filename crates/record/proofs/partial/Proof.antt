@@ -1,6 +1,6 @@
 -- `record::partial` meets its contract. Assumes nothing.
 use borrow.Author.Needs.{needs}
-use mathlib.Core.Path.{sym, ap, _∙_}
+use mathlib.Core.Path.{sym, _∙_}
 use native.Mathlib.Omega.{arith}
 use Rattle.base.specs.Choose.{if-true, if-false}
 use Rattle.record.specs.Record.{partialOf}

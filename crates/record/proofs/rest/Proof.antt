@@ -1,6 +1,5 @@
 -- `record::rest` meets its contract. Assumes nothing.
 use borrow.Author.Needs.{needs}
-use mathlib.Core.Path.{sym, ap, _∙_}
 use Rattle.record.proofs.rest.Statement.{statement}
 use Rattle.record.proofs.rest.Tie as tie
 

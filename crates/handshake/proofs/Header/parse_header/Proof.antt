@@ -1,7 +1,7 @@
 -- `Header::parse_header` meets its contract: each field is what its reader ensures. Assumes nothing.
 use borrow.Author.Needs.{needs}
 use borrow.Author.Tests.{lt-ltb, le-ltb}
-use mathlib.Core.Path.{sym, _∙_}
+use mathlib.Core.Path.{sym}
 use Rattle.base.specs.Choose.{if-true, if-false}
 use Rattle.handshake.specs.Header.{headerAt, parseHeader}
 use Rattle.handshake.proofs.Header.parse_header.Statement.{statement}

@@ -1,13 +1,11 @@
--- `record::fragment` meets its contract: the first bytes of what follows its start. Assumes nothing.
-use Prim.Native.Nat.{ℕ}
+-- `base::fragment` meets its contract: the first bytes of what follows its start. Assumes nothing.
 use borrow.Author.Needs.{needs}
 use lib.ListN.{take, length-take}
 use lib.Seq.{take-all}
-use mathlib.Core.List.{List}
 use mathlib.Core.Path.{sym, ap, _∙_}
 use native.Mathlib.Omega.{arith}
-use Rattle.record.proofs.fragment.Statement.{statement}
-use Rattle.record.proofs.fragment.Tie as tie
+use Rattle.base.proofs.fragment.Statement.{statement}
+use Rattle.base.proofs.fragment.Tie as tie
 
 behind-requires : tie.Need-behind-requires
 behind-requires c κs = search needs

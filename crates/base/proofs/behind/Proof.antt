@@ -1,12 +1,12 @@
--- `record::behind` meets its contract: a part up to the end is what follows. Assumes nothing.
+-- `base::behind` meets its contract: a part up to the end is what follows. Assumes nothing.
 use Prim.Native.Nat.{_-_}
 use borrow.Author.Needs.{needs}
 use lib.ListN.{length, drop, length-drop, drop-of-length-le}
 use lib.Seq.{take-all, drop-length}
-use mathlib.Core.Path.{sym, ap, _∙_}
+use mathlib.Core.Path.{sym, _∙_}
 use native.Mathlib.Omega.{arith}
-use Rattle.record.proofs.behind.Statement.{statement}
-use Rattle.record.proofs.behind.Tie as tie
+use Rattle.base.proofs.behind.Statement.{statement}
+use Rattle.base.proofs.behind.Tie as tie
 
 sub-result : tie.Need-sub-result
 sub-result c = search needs
