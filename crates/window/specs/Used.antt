@@ -3,8 +3,9 @@
 use mathlib.Core.Bool.{true}
 use mathlib.Core.List.{List, [], _∷_, List·Memᴰ as Mem, List·Memᴰ·head as here, List·Memᴰ·tail as there, List·Memᴰ·cases-cons as mem-cases}
 use mathlib.Core.Logic.{⊎-elim, _↔_}
-use mathlib.Core.Path.{_≡_, refl, sym, subst, _∙_}
-use Prim.Native.Nat.{ℕ, suc, _+_, _-_, _<_, _≤_, max}
+use mathlib.Core.Path.{_≡_, refl, sym, ap, subst, _∙_}
+use Prim.Native.Nat.{ℕ, suc, _+_, _-_, _/_, _%_, _^_, _<_, _≤_, max}
+use native.Mathlib.Nat.{div-one}
 use native.Mathlib.Omega.{arith}
 use borrow.Author.Tests.{eq-eqb, ne-eqb}
 use lib.Dec.{eqb}
@@ -21,7 +22,7 @@ above (n ∷ ns) = max (suc n) (above ns)
 
 -- the same read off the window: the highest number has a mark if any was used
 unfoldable pub expected : ReplayWindow → ℕ
-expected w = choose (eqb (bit (w .window) 0) 1) (w .«max_seq» + 1) 0
+expected w = choose (eqb (w .window % 2) 1) (w .«max_seq» + 1) 0
 
 pub used-below : {n : ℕ} (ns : List ℕ) → Mem n ns → n < above ns
 used-below [] m = absurd (elim m [ ])
@@ -78,20 +79,19 @@ module _ (width : ℕ) (wide : 0 < width) where
         let h = a .highest in
         fresh-is width wide w n (omega arith) (λ m. unused (a .marks n l .0 m))
 
+  -- bit 0 is the mark of the highest
+  first-bit : (w : ReplayWindow) (k : ℕ) → k ≡ 0 → bit (w .window) k ≡ w .window % 2
+  unfolding bit
+  first-bit w k e = ap (λ (x : ℕ). w .window / 2 ^ x % 2) e ∙ ap (λ (x : ℕ). x % 2) (div-one (w .window))
+
   pub expects : {w : ReplayWindow} (used : List ℕ) → Agrees width w used → expected w ≡ above used
   unfolding expected
   expects {w} [] a =
       let h = a .highest in
-      let unset : bit (w .window) 0 ≡ 1 → ⊥ = λ e. elim (a .marks 0 (omega arith) .0 (omega arith, omega arith, subst (λ (x : ℕ). bit (w .window) x ≡ 1) (sym zero-below) e)) [ ] in
+      let unset : w .window % 2 ≡ 1 → ⊥ = λ e. elim (a .marks 0 (omega arith) .0 (omega arith, omega arith, first-bit w (w .«max_seq» - 0) (omega arith) ∙ e)) [ ] in
       if-false _ _ (ne-eqb _ _ unset)
-    where
-      zero-below : w .«max_seq» - 0 ≡ 0
-      zero-below = omega (arith, a .highest)
   expects {w} (n ∷ used) a =
       let h = a .highest in
       let m = a .marks (above (n ∷ used) - 1) (omega arith) .1 (highest-used n used) in
-      let set : bit (w .window) 0 ≡ 1 = subst (λ (x : ℕ). bit (w .window) x ≡ 1) none (m .2) in
+      let set : w .window % 2 ≡ 1 = sym (first-bit w (w .«max_seq» - (above (n ∷ used) - 1)) (omega arith)) ∙ m .2 in
       if-true _ _ (eq-eqb _ _ set) ∙ omega arith
-    where
-      none : w .«max_seq» - (above (n ∷ used) - 1) ≡ 0
-      none = omega (arith, a .highest)
