@@ -62,3 +62,11 @@ impl ReplayWindow {
         self
     }
 }
+
+// The window that the caller lends has a number marked, in place.
+pub fn mark(w: &mut ReplayWindow, seqno: u64)
+    ensures { λ _. ⌜ now (w .exit) ≡ marking width (now (w .entry)) seqno ⌝ }
+{
+    let v = *w;
+    *w = v.update(seqno);
+}
