@@ -1,17 +1,17 @@
 -- Where a removal leads. Assumes nothing.
-use mathlib.Core.Bool.{Bool, true, false}
-use mathlib.Core.Path.{_≡_, ap, _∙_}
 use Prim.Native.Nat.{ℕ}
-use Rattle.base.specs.Choose.{choose, if-true, if-false}
+use mathlib.Core.Bool.{true, false}
+use mathlib.Core.Path.{_≡_, ap, _∙_}
+use Rattle.base.specs.Choose.{if-true, if-false}
+use Rattle.opening_reply.specs.Opening.{cancelled}
+use Rattle.opening_reply.specs.declared.Cancelled.{Cancelled}
 use Rattle.recv_keys.specs.Keys.{find, left}
-use Rattle.recv_keys.specs.declared.Found.{Found}
 use Rattle.recv_keys.specs.declared.Found.the-variants as found
+use Rattle.recv_keys.specs.declared.Found.{Found}
 use Rattle.recv_keys.specs.declared.RecvKeys.{RecvKeys}
-use Rattle.replies.specs.Replies.{cancelled}
-use Rattle.replies.specs.declared.Cancelled.{Cancelled}
-use Rattle.receiving.specs.declared.Receiving.{Receiving}
-use Rattle.receiving.specs.declared.Answer.the-variants as answers
 use Rattle.receiving.specs.Receiving.{sound, kept, made, leaving, removedBy, removeOf}
+use Rattle.receiving.specs.declared.Answer.the-variants as answers
+use Rattle.receiving.specs.declared.Receiving.{Receiving}
 
 module _ (s : Receiving) (epoch : ℕ) where
   pub remove-none : sound s ≡ true → find (s .keys .entries) epoch (s .keys .count) ≡ found.Nothing → removeOf s epoch ≡ kept s answers.Unusable

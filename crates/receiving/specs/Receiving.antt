@@ -1,25 +1,27 @@
 -- The calls of the receive side (01, "Readings of an arriving datagram", refusals 1 to 13, 15 and 23).
-use mathlib.Core.Bool.{Bool, true, false}
-use mathlib.Core.List.{List, [], _∷_}
 use Prim.Native.Nat.{ℕ}
-use lib.Dec.{ltb, leb, eqb}
+use lib.Dec.{ltb, leb}
+use mathlib.Core.Bool.{Bool}
+use mathlib.Core.List.{List}
 use Rattle.base.specs.Choose.{choose}
-use Rattle.records.specs.Records.{isSound, begun, readStep}
-use Rattle.records.specs.declared.Datagram.{Datagram}
-use Rattle.records.specs.declared.Step.{Step}
+use Rattle.datagram.specs.Datagram.{isSound, begun}
+use Rattle.datagram.specs.declared.Datagram.{Datagram}
+use Rattle.datagram.specs.declared.Step.{Step}
+use Rattle.mask_reply.specs.Mask.{maskStep}
+use Rattle.opening_reply.specs.Opening.{openedStep, cancelled}
+use Rattle.opening_reply.specs.declared.Cancelled.{Cancelled}
+use Rattle.opening_reply.specs.declared.Marked.{Marked}
+use Rattle.opening_reply.specs.declared.Opening.{Opening}
+use Rattle.records.specs.Records.{readStep}
 use Rattle.recv_keys.specs.Keys.{find, fresh, encrypted, released, isFull, installed, left}
-use Rattle.recv_keys.specs.declared.Found.{Found}
 use Rattle.recv_keys.specs.declared.Found.the-variants as found
+use Rattle.recv_keys.specs.declared.Found.{Found}
 use Rattle.recv_keys.specs.declared.RecvKeys.{RecvKeys}
-use Rattle.replies.specs.Replies.{maskStep, openedStep, cancelled}
-use Rattle.replies.specs.declared.Cancelled.{Cancelled}
-use Rattle.replies.specs.declared.Marked.{Marked}
-use Rattle.replies.specs.declared.Opening.{Opening}
-use Rattle.receiving.specs.declared.Receiving.{Receiving}
-use Rattle.receiving.specs.declared.Answer.{Answer}
 use Rattle.receiving.specs.declared.Answer.the-variants as answers
+use Rattle.receiving.specs.declared.Answer.{Answer}
 use Rattle.receiving.specs.declared.Kept.{Kept}
 use Rattle.receiving.specs.declared.Read.{Read}
+use Rattle.receiving.specs.declared.Receiving.{Receiving}
 
 -- 01's number of each answer; 0 where it is done. A record dropped with its epoch is 6
 abbrev pub answerNumber : Answer → ℕ

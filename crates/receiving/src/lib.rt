@@ -1,7 +1,7 @@
 // The receive side of a link: its state and its calls. Each call takes the state by value and hands it back.
 ghost use mathlib.Core.Path.{_≡_};
 ghost use lib.ListN.{length};
-ghost use Rattle.replies.specs.Replies.{shownBy};
+ghost use Rattle.opening_reply.specs.Opening.{shownBy};
 ghost use Rattle.receiving.specs.Receiving.{
   kept,
   made,
@@ -16,13 +16,13 @@ ghost use Rattle.receiving.specs.Receiving.{
   maskOf,
   openedOf,
 };
-use records::Datagram;
-use records::Question;
-use records::Reading;
-use records::Step;
+use datagram::Datagram;
+use datagram::Question;
+use datagram::Reading;
+use datagram::Step;
+use opening_reply::Opening;
 use recv_keys::Found;
 use recv_keys::RecvKeys;
-use replies::Opening;
 
 pub struct Receiving {
     pub keys: RecvKeys,
@@ -114,7 +114,7 @@ impl Receiving {
     {
         let k = self.keys;
         let b = self.datagram;
-        if records::is_sound(k, b) {
+        if datagram::is_sound(k, b) {
             if epoch < 2 {
                 return keep(self, Answer::Unusable);
             }
@@ -135,13 +135,13 @@ impl Receiving {
     {
         let k = self.keys;
         let b = self.datagram;
-        if records::is_sound(k, b) {
+        if datagram::is_sound(k, b) {
             let l = k.entries;
             let f = recv_keys::find_epoch(l, k.count, epoch);
             return match f {
                 Found::Nothing => keep(self, Answer::Unusable),
                 Found::At(i) => {
-                    let c = replies::cancel(k, b, epoch);
+                    let c = opening_reply::cancel(k, b, epoch);
                     let after = c.datagram;
                     let left = recv_keys::uninstall(k, i);
                     if c.dropped {
@@ -160,7 +160,7 @@ impl Receiving {
     {
         let k = self.keys;
         let b = self.datagram;
-        if records::is_sound(k, b) {
+        if datagram::is_sound(k, b) {
             return make(Answer::Done, recv_keys::enable_peer_encryption(k), b);
         }
         keep(self, Answer::Setting)
@@ -172,7 +172,7 @@ impl Receiving {
     {
         let k = self.keys;
         let b = self.datagram;
-        if records::is_sound(k, b) {
+        if datagram::is_sound(k, b) {
             return make(Answer::Done, recv_keys::release_application_data(k), b);
         }
         keep(self, Answer::Setting)
@@ -184,7 +184,7 @@ impl Receiving {
     {
         let k = self.keys;
         let b = self.datagram;
-        if records::is_sound(k, b) {
+        if datagram::is_sound(k, b) {
             let n = d.len();
             if 16384 < n {
                 return keep(self, Answer::TooLong);
@@ -218,7 +218,7 @@ impl Receiving {
     {
         let k = self.keys;
         let b = self.datagram;
-        step_to(k, replies::mask_step(k, b, mask, d))
+        step_to(k, mask_reply::mask_step(k, b, mask, d))
     }
 
     // Whether the record was opened; its plaintext then stands at the start of the protected part.
@@ -227,7 +227,7 @@ impl Receiving {
     {
         let k = self.keys;
         let b = self.datagram;
-        let m = replies::opened_step(k, b, o, d);
+        let m = opening_reply::opened_step(k, b, o, d);
         let t = m.step;
         let after = m.keys;
         step_to(after, t)
@@ -239,5 +239,5 @@ impl Receiving {
 pub fn content(d: &[u8], r: Reading) -> &[u8]
     ensures { λ x. ⌜ now x ≡ shownBy r (now (d .entry)) ⌝ }
 {
-    replies::content(d, r)
+    opening_reply::content(d, r)
 }

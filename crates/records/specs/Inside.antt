@@ -1,16 +1,15 @@
 -- What begins the rest of a datagram lies within it. Assumes nothing.
-use mathlib.Core.List.{List, [], _∷_}
-use mathlib.Core.Path.{_≡_, refl}
-use Prim.Native.Nat.{ℕ, _+_, _-_, _*_, _/_, _%_, _<_, _≤_}
-use native.Mathlib.Omega.{arith}
+use Prim.Native.Nat.{ℕ, _+_, _-_, _≤_}
 use borrow.Author.Tests.{ltb-false}
 use lib.ListN.{length}
+use mathlib.Core.List.{List}
+use native.Mathlib.Omega.{arith}
 use Rattle.base.specs.Bytes.{beAt}
-use Rattle.base.specs.Choose.{choose, by-test}
+use Rattle.base.specs.Choose.{by-test}
 use Rattle.record.specs.Record.{headerLen, fragmentLen, parseCiphertext, parsePlaintext, parsed}
 use Rattle.record.specs.declared.Ciphertext.{Ciphertext}
-use Rattle.record.specs.declared.Parsed.{Parsed}
 use Rattle.record.specs.declared.Parsed.the-variants as parse
+use Rattle.record.specs.declared.Parsed.{Parsed}
 
 pub record Whole (c : Ciphertext) (n : ℕ) : Type 0 where
   pub two : 2 ≤ c .«header_len»

@@ -1,16 +1,17 @@
 -- Where a read leads, by its first tests. Assumes nothing.
-use mathlib.Core.Bool.{Bool, true, false}
-use mathlib.Core.List.{List}
-use mathlib.Core.Path.{_≡_, ap, _∙_}
 use Prim.Native.Nat.{ℕ}
 use borrow.Author.Tests.{eq-eqb, ne-eqb}
 use lib.ListN.{length}
-use Rattle.base.specs.Choose.{choose, if-true, if-false}
+use mathlib.Core.Bool.{true, false}
+use mathlib.Core.List.{List}
+use mathlib.Core.Path.{_≡_, ap, _∙_}
+use Rattle.base.specs.Choose.{if-true, if-false}
+use Rattle.datagram.specs.Datagram.{isSound, told}
+use Rattle.datagram.specs.declared.Datagram.{Datagram}
+use Rattle.datagram.specs.declared.Question.{Question}
+use Rattle.datagram.specs.declared.Reading.the-variants as says
 use Rattle.recv_keys.specs.declared.RecvKeys.{RecvKeys}
-use Rattle.records.specs.declared.Question.{Question}
-use Rattle.records.specs.declared.Datagram.{Datagram}
-use Rattle.records.specs.declared.Reading.the-variants as says
-use Rattle.records.specs.Records.{isSound, told, asking, readStep}
+use Rattle.records.specs.Records.{asking, readStep}
 
 module _ (k : RecvKeys) (b : Datagram) (d : List ℕ) where
   pub read-asks : (q : Question) → isSound k b ≡ true → length d ≡ b .size → b .question ≡ q → readStep k b d ≡ asking q k b d

@@ -1,4 +1,5 @@
 pub mod Records
 pub mod Inside
-pub mod Sound
 pub mod Leads
+pub mod Keeps
+pub mod Undamaged

@@ -5,7 +5,6 @@ use Prim.Native.Nat.{ℕ, zero, suc, _+_, _-_, _%_}
 use lib.Dec.{ltb, leb, eqb}
 use lib.ListN.{getD, set}
 use Rattle.base.specs.Choose.{choose, both}
-use Rattle.window.specs.declared.ReplayWindow.{ReplayWindow}
 use Rattle.window.specs.Window.{width, unmarked, marking}
 use Rattle.recv_keys.specs.declared.RecvEpochEntry.{RecvEpochEntry}
 use Rattle.recv_keys.specs.declared.RecvKeys.{RecvKeys}
@@ -57,10 +56,6 @@ unfoldable pub isKeyed : RecvKeys → ℕ → Bool
 isKeyed k epoch = wasFound (find (k .entries) epoch (k .count))
 
 -- ---- numbers received
-
--- e: the highest number used plus one, or 0; the mark of the highest tells whether one was used
-unfoldable pub expected : ReplayWindow → ℕ
-expected w = choose (eqb (w .window % 2) 1) (w .«max_seq» + 1) 0
 
 abbrev pub markedEntry : ℕ → RecvEpochEntry → RecvEpochEntry
 markedEntry n e = record { epoch = e .epoch; iv = e .iv; replay = marking width (e .replay) n }

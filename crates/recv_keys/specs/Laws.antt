@@ -1,20 +1,19 @@
 -- Laws of the table of epochs keyed to receive. Assumes nothing.
 use mathlib.Core.Bool.{Bool, true, false, false≢true}
 use mathlib.Core.Logic.{⊎-elim}
-use mathlib.Core.List.{List, [], _∷_}
-use mathlib.Core.Path.{_≡_, refl, sym, ap, _∙_}
+use mathlib.Core.List.{List}
+use mathlib.Core.Path.{_≡_, refl, ap, _∙_}
 use Prim.Native.Nat.{ℕ, zero, suc, _+_, _-_, _<_, _≤_}
 use native.Mathlib.Numerals.{add-one}
 use native.Mathlib.Omega.{arith}
-use borrow.Author.Tests.{eq-eqb, ne-eqb, leb-true, leb-false, ltb-true, ltb-false, lt-ltb, le-ltb}
-use lib.Dec.{ltb}
+use borrow.Author.Tests.{eq-eqb, ne-eqb, leb-false, ltb-false, lt-ltb, le-ltb}
 use lib.ListN.{getD}
-use Rattle.base.specs.Choose.{choose, both, if-true, if-false, by-test, lt-or-ge}
+use Rattle.base.specs.Choose.{if-true, if-false, by-test, lt-or-ge}
 use Rattle.recv_keys.specs.declared.RecvEpochEntry.{RecvEpochEntry}
 use Rattle.recv_keys.specs.declared.RecvKeys.{RecvKeys}
 use Rattle.recv_keys.specs.declared.Found.{Found}
 use Rattle.recv_keys.specs.declared.Found.the-variants.{At, Nothing}
-use Rattle.recv_keys.specs.Keys.{noEntry, fits, lastFit, find, orElse, two, resolve, wasFound, isKeyed, appOne, apps, windowsSound, keysSound, isFull}
+use Rattle.recv_keys.specs.Keys.{noEntry, fits, lastFit, find, orElse, two, resolve, appOne, apps, windowsSound, isFull}
 
 -- ---- one step of each search
 

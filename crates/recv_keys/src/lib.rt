@@ -1,6 +1,7 @@
 // The epochs keyed to receive, after engine.rs: `RecvEpochEntry`, `resolve_epoch`, `replay_update`.
 ghost use mathlib.Core.Path.{_≡_};
 ghost use Prim.Native.Nat.{_+_, _≤_, _<_};
+ghost use Rattle.window.specs.Used.{expected};
 ghost use Rattle.recv_keys.specs.Keys.{
   fits,
   lastFit,
@@ -9,7 +10,6 @@ ghost use Rattle.recv_keys.specs.Keys.{
   two,
   resolve,
   isKeyed,
-  expected,
   appOne,
   apps,
   windowsSound,

@@ -2,10 +2,10 @@
 use borrow.Author.Needs.{needs}
 use mathlib.Core.Path.{_∙_, sym}
 use native.Mathlib.Omega.{arith}
-use Rattle.records.specs.Records.{askedAgain}
 use Rattle.recv_keys.specs.Laws.{found-keyed}
 use Rattle.records.proofs.ask_again.Statement.{statement}
 use Rattle.records.proofs.ask_again.Tie as tie
+use Rattle.records.specs.Records.{askedAgain}
 
 find-epoch-requires : tie.Need-find-epoch-requires
 find-epoch-requires c κs = search needs

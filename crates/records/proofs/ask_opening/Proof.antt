@@ -1,8 +1,8 @@
 -- `records::ask_opening` meets its contract. Assumes nothing.
 use borrow.Author.Needs.{needs}
-use Rattle.records.specs.Records.{openingAsked}
 use Rattle.records.proofs.ask_opening.Statement.{statement}
 use Rattle.records.proofs.ask_opening.Tie as tie
+use Rattle.records.specs.Records.{openingAsked}
 
 nonce-xor-requires : tie.Need-nonce-xor-requires
 nonce-xor-requires c κs = search needs

@@ -2,9 +2,9 @@
 use borrow.Author.Needs.{needs}
 use lib.ListN.{length-drop}
 use native.Mathlib.Omega.{arith}
-use Rattle.records.specs.Records.{asking}
 use Rattle.records.proofs.go_on.Statement.{statement}
 use Rattle.records.proofs.go_on.Tie as tie
+use Rattle.records.specs.Records.{asking}
 
 behind-requires : tie.Need-behind-requires
 behind-requires c κs = search needs

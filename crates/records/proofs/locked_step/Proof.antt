@@ -4,10 +4,10 @@ use borrow.Author.Tests.{le-ltb, lt-ltb}
 use mathlib.Core.Path.{_∙_, sym}
 use native.Mathlib.Omega.{arith}
 use Rattle.base.specs.Choose.{if-false, if-true}
-use Rattle.records.specs.Records.{lockedStep}
 use Rattle.recv_keys.specs.Laws.{resolve-keyed}
 use Rattle.records.proofs.locked_step.Statement.{statement}
 use Rattle.records.proofs.locked_step.Tie as tie
+use Rattle.records.specs.Records.{lockedStep}
 
 add-next : tie.Need-add-next
 add-next c = search needs

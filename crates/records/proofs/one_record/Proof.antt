@@ -2,10 +2,10 @@
 use borrow.Author.Needs.{needs}
 use mathlib.Core.Path.{_∙_, sym}
 use native.Mathlib.Omega.{arith}
-use Rattle.records.specs.Inside.{inside}
-use Rattle.records.specs.Records.{stepOf}
 use Rattle.records.proofs.one_record.Statement.{statement}
 use Rattle.records.proofs.one_record.Tie as tie
+use Rattle.records.specs.Inside.{inside}
+use Rattle.records.specs.Records.{stepOf}
 
 parse-requires : tie.Need-parse-requires
 parse-requires c κs = search needs

@@ -2,11 +2,11 @@
 use borrow.Author.Needs.{needs}
 use mathlib.Core.Path.{_∙_, sym}
 use native.Mathlib.Omega.{arith}
-use Rattle.records.specs.Leads.{read-asks, read-other, read-out}
-use Rattle.records.specs.Records.{asking}
-use Rattle.records.specs.Sound.{held-mask, ready}
+use Rattle.datagram.specs.Sound.{held-mask, ready}
 use Rattle.records.proofs.read_step.Statement.{statement}
 use Rattle.records.proofs.read_step.Tie as tie
+use Rattle.records.specs.Leads.{read-asks, read-other, read-out}
+use Rattle.records.specs.Records.{asking}
 
 is-sound-requires : tie.Need-is-sound-requires
 is-sound-requires c κs = search needs

@@ -3,9 +3,9 @@ use borrow.Author.Needs.{needs}
 use borrow.Author.Tests.{le-ltb, lt-ltb}
 use mathlib.Core.Path.{_∙_, sym}
 use Rattle.base.specs.Choose.{if-false, if-true}
-use Rattle.records.specs.Records.{sealedStep}
 use Rattle.records.proofs.sealed_step.Statement.{statement}
 use Rattle.records.proofs.sealed_step.Tie as tie
+use Rattle.records.specs.Records.{sealedStep}
 
 locked-step-requires : tie.Need-locked-step-requires
 locked-step-requires c κs = search needs

@@ -3,7 +3,7 @@ use borrow.Author.Needs.{needs}
 use borrow.Author.Tests.{eq-eqb, ne-eqb}
 use mathlib.Core.Path.{sym}
 use Rattle.base.specs.Choose.{if-false, if-true}
-use Rattle.recv_keys.specs.Keys.{expected}
+use Rattle.window.specs.Used.{expected}
 use Rattle.recv_keys.proofs.expected_recv_seq.Statement.{statement}
 use Rattle.recv_keys.proofs.expected_recv_seq.Tie as tie
 

@@ -3,9 +3,9 @@ use borrow.Author.Needs.{needs}
 use borrow.Author.Tests.{le-ltb, lt-ltb}
 use mathlib.Core.Path.{_∙_, sym}
 use Rattle.base.specs.Choose.{if-false, if-true}
-use Rattle.receiving.specs.Receiving.{beginOf}
 use Rattle.receiving.proofs.Receiving.begin.Statement.{statement}
 use Rattle.receiving.proofs.Receiving.begin.Tie as tie
+use Rattle.receiving.specs.Receiving.{beginOf}
 
 is-sound-requires : tie.Need-is-sound-requires
 is-sound-requires c κs = search needs

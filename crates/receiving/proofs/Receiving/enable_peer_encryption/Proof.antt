@@ -2,9 +2,9 @@
 use borrow.Author.Needs.{needs}
 use mathlib.Core.Path.{_∙_, sym}
 use Rattle.base.specs.Choose.{if-false, if-true}
-use Rattle.receiving.specs.Receiving.{encryptOf}
 use Rattle.receiving.proofs.Receiving.enable_peer_encryption.Statement.{statement}
 use Rattle.receiving.proofs.Receiving.enable_peer_encryption.Tie as tie
+use Rattle.receiving.specs.Receiving.{encryptOf}
 
 is-sound-requires : tie.Need-is-sound-requires
 is-sound-requires c κs = search needs

@@ -3,11 +3,11 @@ use borrow.Author.Needs.{needs}
 use borrow.Author.Tests.{le-leb, le-ltb, lt-leb, lt-ltb}
 use mathlib.Core.Path.{_∙_, sym}
 use Rattle.base.specs.Choose.{if-false, if-true}
-use Rattle.receiving.specs.Receiving.{keyOf}
-use Rattle.records.specs.Sound.{ready}
+use Rattle.datagram.specs.Sound.{ready}
 use Rattle.recv_keys.specs.Laws.{not-full}
 use Rattle.receiving.proofs.Receiving.key_receive.Statement.{statement}
 use Rattle.receiving.proofs.Receiving.key_receive.Tie as tie
+use Rattle.receiving.specs.Receiving.{keyOf}
 
 is-sound-requires : tie.Need-is-sound-requires
 is-sound-requires c κs = search needs

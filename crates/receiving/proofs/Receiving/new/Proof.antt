@@ -3,9 +3,9 @@ use borrow.Author.Needs.{needs}
 use borrow.Author.Tests.{le-ltb, lt-ltb}
 use mathlib.Core.Path.{_∙_, sym}
 use Rattle.base.specs.Choose.{if-false, if-true}
-use Rattle.receiving.specs.Receiving.{freshOf}
 use Rattle.receiving.proofs.Receiving.new.Statement.{statement}
 use Rattle.receiving.proofs.Receiving.new.Tie as tie
+use Rattle.receiving.specs.Receiving.{freshOf}
 
 fresh-keys-requires : tie.Need-fresh-keys-requires
 fresh-keys-requires c κs = search needs

@@ -1,9 +1,9 @@
 -- `Receiving::opened` meets its contract. Assumes nothing.
 use borrow.Author.Needs.{needs}
 use mathlib.Core.Path.{_∙_, ap}
-use Rattle.receiving.specs.Receiving.{markedRead}
 use Rattle.receiving.proofs.Receiving.opened.Statement.{statement}
 use Rattle.receiving.proofs.Receiving.opened.Tie as tie
+use Rattle.receiving.specs.Receiving.{markedRead}
 
 opened-step-requires : tie.Need-opened-step-requires
 opened-step-requires c κs = search needs

@@ -2,9 +2,9 @@
 use borrow.Author.Needs.{needs}
 use mathlib.Core.Path.{_∙_, sym}
 use Rattle.base.specs.Choose.{if-false, if-true}
-use Rattle.receiving.specs.Receiving.{releaseOf}
 use Rattle.receiving.proofs.Receiving.release_application_data.Statement.{statement}
 use Rattle.receiving.proofs.Receiving.release_application_data.Tie as tie
+use Rattle.receiving.specs.Receiving.{releaseOf}
 
 is-sound-requires : tie.Need-is-sound-requires
 is-sound-requires c κs = search needs

@@ -2,11 +2,11 @@
 use borrow.Author.Needs.{needs}
 use mathlib.Core.Path.{_∙_, sym}
 use native.Mathlib.Omega.{arith}
-use Rattle.receiving.specs.Leads.{leave-done, leave-dropped, leave-same, remove-at, remove-none, remove-out}
-use Rattle.records.specs.Sound.{ready}
+use Rattle.datagram.specs.Sound.{ready}
 use Rattle.recv_keys.specs.Laws.{found-keyed}
 use Rattle.receiving.proofs.Receiving.remove.Statement.{statement}
 use Rattle.receiving.proofs.Receiving.remove.Tie as tie
+use Rattle.receiving.specs.Leads.{leave-done, leave-dropped, leave-same, remove-at, remove-none, remove-out}
 
 is-sound-requires : tie.Need-is-sound-requires
 is-sound-requires c κs = search needs

@@ -1,0 +1,4 @@
+pub mod Mask
+pub mod Leads
+pub mod Keeps
+pub mod Undamaged

@@ -1,0 +1,4 @@
+pub mod Opening
+pub mod Leads
+pub mod Keeps
+pub mod Undamaged
