@@ -65,7 +65,7 @@ quietly() {
     fi
 }
 
-# Builds one of the two programs.
+# Builds one of the programs.
 build() {
     local file copy
     for file in "${files[@]}"; do

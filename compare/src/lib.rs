@@ -32,4 +32,5 @@ pub use error::{
 };
 pub use rng::SeededRng;
 
+pub mod histories;
 pub mod leaves;

@@ -1,6 +1,7 @@
-//! Writes a fixed list of inputs, and the Rust's answers to them, as text.
+//! Writes fixed lists, and the Rust's answers to them, as text: the inputs of the leaves, and
+//! histories of receiving.
 //!
-//! sample FOLDER
+//! sample LEAVES_FOLDER HISTORIES_FOLDER
 
 use std::collections::HashSet;
 use std::error::Error;
@@ -9,6 +10,8 @@ use std::path::Path;
 use std::{env, fs};
 
 use dimpl::SeededRng;
+use dimpl::histories::generate::{Dice, random};
+use dimpl::histories::{limits, reference};
 use dimpl::leaves::{LEAVES, hex};
 
 const SEED: u64 = 1;
@@ -18,8 +21,38 @@ const RANDOM: usize = 12;
 /// Bytes of a random input at most.
 const MOST: usize = 100;
 
+/// Histories at the limits, then random ones up to about so many bytes of script.
+const SCRIPT: usize = 36_000;
+
 fn main() -> Result<(), Box<dyn Error>> {
-    let folder = env::args().nth(1).ok_or("usage: sample FOLDER")?;
+    let folders: Vec<String> = env::args().skip(1).collect();
+    let [leaves, histories] = &folders[..] else {
+        return Err("usage: sample LEAVES_FOLDER HISTORIES_FOLDER".into());
+    };
+    write_leaves(Path::new(leaves))?;
+    write_histories(Path::new(histories))
+}
+
+fn write_histories(folder: &Path) -> Result<(), Box<dyn Error>> {
+    let mut stdin = String::new();
+    let mut stdout = String::new();
+    let random = (0..).map(|i| random(&mut Dice::new(SEED << 32 ^ i)));
+    for history in limits::all().into_iter().chain(random) {
+        let run = reference::run(&history);
+        if stdin.len() + run.script().len() > SCRIPT {
+            break;
+        }
+        for line in &run.lines {
+            writeln!(stdin, "{}", line.asked)?;
+            writeln!(stdout, "{}", line.answered)?;
+        }
+    }
+    fs::write(folder.join("stdin"), stdin)?;
+    fs::write(folder.join("stdout"), stdout)?;
+    Ok(())
+}
+
+fn write_leaves(folder: &Path) -> Result<(), Box<dyn Error>> {
     let mut stdin = String::new();
     let mut stdout = String::new();
     for leaf in LEAVES {
@@ -51,7 +84,7 @@ fn main() -> Result<(), Box<dyn Error>> {
             writeln!(stdout, "{} {}", leaf.letter, hex(&answer))?;
         }
     }
-    fs::write(Path::new(&folder).join("stdin"), stdin)?;
-    fs::write(Path::new(&folder).join("stdout"), stdout)?;
+    fs::write(folder.join("stdin"), stdin)?;
+    fs::write(folder.join("stdout"), stdout)?;
     Ok(())
 }

@@ -6,6 +6,7 @@ pub mod dtls_aead;
 pub mod provider;
 
 pub mod prf_hkdf;
+pub mod script;
 pub mod stub;
 
 pub use dtls_aead::{Aad, Nonce};

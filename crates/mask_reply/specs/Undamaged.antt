@@ -1,23 +1,25 @@
 -- The mask that was put on asks the opening of an undamaged record under the number it was sealed with, if that number is within reach.
 -- Assumes nothing.
-use Prim.Native.Nat.{ℕ, _+_, _/_, _%_, _<_, _≤_}
+use Prim.Native.Nat.{ℕ, zero, suc, _+_, _/_, _%_, _<_, _≤_}
+use native.Mathlib.Nat.{div-one}
 use borrow.Author.Tests.{le-ltb}
 use lib.Bits.{bitXor}
 use lib.ListN.{length, getD, drop}
-use lib.Seq.{getD-drop}
+use lib.Seq.{getD-drop, ext-getD}
 use mathlib.Core.Bool.{Bool, true}
-use mathlib.Core.List.{List}
+use mathlib.Core.List.{List, [], _∷_, _++_}
+use mathlib.Core.Logic.{_⊎_, inl, inr, ⊎-elim}
 use mathlib.Core.Path.{_≡_, refl, sym, ap, _∙_}
 use native.Mathlib.Omega.{arith}
-use Rattle.base.specs.Bytes.{beAt, xor-twice, xors}
+use Rattle.base.specs.Bytes.{be, beAt, xor-twice, xors}
 use Rattle.base.specs.Choose.{if-true, if-false}
-use Rattle.base.specs.Parts.{part-at, splice-here}
+use Rattle.base.specs.Parts.{part, part-at, length-part, splice-here, splice-before, splice-after, length-splice}
 use Rattle.datagram.specs.Datagram.{isSound}
 use Rattle.datagram.specs.declared.Ask.{Ask}
 use Rattle.datagram.specs.declared.Datagram.{Datagram}
 use Rattle.datagram.specs.declared.Question.the-variants as question
 use Rattle.datagram.specs.declared.Step.{Step}
-use Rattle.record.specs.Record.{partialOf}
+use Rattle.record.specs.Record.{partialOf, unifiedHeader}
 use Rattle.records.specs.Records.{openingAsked}
 use Rattle.recv_keys.specs.Keys.{entryAt, find}
 use Rattle.window.specs.Used.{expected}
@@ -60,6 +62,47 @@ module _ (d m : List ℕ) (at n : ℕ) (room : at + 2 < length d)
     where
       pair : beAt 2 (drop at (unmasked d at true m)) 1 ≡ n % 65536
       pair = omega (arith, first-byte, second-byte)
+
+-- the header, unmasked, is the one that was sealed: the number in it is not masked
+module _ (d m : List ℕ) (at e n len : ℕ) (room : at + 5 ≤ length d)
+    (laid : part at 5 d ≡ (0x2C + e % 4) ∷ bitXor (n / 256 % 256) (getD m 0 0) ∷ bitXor (n % 256) (getD m 1 0) ∷ be 2 len) where
+  laid-at : (i : ℕ) → i < 5
+      → getD d (at + i) 0 ≡ getD ((0x2C + e % 4) ∷ bitXor (n / 256 % 256) (getD m 0 0) ∷ bitXor (n % 256) (getD m 1 0) ∷ be 2 len) i 0
+  laid-at i h = sym (part-at at 5 d i h) ∙ ap (λ (l : List ℕ). getD l i 0) laid
+
+  -- a byte outside the number stays
+  kept-at : (i : ℕ) → (i < 1) ⊎ (3 ≤ i) → getD (unmasked d at true m) (at + i) 0 ≡ getD d (at + i) 0
+  unfolding unmasked
+  kept-at i c =
+      let v : List ℕ = xors d (at + 1) (maskBytes true m) in
+      let z : at + i + 0 ≡ at + i = omega arith in
+      sym (part-at (at + i) 1 (unmasked d at true m) 0 (omega arith) ∙ ap (λ (j : ℕ). getD (unmasked d at true m) j 0) z)
+      ∙ ap (λ (l : List ℕ). getD l 0 0)
+      (⊎-elim (λ l. splice-before (at + 1) v d (omega arith) (at + i) 1 (omega arith)) (λ l. splice-after (at + 1) v d (omega arith) (at + i) 1 (omega arith)) c)
+      ∙ part-at (at + i) 1 d 0 (omega arith) ∙ ap (λ (j : ℕ). getD d j 0) z
+
+  unmasked-long : length (unmasked d at true m) ≡ length d
+  unfolding unmasked
+  unmasked-long = length-splice (at + 1) (xors d (at + 1) (maskBytes true m)) d (omega arith)
+
+  -- byte by byte
+  header-byte : (i : ℕ) → i < 5 → getD (unmasked d at true m) (at + i) 0 ≡ getD ((0x2C + e % 4) ∷ be 2 n ++ be 2 len) i 0
+  header-byte zero h = kept-at 0 (inl (omega arith)) ∙ laid-at 0 (omega arith)
+  header-byte (suc zero) h =
+      sym (getD-drop at (unmasked d at true m) 1 0) ∙ first-byte d m at n (omega arith) (laid-at 1 (omega arith)) (laid-at 2 (omega arith))
+  header-byte (suc (suc zero)) h =
+      sym (getD-drop at (unmasked d at true m) 2 0) ∙ second-byte d m at n (omega arith) (laid-at 1 (omega arith)) (laid-at 2 (omega arith))
+      ∙ ap (λ (x : ℕ). x % 256) (sym (div-one n))
+  header-byte (suc (suc (suc zero))) h = kept-at 3 (inr (omega arith)) ∙ laid-at 3 (omega arith)
+  header-byte (suc (suc (suc (suc zero)))) h = kept-at 4 (inr (omega arith)) ∙ laid-at 4 (omega arith)
+  header-byte (suc (suc (suc (suc (suc i))))) h = absurd (omega arith)
+
+  pub header-unmasked : part at 5 (unmasked d at true m) ≡ unifiedHeader e n len
+  unfolding unifiedHeader
+  header-unmasked =
+      let long : length (part at 5 (unmasked d at true m)) ≡ 5 = length-part at 5 (unmasked d at true m) (omega (arith, unmasked-long)) in
+      ext-getD 0 (part at 5 (unmasked d at true m)) ((0x2C + e % 4) ∷ be 2 n ++ be 2 len) long
+      (λ i h. part-at at 5 (unmasked d at true m) i (omega arith) ∙ header-byte i (omega arith))
 
 -- ---- the mask that was put on
 

@@ -56,7 +56,7 @@ next-past d at parse.End h i = refl
 next-past d at parse.Incomplete h i = refl
 next-past d at (parse.Invalid n) h i = let k = simp length-drop at i in simp length-drop (omega arith)
 next-past d at (parse.Plaintext p) h i = let k = simp length-drop at i in simp length-drop (omega arith)
-next-past d at (parse.Ciphertext c) h i = let k = simp length-drop at (i .2) in simp length-drop (omega arith)
+next-past d at (parse.Ciphertext c) h i = let k = simp length-drop at (i .fits) in simp length-drop (omega arith)
 
 -- behind a record it stands at the record's end, header and content passed; else at the datagram's end
 pub step-past : (d : List ℕ) (at : ℕ) → at ≤ length d

@@ -11,19 +11,26 @@ use lib.ListN.{length, getD, length-append}
 use lib.Seq.{take-append-seam, drop-append-seam}
 use Rattle.base.specs.Bytes.{be, beAt, beAt-be}
 use Rattle.base.specs.Choose.{both, either, if-true, if-false, by-test, by-less, test-cases, either-false}
+use Rattle.record.specs.declared.Ciphertext.{Ciphertext}
 use Rattle.record.specs.declared.Parsed.{Parsed}
 use Rattle.record.specs.declared.Parsed.the-variants as variant
 use Rattle.record.specs.Record.{sFlag, headerLen, fragmentLen, partialOf, ciphertextOf, parseCiphertext, isType, isVersion, isPlaintext, plaintextOf, parsePlaintext, parsed, contentOf, restOf, plaintextHeader, unifiedHeader}
 
 -- ---- what is cut
 
--- a record lies within n bytes, and a sealed one has a header of 2 to 5
+-- a sealed record has a header of 2 to 5 bytes, and lies within n
+pub record Whole (c : Ciphertext) (n : ℕ) : Type 0 where
+  pub two : 2 ≤ c .«header_len»
+  pub five : c .«header_len» ≤ 5
+  pub fits : c .«header_len» + c .length ≤ n
+
+-- a record lies within n bytes
 abbrev pub Inside : ℕ → Parsed → Type 0
 Inside n variant.End = Unit {0}
 Inside n variant.Incomplete = Unit {0}
 Inside n (variant.Invalid k) = 13 + k ≤ n
 Inside n (variant.Plaintext p) = 13 + p .length ≤ n
-Inside n (variant.Ciphertext c) = (2 ≤ c .«header_len») × (c .«header_len» ≤ 5) × (c .«header_len» + c .length ≤ n)
+Inside n (variant.Ciphertext c) = Whole c n
 
 inside-sealed : (d : List ℕ) (flags : ℕ) → Inside (length d) (parseCiphertext d flags)
 unfolding parseCiphertext headerLen

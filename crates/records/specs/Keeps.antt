@@ -24,7 +24,7 @@ use Rattle.recv_keys.specs.Laws.{resolve-keyed}
 use Rattle.recv_keys.specs.declared.Found.the-variants as found
 use Rattle.recv_keys.specs.declared.Found.{Found}
 use Rattle.recv_keys.specs.declared.RecvKeys.{RecvKeys}
-use Rattle.records.specs.Inside.{Whole, Inside, inside}
+use Rattle.record.specs.Laws.{Whole, Inside, inside}
 use Rattle.records.specs.Records.{askOf, lockedStep, sealedStep, stepOf, openingAsked, askedAgain, asking, readStep}
 
 module _ (k : RecvKeys) (b : Datagram) (n : ℕ) (r : Ready k b) (fits : b .at + n ≤ b .size) where

@@ -4,7 +4,7 @@ use mathlib.Core.Path.{_∙_, sym}
 use native.Mathlib.Omega.{arith}
 use Rattle.records.proofs.one_record.Statement.{statement}
 use Rattle.records.proofs.one_record.Tie as tie
-use Rattle.records.specs.Inside.{inside}
+use Rattle.record.specs.Laws.{inside}
 use Rattle.records.specs.Records.{stepOf}
 
 parse-requires : tie.Need-parse-requires

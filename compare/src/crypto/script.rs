@@ -1,0 +1,159 @@
+//! A provider whose cipher is a script: masks and openings are decided beforehand, and each
+//! question is written down. The script belongs to the thread.
+
+use std::cell::RefCell;
+
+use super::*;
+use crate::CryptoError;
+use crate::buffer::{Buf, TmpBuf};
+use crate::types::{Dtls13CipherSuite, HashAlgorithm};
+
+const TAG_LEN: usize = 16;
+
+/// The replies about one sealed record: its mask, and no or yes with the first bytes of the
+/// plaintext; what follows them up to the tag stays as it lies.
+#[derive(Debug, Clone, Default, PartialEq, Eq)]
+pub struct Reply {
+    pub mask: [u8; 2],
+    pub opening: Option<Vec<u8>>,
+}
+
+/// The mask question: the epoch's key, and the bytes shown.
+#[derive(Debug, Clone)]
+pub struct MaskAsked {
+    pub key: Vec<u8>,
+    pub sample: [u8; 16],
+}
+
+/// The opening question.
+#[derive(Debug, Clone)]
+pub struct OpeningAsked {
+    pub key: Vec<u8>,
+    pub header: Vec<u8>,
+    pub nonce: [u8; 12],
+    pub length: usize,
+}
+
+#[derive(Default)]
+struct Script {
+    min_protected: usize,
+    reply: Reply,
+    mask: Option<MaskAsked>,
+    opening: Option<OpeningAsked>,
+}
+
+thread_local! {
+    static SCRIPT: RefCell<Script> = RefCell::default();
+}
+
+/// The least length of a protected part.
+pub fn set_min_protected(min: usize) {
+    SCRIPT.with_borrow_mut(|script| script.min_protected = min);
+}
+
+/// The replies about the next record.
+pub fn set_reply(reply: Reply) {
+    SCRIPT.with_borrow_mut(|script| script.reply = reply);
+}
+
+/// What was asked since the last time.
+pub fn take_asked() -> (Option<MaskAsked>, Option<OpeningAsked>) {
+    SCRIPT.with_borrow_mut(|script| (script.mask.take(), script.opening.take()))
+}
+
+/// A cipher that knows its key by name only.
+#[derive(Debug)]
+struct ScriptCipher(Vec<u8>);
+
+pub fn cipher(key: &[u8]) -> Box<dyn Cipher> {
+    Box::new(ScriptCipher(key.to_vec()))
+}
+
+impl Cipher for ScriptCipher {
+    fn encrypt(&mut self, _: &mut Buf, _: Aad, _: Nonce) -> Result<(), CryptoError> {
+        Err(CryptoError::NotProvided)
+    }
+
+    fn decrypt(
+        &mut self,
+        ciphertext: &mut TmpBuf,
+        aad: Aad,
+        nonce: Nonce,
+    ) -> Result<(), CryptoError> {
+        let len = ciphertext
+            .len()
+            .checked_sub(TAG_LEN)
+            .ok_or(CryptoError::NotOpened)?;
+        SCRIPT.with_borrow_mut(|script| {
+            script.opening = Some(OpeningAsked {
+                key: self.0.clone(),
+                header: aad.0.to_vec(),
+                nonce: nonce.0,
+                length: ciphertext.len(),
+            });
+            let plaintext = script
+                .reply
+                .opening
+                .as_ref()
+                .ok_or(CryptoError::NotOpened)?;
+            let written = plaintext.len().min(len);
+            ciphertext[..written].copy_from_slice(&plaintext[..written]);
+            ciphertext.truncate(len);
+            Ok(())
+        })
+    }
+}
+
+#[derive(Debug)]
+struct ScriptSuite;
+
+impl SupportedDtls13CipherSuite for ScriptSuite {
+    fn suite(&self) -> Dtls13CipherSuite {
+        Dtls13CipherSuite::AES_128_GCM_SHA256
+    }
+
+    fn hash_algorithm(&self) -> HashAlgorithm {
+        HashAlgorithm::SHA256
+    }
+
+    fn key_len(&self) -> usize {
+        16
+    }
+
+    fn iv_len(&self) -> usize {
+        12
+    }
+
+    fn tag_len(&self) -> usize {
+        TAG_LEN
+    }
+
+    fn min_protected_fragment_len(&self) -> usize {
+        SCRIPT.with_borrow(|script| script.min_protected)
+    }
+
+    fn create_cipher(&self, key: &[u8]) -> Result<Box<dyn Cipher>, CryptoError> {
+        Ok(cipher(key))
+    }
+
+    /// Two bytes of the script; the others must not matter.
+    fn encrypt_sn(&self, sn_key: &[u8], sample: &[u8; 16]) -> [u8; 16] {
+        SCRIPT.with_borrow_mut(|script| {
+            script.mask = Some(MaskAsked {
+                key: sn_key.to_vec(),
+                sample: *sample,
+            });
+            let mut mask = [0xA5; 16];
+            mask[..2].copy_from_slice(&script.reply.mask);
+            mask
+        })
+    }
+}
+
+/// The provider; its one suite goes by the name AES_128_GCM_SHA256.
+pub fn provider() -> CryptoProvider {
+    CryptoProvider {
+        dtls13_cipher_suites: &[&ScriptSuite],
+        ..stub::provider()
+    }
+}

@@ -1,0 +1,131 @@
+//! Whole histories of receiving: their steps, and what the Rust answers to them as lines of text.
+//! compare/README.md has the layout of the lines.
+
+pub mod generate;
+pub mod limits;
+pub mod reference;
+
+pub use crate::crypto::script::Reply;
+use crate::leaves::hex;
+
+/// A step of a history.
+#[derive(Debug, Clone, PartialEq, Eq)]
+pub enum Step {
+    Key {
+        epoch: u16,
+        iv: [u8; 12],
+    },
+    Remove(u16),
+    Encrypt,
+    Release,
+    /// A number marked in an epoch's window, as opening a record with it does: limits that no
+    /// history of a reasonable length comes to.
+    Mark {
+        epoch: u16,
+        number: u64,
+    },
+    /// A datagram, read to its end, with the replies to its questions in their order.
+    Datagram {
+        bytes: Vec<u8>,
+        replies: Vec<Reply>,
+    },
+}
+
+/// A history from a fresh state on.
+#[derive(Debug, Clone, PartialEq, Eq)]
+pub struct History {
+    pub min_protected: u8,
+    pub steps: Vec<Step>,
+}
+
+/// One line of the script, and the line that answers it.
+#[derive(Debug, Clone, PartialEq, Eq)]
+pub struct Line {
+    pub asked: String,
+    pub answered: String,
+}
+
+/// What a line answers. All zeros: a call that reads nothing, done.
+#[derive(Debug, Clone, Default, PartialEq, Eq)]
+pub struct Answer {
+    pub refusal: u8,
+    pub kind: u8,
+    pub reason: u8,
+    pub epoch: u16,
+    pub number: u64,
+    pub content_type: u8,
+    pub start: usize,
+    pub nonce: [u8; 12],
+    pub shown: Vec<u8>,
+}
+
+pub const END: u8 = 1;
+pub const INCOMPLETE: u8 = 2;
+pub const TOO_MANY: u8 = 3;
+pub const DROPPED: u8 = 4;
+pub const PLAINTEXT: u8 = 5;
+pub const UNOPENED: u8 = 6;
+pub const OPENED: u8 = 7;
+pub const MASK: u8 = 8;
+pub const OPENING: u8 = 9;
+
+impl Answer {
+    pub fn kind(kind: u8) -> Self {
+        Self {
+            kind,
+            ..Self::default()
+        }
+    }
+
+    pub fn dropped(reason: u8) -> Self {
+        Self {
+            reason,
+            ..Self::kind(DROPPED)
+        }
+    }
+
+    /// The end of a datagram by a fault, which is its own number.
+    pub fn fault(number: u8) -> Self {
+        Self {
+            refusal: number,
+            ..Self::kind(number)
+        }
+    }
+
+    pub fn line(&self, letter: char) -> String {
+        let mut bytes = vec![self.refusal, self.kind, self.reason];
+        bytes.extend_from_slice(&self.epoch.to_be_bytes());
+        bytes.extend_from_slice(&self.number.to_be_bytes());
+        bytes.push(self.content_type);
+        bytes.extend_from_slice(&(self.start as u16).to_be_bytes());
+        bytes.extend_from_slice(&self.nonce);
+        bytes.extend_from_slice(&(self.shown.len() as u16).to_be_bytes());
+        bytes.extend_from_slice(&self.shown);
+        format!("{letter} {}", hex(&bytes))
+    }
+}
+
+/// The script of a history with its answers, and how many of each kind of reading are in it.
+#[derive(Default)]
+pub struct Run {
+    pub lines: Vec<Line>,
+    pub kinds: [u64; 10],
+    pub reasons: [u64; 12],
+}
+
+impl Run {
+    pub fn say(&mut self, letter: char, input: &[u8], answer: Answer) {
+        if matches!(letter, 'r' | 'm' | 'o') {
+            self.kinds[answer.kind as usize] += 1;
+            self.reasons[answer.reason as usize] += 1;
+        }
+        self.lines.push(Line {
+            asked: format!("{letter} {}", hex(input)),
+            answered: answer.line(letter),
+        });
+    }
+
+    pub fn script(&self) -> String {
+        self.lines.iter().map(|l| l.asked.clone() + "\n").collect()
+    }
+}

@@ -1,0 +1,392 @@
+//! The Rust's answers: the real `impl RecordHandler for Engine`, run by `Records::parse_records`.
+
+use std::cell::RefCell;
+use std::collections::VecDeque;
+use std::sync::Arc;
+
+use arrayvec::ArrayVec;
+
+use super::*;
+use crate::buffer::{Buf, TmpBuf};
+use crate::crypto::script::{self, MaskAsked, OpeningAsked};
+use crate::dtls13::engine::{self, Engine};
+use crate::dtls13::incoming::{self, Record, RecordHandler};
+use crate::dtls13::message::{Dtls13Record, Sequence};
+use crate::types::Dtls13CipherSuite;
+use crate::{Config, CryptoError, DtlsCertificate, Error, InternalError};
+
+/// The last number that a record can have.
+const LAST_NUMBER: u64 = (1 << 48) - 1;
+const TAG_LEN: usize = 16;
+
+/// Runs a history. Steps that no call of the domain makes are passed over, so that a history
+/// can lose any of its steps.
+pub fn run(history: &History) -> Run {
+    let mut run = Run::default();
+    let config = Config {
+        crypto_provider: script::provider(),
+        ..Config::default()
+    };
+    let mut engine = Engine::new(Arc::new(config), DtlsCertificate::default());
+    engine.set_cipher_suite(Dtls13CipherSuite::AES_128_GCM_SHA256);
+    script::set_min_protected(history.min_protected as usize);
+    run.say('f', &[history.min_protected], Answer::default());
+    let mut highest = 0;
+    for step in &history.steps {
+        let keyed = engine::probe::receive_epochs(&engine);
+        match step {
+            Step::Key { epoch, iv } => {
+                // X11, X12: the Rust evicts the oldest epoch for a fifth, and replaces one.
+                let applications = keyed.iter().filter(|epoch| **epoch >= 3).count();
+                if *epoch < 2 || *epoch <= highest || *epoch >= 3 && applications >= 4 {
+                    continue;
+                }
+                highest = *epoch;
+                engine::probe::key_receive(&mut engine, *epoch, *iv);
+                let mut input = epoch.to_be_bytes().to_vec();
+                input.extend_from_slice(iv);
+                run.say('k', &input, Answer::default());
+            }
+            Step::Remove(epoch) if keyed.contains(epoch) => {
+                engine::probe::remove(&mut engine, *epoch);
+                run.say('x', &epoch.to_be_bytes(), Answer::default());
+            }
+            Step::Remove(_) => {}
+            Step::Encrypt => {
+                // X14: nothing is stored to be read again, for `parse_records` stores nothing.
+                engine.enable_peer_encryption().unwrap();
+                run.say('e', &[], Answer::default());
+            }
+            Step::Release => {
+                // X13: the call that keeps the keys of epoch 2.
+                engine.release_application_data_retaining_handshake_keys();
+                run.say('l', &[], Answer::default());
+            }
+            Step::Mark { epoch, number } if keyed.contains(epoch) && *number <= LAST_NUMBER => {
+                engine.replay_update(Sequence {
+                    epoch: *epoch,
+                    sequence_number: *number,
+                });
+                let mut input = epoch.to_be_bytes().to_vec();
+                input.extend_from_slice(&number.to_be_bytes());
+                run.say('w', &input, Answer::default());
+            }
+            Step::Mark { .. } => {}
+            Step::Datagram { bytes, replies } => {
+                datagram(&mut engine, history.min_protected, bytes, replies, &mut run)
+            }
+        }
+    }
+    run
+}
+
+/// What the engine was asked about one record.
+#[derive(Default)]
+struct Seen {
+    /// Its bytes, if it was dropped or handed back.
+    dropped: Option<Buf>,
+    epoch: Option<u16>,
+    number: Option<u64>,
+    fresh: Option<bool>,
+    mask: Option<MaskAsked>,
+    opening: Option<OpeningAsked>,
+    opened: bool,
+    updated: bool,
+    reply: Reply,
+}
+
+/// The engine, with what it is asked written down.
+struct Tap<'a> {
+    engine: &'a mut Engine,
+    replies: VecDeque<Reply>,
+    seen: RefCell<Vec<Seen>>,
+}
+
+impl Tap<'_> {
+    fn note<T>(&self, f: impl FnOnce(&mut Seen) -> T) -> T {
+        f(self.seen.borrow_mut().last_mut().unwrap())
+    }
+}
+
+impl RecordHandler for Tap<'_> {
+    fn pop_buffer(&mut self) -> Buf {
+        self.seen.get_mut().push(Seen::default());
+        RecordHandler::pop_buffer(self.engine)
+    }
+
+    fn push_buffer(&mut self, buffer: Buf) {
+        self.note(|seen| seen.dropped = Some(buffer.clone()));
+        RecordHandler::push_buffer(self.engine, buffer);
+    }
+
+    fn is_peer_encryption_enabled(&self) -> bool {
+        self.engine.is_peer_encryption_enabled()
+    }
+
+    fn resolve_epoch(&self, epoch_bits: u8) -> u16 {
+        let epoch = self.engine.resolve_epoch(epoch_bits);
+        let before = self.note(|seen| seen.epoch.replace(epoch));
+        // Asked before the mask and again behind it.
+        assert!(before.is_none_or(|before| before == epoch));
+        epoch
+    }
+
+    fn resolve_sequence(&self, epoch: u16, seq_bits: u64, s_flag: bool) -> u64 {
+        let number = self.engine.resolve_sequence(epoch, seq_bits, s_flag);
+        self.note(|seen| seen.number = Some(number));
+        number
+    }
+
+    fn replay_check(&self, seq: Sequence) -> bool {
+        let fresh = self.engine.replay_check(seq);
+        self.note(|seen| seen.fresh = Some(fresh));
+        fresh
+    }
+
+    fn min_protected_fragment_len(&self) -> usize {
+        self.engine.min_protected_fragment_len()
+    }
+
+    fn decrypt_sequence_number(&self, epoch: u16, bytes: &mut [u8], sample: &[u8; 16]) {
+        let next = self
+            .seen
+            .borrow()
+            .iter()
+            .filter(|s| s.mask.is_some())
+            .count();
+        let reply = self.replies.get(next).cloned().unwrap_or_default();
+        script::set_reply(reply.clone());
+        self.engine.decrypt_sequence_number(epoch, bytes, sample);
+        let (mask, _) = script::take_asked();
+        self.note(|seen| {
+            seen.mask = mask;
+            seen.reply = reply;
+        });
+    }
+
+    fn decrypt_record(
+        &mut self,
+        header: &[u8],
+        seq: Sequence,
+        ciphertext: &mut TmpBuf,
+    ) -> Result<(), Error> {
+        // X9: the Rust asks the cipher for numbers above 2^48 - 1; it is told no.
+        if seq.sequence_number > LAST_NUMBER {
+            return Err(Error::CryptoError(CryptoError::NotOpened));
+        }
+        let result = self.engine.decrypt_record(header, seq, ciphertext);
+        let (_, opening) = script::take_asked();
+        self.note(|seen| {
+            seen.opening = opening;
+            seen.opened = result.is_ok();
+        });
+        result
+    }
+
+    fn replay_update(&mut self, seq: Sequence) {
+        self.note(|seen| seen.updated = true);
+        self.engine.replay_update(seq);
+    }
+
+    fn classify_record(&mut self, _: Record) -> Result<Option<Record>, Error> {
+        unreachable!("records are not classified while they are cut")
+    }
+}
+
+/// A datagram read to its end.
+fn datagram(engine: &mut Engine, min: u8, bytes: &[u8], replies: &[Reply], run: &mut Run) {
+    let encryption = engine.is_peer_encryption_enabled();
+    let keyed = engine::probe::receive_epochs(engine);
+    let mut tap = Tap {
+        engine,
+        replies: replies.iter().cloned().collect(),
+        seen: RefCell::default(),
+    };
+    let mut records: ArrayVec<Record, 16> = ArrayVec::new();
+    // X15: the readings before a fault stand; the wrapper `Records::parse` discards them.
+    let result = incoming::probe::parse_records(bytes, &mut tap, &mut records);
+    let seen = tap.seen.into_inner();
+    let too_many = result == Err(InternalError::TooManyRecords);
+
+    run.say('b', bytes, Answer::default());
+    let mut kept = records.iter();
+    let mut at = 0;
+    let mut after = Vec::new();
+    let last = seen.len().wrapping_sub(1);
+    for (i, seen) in seen.iter().enumerate() {
+        let record = match &seen.dropped {
+            Some(_) => None,
+            None => Some(kept.next().unwrap()),
+        };
+        let copy: &[u8] = match (&seen.dropped, record) {
+            (Some(bytes), _) => bytes,
+            (None, record) => record.unwrap().buffer(),
+        };
+        let before = &bytes[at..at + copy.len()];
+        let one = One {
+            at,
+            before,
+            seen,
+            record,
+            // The seventeenth reading is handed back.
+            refused: too_many && i == last,
+        };
+        if !Dtls13Record::is_ciphertext_header(before[0]) {
+            assert_eq!(before, copy);
+            one.plaintext(run);
+        } else if !encryption {
+            assert_eq!(before, copy);
+            one.early(run);
+        } else {
+            one.sealed(&keyed, min as usize, run);
+        }
+        // X16: the Rust unmasks and opens in a copy of each record. X1: there with a least length
+        // of 17 also one that has 16.
+        if one.short(min as usize) {
+            after.extend_from_slice(before);
+        } else {
+            after.extend_from_slice(copy);
+        }
+        at += copy.len();
+    }
+    assert!(kept.next().is_none());
+    match result {
+        Ok(()) => run.say('r', &[], Answer::kind(END)),
+        Err(InternalError::ParseIncomplete) => run.say('r', &[], Answer::fault(INCOMPLETE)),
+        Err(InternalError::TooManyRecords) => {}
+        Err(error) => panic!("{error}"),
+    }
+    after.extend_from_slice(&bytes[at..]);
+    run.say(
+        'd',
+        &[],
+        Answer {
+            shown: after,
+            ..Answer::default()
+        },
+    );
+}
+
+/// One record of a datagram.
+struct One<'a> {
+    at: usize,
+    before: &'a [u8],
+    seen: &'a Seen,
+    record: Option<&'a Record>,
+    refused: bool,
+}
+
+impl One<'_> {
+    fn header_len(&self) -> usize {
+        let flags = self.before[0];
+        2 + (flags >> 3 & 1) as usize + 2 * (flags >> 2 & 1) as usize
+    }
+
+    fn short(&self, min: usize) -> bool {
+        Dtls13Record::is_ciphertext_header(self.before[0])
+            && self.before.len() - self.header_len() < min.max(TAG_LEN)
+    }
+
+    /// A record kept: type, number, place and bytes.
+    fn reading(&self, kind: u8) -> Answer {
+        if self.refused {
+            return Answer::fault(TOO_MANY);
+        }
+        let record = self.record.unwrap();
+        let parsed = record.record();
+        assert_eq!(parsed.length as usize, parsed.fragment_range.len());
+        Answer {
+            epoch: parsed.sequence.epoch,
+            number: parsed.sequence.sequence_number,
+            content_type: if kind == UNOPENED {
+                0
+            } else {
+                parsed.content_type.as_u8()
+            },
+            start: self.at + parsed.fragment_range.start,
+            shown: parsed.fragment(record.buffer()).to_vec(),
+            ..Answer::kind(kind)
+        }
+    }
+
+    fn dropped(&self) -> bool {
+        self.record.is_none() && !self.refused
+    }
+
+    fn plaintext(&self, run: &mut Run) {
+        let answer = match self.dropped() {
+            true => Answer::dropped(4),
+            false => self.reading(PLAINTEXT),
+        };
+        run.say('r', &[], answer);
+    }
+
+    /// A sealed record while the peer's encryption is off.
+    fn early(&self, run: &mut Run) {
+        let answer = match self.dropped() {
+            true => Answer::dropped(5),
+            false => self.reading(UNOPENED),
+        };
+        run.say('r', &[], answer);
+    }
+
+    fn sealed(&self, keyed: &[u16], min: usize, run: &mut Run) {
+        let seen = self.seen;
+        let epoch = seen.epoch.unwrap();
+        // X2: where no keyed epoch fits, the Rust answers the bits, and drops the record later.
+        if !keyed.contains(&epoch) {
+            assert!(self.dropped() && seen.mask.is_none() && !seen.updated);
+            return run.say('r', &[], Answer::dropped(6));
+        }
+        // X1: the Rust tests the length after the window, with a least length of 17 after the mask.
+        if self.short(min) {
+            assert!(self.dropped() && !seen.updated);
+            return run.say('r', &[], Answer::dropped(7));
+        }
+        let mask = seen.mask.as_ref().unwrap();
+        assert_eq!(mask.key, epoch.to_be_bytes());
+        let question = Answer {
+            epoch,
+            start: self.at + self.header_len(),
+            shown: mask.sample.to_vec(),
+            ..Answer::kind(MASK)
+        };
+        run.say('r', &[], question);
+
+        let number = seen.number.unwrap();
+        let (opening, fresh) = (&seen.opening, seen.fresh.unwrap());
+        if number > LAST_NUMBER {
+            assert!(self.dropped() && fresh && !seen.updated);
+            return run.say('m', &seen.reply.mask, Answer::dropped(8));
+        }
+        if !fresh {
+            assert!(self.dropped() && opening.is_none() && !seen.updated);
+            return run.say('m', &seen.reply.mask, Answer::dropped(9));
+        }
+        let opening = opening.as_ref().unwrap();
+        assert_eq!(opening.key, epoch.to_be_bytes());
+        assert_eq!(opening.length, self.before.len() - self.header_len());
+        let question = Answer {
+            epoch,
+            number,
+            start: self.at,
+            nonce: opening.nonce,
+            shown: opening.header.clone(),
+            ..Answer::kind(OPENING)
+        };
+        run.say('m', &seen.reply.mask, question);
+
+        assert_eq!(seen.updated, seen.opened);
+        let Some(plaintext) = &seen.reply.opening else {
+            assert!(self.dropped() && !seen.opened);
+            return run.say('o', &[0], Answer::dropped(10));
+        };
+        let answer = match self.dropped() {
+            true => Answer::dropped(11),
+            false => self.reading(OPENED),
+        };
+        let mut input = vec![1];
+        input.extend_from_slice(plaintext);
+        run.say('o', &input, answer);
+    }
+}

@@ -1,0 +1,45 @@
+-- A flight's saved records (01, "Flights acknowledged or sent again"; refusals 12, 18). Assumes nothing.
+use mathlib.Core.Bool.{Bool, false}
+use mathlib.Core.List.{List}
+use Prim.Native.Nat.{ℕ, _+_, _*_, _<_, _≤_}
+use lib.Dec.{leb}
+use lib.ListN.{length, set, replicate}
+use Rattle.base.specs.Choose.{choose, both}
+use Rattle.base.specs.Parts.{splice}
+use Rattle.outgoing.specs.declared.SendAnswer.the-variants.{Done, OutOfRange}
+use Rattle.flight.specs.declared.Entry.{Entry}
+use Rattle.flight.specs.declared.Flight.{Flight}
+use Rattle.flight.specs.declared.Begun.{Begun}
+
+unfoldable pub entryOf : ℕ → ℕ → ℕ → ℕ → Entry
+entryOf t e n len = record { «content_type» = t; epoch = e; number = n; length = len; marked = false; remembered = 0 }
+
+-- nothing saved; "one flat table of 384 numbers starts as zeros"
+unfoldable pub freshFlight : Flight
+freshFlight = record { entries = replicate 12 (record { «content_type» = 0; epoch = 0; number = 0; length = 0; marked = false; remembered = 0 }); saved = 0; numbers = replicate 384 0 }
+
+-- 12: at most 12 saved, and a buffer for 12 records of the MTU
+unfoldable pub isKept : Flight → ℕ → ℕ → Bool
+isKept f mtu room = both (leb (f .saved) 12) (leb (12 * mtu) room)
+
+abbrev pub withSaved : Flight → List Entry → ℕ → Flight
+withSaved f es n = record { entries = es; saved = n; numbers = f .numbers }
+
+-- "Beginning a flight empties it"
+unfoldable pub begun : Flight → Begun
+begun f = choose (leb (f .saved) 12) (record { answer = Done; flight = withSaved f (f .entries) 0 }) (record { answer = OutOfRange; flight = f })
+
+-- a record more: not acknowledged, no earlier number
+unfoldable pub savedWith : Flight → ℕ → ℕ → ℕ → ℕ → Flight
+savedWith f t e n len = withSaved f (set (f .entries) (f .saved) (entryOf t e n len)) (f .saved + 1)
+
+-- its content at the start of its slot of MTU bytes
+unfoldable pub savedMemory : Flight → ℕ → List ℕ → List ℕ → List ℕ
+savedMemory f mtu x m = splice (f .saved * mtu) x m
+
+-- what saving a content of n bytes needs
+pub record Keeps (f : Flight) (mtu room n : ℕ) : Type 0 where
+  pub high : mtu ≤ 1500
+  pub saved : f .saved < 12
+  pub space : 12 * mtu ≤ room
+  pub short : n ≤ mtu

@@ -1,0 +1,4 @@
+pub mod Cut
+pub mod Rows
+pub mod Message
+pub mod Laws

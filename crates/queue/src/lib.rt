@@ -1,0 +1,300 @@
+// The queue of datagrams to send, after `queue_tx` of engine.rs: a ring of slots of MTU bytes in one lent buffer.
+ghost use mathlib.Core.Path.{_≡_};
+ghost use mathlib.Core.List.{_++_};
+ghost use Prim.Native.Nat.{_+_, _-_, _*_, _≤_, _<_};
+ghost use lib.ListN.{length};
+ghost use Rattle.base.specs.Parts.{splice};
+ghost use Rattle.record.specs.Record.{plaintextHeader, unifiedHeader};
+ghost use Rattle.queue.specs.Queue.{isSetting, isSound, isReady, slotOf, lastLen, tailOf, placeOf, grown, laid, startOf, InRange, Ready, Tailed, Fits};
+ghost use Rattle.queue.specs.Laid.{trailerOf, recordLen, recordBytes};
+
+// Settings, the ring's first slot, how many datagrams wait in it, whether the last is closed to further records, and the length
+// of the datagram in each slot.
+pub struct Queue {
+    pub mtu: usize,
+    pub limit: usize,
+    pub first: usize,
+    pub count: usize,
+    pub closed: bool,
+    pub lengths: [u16; 16],
+}
+
+// The queue's end: the last datagram's length, whether a record may join it, how many datagrams there are.
+pub struct Tail {
+    pub used: usize,
+    pub joinable: bool,
+    pub count: usize,
+}
+
+// Where a record goes: the datagram, counted from the front, and the offset in it.
+pub struct Place {
+    pub datagram: usize,
+    pub offset: usize,
+}
+
+// Whether the settings are in range.
+pub fn is_setting(mtu: usize, limit: usize) -> bool
+    ensures { λ r. ⌜ r ≡ isSetting mtu limit ⌝ }
+{
+    if mtu < 576 {
+        return false;
+    }
+    if 1500 < mtu {
+        return false;
+    }
+    if limit < 1 {
+        return false;
+    }
+    limit <= 16
+}
+
+// Whether settings and ring are in range.
+pub fn is_sound(q: Queue) -> bool
+    ensures { λ r. ⌜ r ≡ isSound q ⌝ }
+{
+    let limit = q.limit;
+    if is_setting(q.mtu, limit) {
+        if q.first < limit {
+            return q.count <= limit;
+        }
+    }
+    false
+}
+
+// Whether the buffer lent for the queue is long enough besides.
+pub fn is_ready(q: Queue, room: usize) -> bool
+    ensures { λ r. ⌜ r ≡ isReady q room ⌝ }
+{
+    if is_sound(q) {
+        return q.limit * q.mtu <= room;
+    }
+    false
+}
+
+// The slot of a datagram, counted from the front.
+pub fn slot_of(first: usize, limit: usize, i: usize) -> usize
+    requires { ⌜ (first < limit) × (i < limit) × (limit ≤ 16) ⌝ }
+    ensures { λ r. ⌜ (r ≡ slotOf first limit i) × (r < limit) ⌝ }
+{
+    let at = first + i;
+    if at < limit {
+        return at;
+    }
+    at - limit
+}
+
+fn wide(x: u16) -> usize
+    ensures { λ r. ⌜ (r ≡ x) × (r ≤ 65535) ⌝ }
+{
+    x as usize
+}
+
+// The length of a slot's datagram.
+pub fn len_at(q: Queue, slot: usize) -> usize
+    requires { ⌜ slot < 16 ⌝ }
+    ensures { λ r. ⌜ (r ≡ lib.ListN.getD (q .lengths) slot 0) × (r ≤ 65535) ⌝ }
+{
+    wide(q.lengths[slot])
+}
+
+// The last datagram's length, closed or not; 0 where there is none.
+pub fn last_len(q: Queue) -> usize
+    requires { ⌜ InRange q ⌝ }
+    ensures { λ r. ⌜ (r ≡ lastLen q) × (r ≤ 65535) ⌝ }
+{
+    let count = q.count;
+    if count == 0 {
+        return 0;
+    }
+    let slot = slot_of(q.first, q.limit, count - 1);
+    len_at(q, slot)
+}
+
+// Whether a record may join the last datagram: one is there, not closed.
+fn is_joinable(q: Queue) -> bool
+    ensures { λ r. ⌜ r ≡ tailOf q .joinable ⌝ }
+{
+    if q.closed {
+        return false;
+    }
+    0 < q.count
+}
+
+pub fn tail_of(q: Queue) -> Tail
+    requires { ⌜ InRange q ⌝ }
+    ensures { λ r. ⌜ (r ≡ tailOf q) × Tailed r ⌝ }
+{
+    let used = last_len(q);
+    let joinable = is_joinable(q);
+    Tail {
+        used: used,
+        joinable: joinable,
+        count: q.count,
+    }
+}
+
+// A record of n bytes joins the last datagram if that may be joined and the sum is at most the MTU; else it opens a new one.
+pub fn place_of(mtu: usize, t: Tail, n: usize) -> Place
+    requires { ⌜ Tailed t × (n ≤ 65535) ⌝ }
+    ensures { λ r. ⌜ r ≡ placeOf mtu t n ⌝ }
+{
+    let used = t.used;
+    let count = t.count;
+    if t.joinable {
+        if used + n <= mtu {
+            return Place {
+                datagram: count - 1,
+                offset: used,
+            };
+        }
+    }
+    Place {
+        datagram: count,
+        offset: 0,
+    }
+}
+
+// The queue with a record of n bytes more.
+pub fn laid_at(q: Queue, p: Place, n: usize) -> Queue
+    requires { ⌜ InRange q × Fits q p n ⌝ }
+    ensures { λ r. ⌜ r ≡ laid q p n ⌝ }
+{
+    let nth = p.datagram;
+    let slot = slot_of(q.first, q.limit, nth);
+    let mut t = q;
+    t.lengths[slot] = (p.offset + n) as u16;
+    t.count = nth + 1;
+    t.closed = false;
+    t
+}
+
+// Copies a slice over another of the same length.
+pub fn copy(src: &[u8], dst: &mut [u8])
+    requires { ⌜ length (now src) ≡ length (now dst) ⌝ }
+    ensures { λ _. ⌜ now (dst .exit) ≡ now (src .entry) ⌝ }
+{
+    let mut i = 0;
+    while i < src.len() && i < dst.len() {
+        dst[i] = src[i];
+        i += 1;
+    }
+}
+
+// What follows the content of a record that waits for its sealing: its type, and in the tag's place its epoch and number.
+fn trailer(content_type: u8, epoch: u16, number: u64) -> [u8; 17]
+    ensures { λ r. ⌜ r ≡ trailerOf «content_type» epoch number ⌝ }
+{
+    [
+        content_type,
+        (epoch / 256 % 256) as u8,
+        (epoch % 256) as u8,
+        (number / 0x100_0000_0000 % 256) as u8,
+        (number / 0x1_0000_0000 % 256) as u8,
+        (number / 0x100_0000 % 256) as u8,
+        (number / 0x1_0000 % 256) as u8,
+        (number / 0x100 % 256) as u8,
+        (number % 256) as u8,
+        0,
+        0,
+        0,
+        0,
+        0,
+        0,
+        0,
+        0,
+    ]
+}
+
+// A plaintext record written from a place on.
+fn lay_plaintext(d: &mut [u8], at: usize, content_type: u8, number: u64, content: &[u8])
+    requires { ⌜ (at + 13 + length (now content) ≤ length (now d)) × (length (now content) ≤ 1500) × (at ≤ 24000) ⌝ }
+    ensures { λ _. ⌜ now (d .exit) ≡ splice at (plaintextHeader «content_type» number (length (now (content .entry))) ++ now (content .entry)) (now (d .entry)) ⌝ }
+{
+    let n = content.len();
+    let inner = at + 13;
+    let end = inner + n;
+    let header = record::plaintext_header(content_type, number, n as u16);
+    copy(&header, &mut d[at..inner]);
+    copy(content, &mut d[inner..end]);
+}
+
+// A record to be sealed, its number not yet masked, written from a place on.
+fn lay_ciphertext(
+    d: &mut [u8],
+    at: usize,
+    epoch: u16,
+    content_type: u8,
+    number: u64,
+    content: &[u8],
+)
+    requires { ⌜ (at + 22 + length (now content) ≤ length (now d)) × (length (now content) ≤ 1500) × (at ≤ 24000) ⌝ }
+    ensures { λ _. ⌜ now (d .exit) ≡ splice at (unifiedHeader epoch number (length (now (content .entry)) + 17) ++ (now (content .entry) ++ trailerOf «content_type» epoch number)) (now (d .entry)) ⌝ }
+{
+    let n = content.len();
+    let inner = at + 5;
+    let end = inner + n;
+    let after = end + 17;
+    let header = record::unified_header(epoch, number, (n + 17) as u16);
+    let behind = trailer(content_type, epoch, number);
+    copy(&header, &mut d[at..inner]);
+    copy(content, &mut d[inner..end]);
+    copy(&behind, &mut d[end..after]);
+}
+
+// Bytes of a record whose content has n.
+pub fn record_len(epoch: u16, n: usize) -> usize
+    requires { ⌜ n ≤ 16384 ⌝ }
+    ensures { λ r. ⌜ r ≡ recordLen epoch n ⌝ }
+{
+    if epoch == 0 {
+        return n + 13;
+    }
+    n + 22
+}
+
+// A record written from a place on: epoch 0 in plaintext, any other to be sealed.
+pub fn lay_record(
+    d: &mut [u8],
+    at: usize,
+    epoch: u16,
+    content_type: u8,
+    number: u64,
+    content: &[u8],
+)
+    requires { ⌜ (at + recordLen epoch (length (now content)) ≤ length (now d)) × (length (now content) ≤ 1500) × (at ≤ 24000) ⌝ }
+    ensures { λ _. ⌜ now (d .exit) ≡ splice at (recordBytes epoch «content_type» number (now (content .entry))) (now (d .entry)) ⌝ }
+{
+    if epoch == 0 {
+        lay_plaintext(d, at, content_type, number, content);
+        return;
+    }
+    lay_ciphertext(d, at, epoch, content_type, number, content);
+}
+
+// The first byte of a record at a place.
+pub fn start_of(q: Queue, p: Place, n: usize) -> usize
+    requires { ⌜ InRange q × Fits q p n ⌝ }
+    ensures { λ r. ⌜ (r ≡ startOf q p) × (r ≤ 24000) ⌝ }
+{
+    let slot = slot_of(q.first, q.limit, p.datagram);
+    slot * q.mtu + p.offset
+}
+
+// A record laid at a place of the queue.
+pub fn lay(
+    q: Queue,
+    d: &mut [u8],
+    p: Place,
+    epoch: u16,
+    content_type: u8,
+    number: u64,
+    content: &[u8],
+) -> Queue
+    requires { ⌜ Ready q (length (now d)) × Fits q p (recordLen epoch (length (now content))) × (length (now content) ≤ 1500) ⌝ }
+    ensures { λ r. ⌜ (r ≡ laid q p (recordLen epoch (length (now (content .entry))))) × (now (d .exit) ≡ splice (startOf q p) (recordBytes epoch «content_type» number (now (content .entry))) (now (d .entry))) ⌝ }
+{
+    let n = record_len(epoch, content.len());
+    let at = start_of(q, p, n);
+    lay_record(d, at, epoch, content_type, number, content);
+    laid_at(q, p, n)
+}

@@ -1,0 +1,4 @@
+pub mod Seek
+pub mod Sealing
+pub mod Take
+pub mod Laws
