@@ -1,8 +1,8 @@
 // Replays histories of receiving: one line of input, a letter and hex bytes, is one step and gives one line of output. What is
 // expected stands in the file stdout, written from the Rust's answers (compare/README.md says how, and what each letter means).
-ghost use mathlib.Core.Path.{_≡_};
 ghost use Prim.Native.Nat.{_<_, _≤_};
-ghost use lib.ListN.{length};
+use datagram::Datagram;
+use datagram::Question;
 use datagram::Reading;
 use datagram::Reason;
 use opening_reply::Opening;
