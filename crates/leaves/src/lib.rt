@@ -184,7 +184,7 @@ pub extern "C" fn leaves_plaintext_header(
 ) -> LeavesPlain
     ensures { λ r. ⌜ r .bytes ≡ plaintextHeader «content_type» «sequence_number» length ⌝ }
 {
-    let b = record::plaintext_header(content_type, sequence_number, length);
+    let b = headers::plaintext_header(content_type, sequence_number, length);
     LeavesPlain { bytes: b }
 }
 
@@ -196,7 +196,7 @@ pub extern "C" fn leaves_unified_header(
 ) -> LeavesUnified
     ensures { λ r. ⌜ r .bytes ≡ unifiedHeader epoch «sequence_number» length ⌝ }
 {
-    let b = record::unified_header(epoch, sequence_number, length);
+    let b = headers::unified_header(epoch, sequence_number, length);
     LeavesUnified { bytes: b }
 }
 

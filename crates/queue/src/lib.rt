@@ -213,7 +213,7 @@ fn lay_plaintext(d: &mut [u8], at: usize, content_type: u8, number: u64, content
     let n = content.len();
     let inner = at + 13;
     let end = inner + n;
-    let header = record::plaintext_header(content_type, number, n as u16);
+    let header = headers::plaintext_header(content_type, number, n as u16);
     copy(&header, &mut d[at..inner]);
     copy(content, &mut d[inner..end]);
 }
@@ -234,7 +234,7 @@ fn lay_ciphertext(
     let inner = at + 5;
     let end = inner + n;
     let after = end + 17;
-    let header = record::unified_header(epoch, number, (n + 17) as u16);
+    let header = headers::unified_header(epoch, number, (n + 17) as u16);
     let behind = trailer(content_type, epoch, number);
     copy(&header, &mut d[at..inner]);
     copy(content, &mut d[inner..end]);

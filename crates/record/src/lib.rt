@@ -1,4 +1,4 @@
-// Record headers read and written, after record.rs, and the cut of a datagram into records, after `Records::parse_records` of
+// Record headers read, after record.rs, and the cut of a datagram into records, after `Records::parse_records` of
 // incoming.rs.
 ghost use mathlib.Core.Path.{_≡_};
 ghost use Prim.Native.Nat.{_+_, _-_, _≤_, _<_};
@@ -18,14 +18,12 @@ ghost use Rattle.record.specs.Record.{
   sizeOf,
   contentOf,
   restOf,
-  plaintextHeader,
-  unifiedHeader,
 };
 
 // The versions that a plaintext header may carry; the second is written.
 const DTLS1_0: [u8; 2] = [0xFE, 0xFF];
 
-const DTLS1_2: [u8; 2] = [0xFE, 0xFD];
+pub const DTLS1_2: [u8; 2] = [0xFE, 0xFD];
 
 // Bytes of a plaintext header: type 1, version 2, epoch 2, number 6, length 2.
 const PLAINTEXT_HEADER_LEN: usize = 13;
@@ -230,38 +228,4 @@ pub fn rest(d: &[u8], p: Parsed) -> &[u8]
     ensures { λ r. ⌜ now r ≡ restOf (now (d .entry)) p ⌝ }
 {
     base::behind(base::behind(d, head_of(p)), size_of(p))
-}
-
-// The header of a plaintext record: epoch 0, the low 48 bits of the number.
-pub fn plaintext_header(content_type: u8, sequence_number: u64, length: u16) -> [u8; 13]
-    ensures { λ r. ⌜ r ≡ plaintextHeader «content_type» «sequence_number» length ⌝ }
-{
-    [
-        content_type,
-        DTLS1_2[0],
-        DTLS1_2[1],
-        0,
-        0,
-        (sequence_number / 0x100_0000_0000 % 256) as u8,
-        (sequence_number / 0x1_0000_0000 % 256) as u8,
-        (sequence_number / 0x100_0000 % 256) as u8,
-        (sequence_number / 0x1_0000 % 256) as u8,
-        (sequence_number / 0x100 % 256) as u8,
-        (sequence_number % 256) as u8,
-        (length / 256 % 256) as u8,
-        (length % 256) as u8,
-    ]
-}
-
-// The unified header of a sealed record, its number not yet masked: two number bytes, a length.
-pub fn unified_header(epoch: u16, sequence_number: u64, length: u16) -> [u8; 5]
-    ensures { λ r. ⌜ r ≡ unifiedHeader epoch «sequence_number» length ⌝ }
-{
-    [
-        0x2C + (epoch % 4) as u8,
-        (sequence_number / 256 % 256) as u8,
-        (sequence_number % 256) as u8,
-        (length / 256 % 256) as u8,
-        (length % 256) as u8,
-    ]
 }

@@ -215,12 +215,12 @@ fn records(d: &[u8], out: &mut [u8]) -> usize {
 }
 
 fn plaintext_headers(d: &[u8], out: &mut [u8]) -> usize {
-    let h = record::plaintext_header(get1(d, 0), get8(d, 1), get2(d, 9));
+    let h = headers::plaintext_header(get1(d, 0), get8(d, 1), get2(d, 9));
     push_all(out, 0, &h)
 }
 
 fn unified_headers(d: &[u8], out: &mut [u8]) -> usize {
-    let h = record::unified_header(get2(d, 0), get8(d, 2), get2(d, 10));
+    let h = headers::unified_header(get2(d, 0), get8(d, 2), get2(d, 10));
     push_all(out, 0, &h)
 }
 

@@ -25,7 +25,7 @@ fn verdict(text: &[u8], w: ReplayWindow, n: u64) {
 // A row of a sealed record's header: its bytes in hex.
 fn header(text: &[u8], epoch: u16, n: u64, length: u16) {
     line(text);
-    let h = record::unified_header(epoch, n, length);
+    let h = headers::unified_header(epoch, n, length);
     io::print_hex(1, h[0] as u64, 2);
     io::print_hex(1, h[1] as u64, 2);
     io::print_hex(1, h[2] as u64, 2);

@@ -300,7 +300,7 @@ pub fn sealing(s: Sending) -> Question
                 length: w.length,
             },
             nonce: dtls_aead::nonce_xor(send_keys::iv_of(k, w.epoch), w.number),
-            header: record::unified_header(w.epoch, w.number, w.length as u16),
+            header: headers::unified_header(w.epoch, w.number, w.length as u16),
         };
     }
     nothing(SealQuestion::Nothing)

@@ -1,9 +1,9 @@
--- `record::plaintext_header` meets its contract: the bytes are those of the definition. Assumes nothing.
+-- `headers::plaintext_header` meets its contract: the bytes are those of the definition. Assumes nothing.
 use borrow.Author.Needs.{needs}
 use native.Mathlib.Nat.{div-one}
 use Rattle.record.specs.Record.{plaintextHeader}
-use Rattle.record.proofs.plaintext_header.Statement.{statement}
-use Rattle.record.proofs.plaintext_header.Tie as tie
+use Rattle.headers.proofs.plaintext_header.Statement.{statement}
+use Rattle.headers.proofs.plaintext_header.Tie as tie
 
 array-read-t7 : tie.Need-array-read-t7
 array-read-t7 c = search needs

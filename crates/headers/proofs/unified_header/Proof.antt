@@ -1,9 +1,9 @@
--- `record::unified_header` meets its contract: the bytes are those of the definition. Assumes nothing.
+-- `headers::unified_header` meets its contract: the bytes are those of the definition. Assumes nothing.
 use borrow.Author.Needs.{needs}
 use native.Mathlib.Nat.{div-one}
 use Rattle.record.specs.Record.{unifiedHeader}
-use Rattle.record.proofs.unified_header.Statement.{statement}
-use Rattle.record.proofs.unified_header.Tie as tie
+use Rattle.headers.proofs.unified_header.Statement.{statement}
+use Rattle.headers.proofs.unified_header.Tie as tie
 
 cast-t5 : tie.Need-cast-t5
 cast-t5 c = search needs
