@@ -5,10 +5,10 @@ use Prim.Native.Nat.{ℕ, zero, suc, _+_, _≤_, _<_}
 use native.Mathlib.Numerals.{add-one}
 use native.Mathlib.Omega.{arith}
 use lib.Dec.{ltb, leb, eqb}
-use borrow.Author.Tests.{eqb-true, eqb-false}
-use Rattle.base.specs.Choose.{choose, both, by-test, test-cases}
+use borrow.Author.Tests.{leb-true, eqb-true, eqb-false}
+use Rattle.base.specs.Choose.{choose, both, by-test, test-cases, both-left}
 use Rattle.queue.specs.declared.Tail.{Tail}
-use Rattle.queue.specs.Queue.{isReady, tailOf, placeOf, grown, placed, Tailed}
+use Rattle.queue.specs.Queue.{isReady, tailOf, placeOf, grown, placed, Tailed, InRange, Ready, ready}
 use Rattle.queue.specs.Laid.{recordLen}
 use Rattle.send_keys.specs.declared.SendKeys.{SendKeys}
 use Rattle.send_keys.specs.Keys.{isUsable, isKeyed, nextOf}
@@ -172,3 +172,21 @@ unfolding joined grown
 joined-tail {mtu} {t} {e} m h j =
     by-test (λ (x : Tail). Tailed x × (x .count ≤ t .count + 1)) (λ y. (h, omega arith))
     (λ y. let p = placed mtu t (recordLen (e .epoch) (e .length)) (j .fits y) in (record { used = omega (arith, p .0); counted = λ z. omega arith }, omega (arith, p .1)))
+
+-- 12 excluded
+pub resend-safe : (s : Sending) (f : Flight) (room kept : ℕ) → isDone (resendAnswer s f room kept) ≡ true → Ready (s .queue) room × (isKept f (s .queue .mtu) kept ≡ true)
+unfolding resendAnswer
+resend-safe s f room kept =
+    by-test (λ (a : ResendAnswer). isDone a ≡ true → Ready (s .queue) room × (isKept f (s .queue .mtu) kept ≡ true))
+    (λ r. by-test (λ (a : ResendAnswer). isDone a ≡ true → Ready (s .queue) room × (isKept f (s .queue .mtu) kept ≡ true))
+    (λ k d. (ready r, k))
+    (λ k d. absurd (false≢true d)))
+    (λ r d. absurd (false≢true d))
+
+pub kept-few : (f : Flight) (mtu room : ℕ) → isKept f mtu room ≡ true → f .saved ≤ 12
+unfolding isKept
+kept-few f mtu room e = leb-true (f .saved) 12 (both-left _ _ e)
+
+pub closed-range : (s : Sending) → InRange (s .queue) → InRange (closedState s .queue)
+unfolding closedState
+closed-range s r = record { low = r .low; high = r .high; some = r .some; limit = r .limit; first = r .first; count = r .count }

@@ -315,7 +315,10 @@ fn resend_at(s: Sending, f: Flight, i: usize, kept: &[u8], memory: &mut [u8]) ->
 {
     let e = f.entries[i];
     if e.marked {
-        return Again { state: s, flight: f };
+        return Again {
+            state: s,
+            flight: f,
+        };
     }
     let q = s.queue;
     let k = s.keys;
@@ -324,7 +327,10 @@ fn resend_at(s: Sending, f: Flight, i: usize, kept: &[u8], memory: &mut [u8]) ->
     let r = s.send(e.epoch, e.content_type, content, memory);
     let t = r.state;
     let a = r.answer;
-    Again { state: t, flight: renew_if(a, f, i, number) }
+    Again {
+        state: t,
+        flight: renew_if(a, f, i, number),
+    }
 }
 
 // The saved records sent again, one after the other.
@@ -332,7 +338,10 @@ fn resend_all(s: Sending, f: Flight, kept: &[u8], memory: &mut [u8]) -> Again
     requires { ⌜ InRange (s .queue) × (f .saved ≤ 12) ⌝ }
     ensures { λ r. ⌜ laying r (now (memory .exit)) ≡ againAfter (now (kept .entry)) (record { state = s; flight = f; queue = now (memory .entry) }) (f .saved) ⌝ }
 {
-    let mut r = Again { state: s, flight: f };
+    let mut r = Again {
+        state: s,
+        flight: f,
+    };
     let mut i = 0;
     while i < f.saved {
         let t = r.state;
@@ -352,7 +361,15 @@ pub fn flight_resend(s: Sending, f: Flight, kept: &[u8], memory: &mut [u8]) -> R
         let r = resend_all(closed(s), f, kept, memory);
         let t = r.state;
         let g = r.flight;
-        return Resent { answer: a, state: t, flight: g };
+        return Resent {
+            answer: a,
+            state: t,
+            flight: g,
+        };
     }
-    Resent { answer: a, state: s, flight: f }
+    Resent {
+        answer: a,
+        state: s,
+        flight: f,
+    }
 }
