@@ -5,3 +5,5 @@ pub mod Fresh
 pub mod Growing
 pub mod Numbers
 pub mod Sends
+pub mod First
+pub mod Seeks

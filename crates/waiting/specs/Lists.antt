@@ -194,3 +194,10 @@ lies-append mem base at (r ∷ rs) us a b =
   where
     next : (at : ℕ) → at + length (bytes (r ∷ rs)) ≡ at + length (bytesOf r) + length (bytes rs)
     next at = omega (arith, length-append (bytesOf r) (bytes rs))
+
+-- in front of which none waits is in order where the rest is
+pub order-later : (rs us : List Queued) → waitsIn rs ≡ false → InOrder (rs ++ us) → InOrder us
+order-later [] us h o = o
+order-later (plain t n x ∷ rs) us h o = order-later rs us h o
+order-later (waits e t n x p ∷ rs) us h o = absurd (false≢true (sym h))
+order-later (sealed e t n x m p ∷ rs) us h o = order-later rs us h o
