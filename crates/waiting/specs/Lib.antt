@@ -7,3 +7,4 @@ pub mod Numbers
 pub mod Sends
 pub mod First
 pub mod Seeks
+pub mod Changes

@@ -12,8 +12,10 @@ use borrow.Author.Tests.{leb-true, eqb-true, eqb-false, eq-eqb, ne-eqb}
 use Rattle.base.specs.Choose.{choose, both, either, by-test, test-cases, if-true, if-false, both-left, both-right, either-true, either-false}
 use Rattle.queue.specs.Laid.{trailerOf}
 use Rattle.send_keys.specs.declared.SendKeys.{SendKeys}
-use Rattle.send_keys.specs.Keys.{isUsable, isKeyed, nextOf, used, withNext, next-handshake, next-application}
-use Rattle.waiting.specs.Queued.{Queued, plain, waits, sealed, laidAs, numbersOf, Runs, Under, Agrees}
+use Rattle.send_keys.specs.Keys.{isUsable, isKeyed, nextOf, used, withNext, sealedUpTo, next-handshake, next-application}
+use Rattle.outgoing.specs.declared.Waiting.{Waiting}
+use Rattle.waiting.specs.Queued.{Queued, plain, waits, sealed, laidAs, numbersOf, waitsIn, oldestIn, Runs, Under, Agrees}
+use Rattle.waiting.specs.First.{sealWith, putWith, firstIn, under-sealed, numbers-sealed, under-first, under-put, numbers-put}
 use Rattle.waiting.specs.Lists.{numbers-append, under-append, runs-snoc, runs-length}
 
 -- ---- a number used
@@ -99,3 +101,68 @@ module _ (k : SendKeys) (rs : List Queued) (a : Agrees k rs) (e t : ℕ) (x : Li
       test-cases (eqb e 0) (λ z. omega (arith, eqb-true e 0 z))
       (λ z. test-cases (eqb e 2) (λ h. omega (arith, eqb-true e 2 h))
       (λ h. let g = usable-application u (eqb-false e 0 z) (eqb-false e 2 h) in omega (arith, a .small)))
+
+-- ---- the oldest sealed
+
+module _ (k : SendKeys) (rs : List Queued) (a : Agrees k rs) (m : List ℕ) (w : Waiting) (some : waitsIn rs ≡ true) where
+  abbrev oldest : Waiting
+  oldest = oldestIn 0 0 rs w
+
+  abbrev left : List Queued
+  left = firstIn (sealWith m) rs
+
+  -- its number is the first of those that wait under its epoch
+  own : (j lo hi : ℕ) → oldest .epoch ≡ j → Runs lo hi (numbersOf j rs) → (oldest .number ≡ lo) × Runs (oldest .number + 1) hi (numbersOf j left)
+  own j lo hi e r =
+      let l : numbersOf j rs ≡ oldest .number ∷ numbersOf j left = numbers-sealed m j 0 0 rs w some ∙ if-true _ _ (eq-eqb (oldest .epoch) j e) in
+      let f : Runs lo hi (oldest .number ∷ numbersOf j left) = subst (Runs lo hi) l r in
+      (f .0, subst (λ (n : ℕ). Runs (n + 1) hi (numbersOf j left)) (sym (f .0)) (f .1))
+
+  other : (j lo hi : ℕ) → (oldest .epoch ≡ j → ⊥) → Runs lo hi (numbersOf j rs) → Runs lo hi (numbersOf j left)
+  other j lo hi e r = subst (Runs lo hi) (numbers-sealed m j 0 0 rs w some ∙ if-false _ _ (ne-eqb (oldest .epoch) j e)) r
+
+  -- under epoch 2 something waits only if it is keyed
+  two-keyed : oldest .epoch ≡ 2 → k .handshake .next ≡ k .handshake .sealed → ⊥
+  two-keyed e h =
+      let o = own 2 (k .handshake .sealed) (k .handshake .next) e (a .handshake) in
+      omega (arith, runs-length (oldest .number + 1) (k .handshake .next) (numbersOf 2 left) (o .1), o .0)
+
+  pub sealed-agrees : Agrees (sealedUpTo k (oldest .epoch) (oldest .number)) left
+  unfolding sealedUpTo
+  sealed-agrees =
+      test-cases (eqb (oldest .epoch) 2)
+      (λ h.
+      let e : oldest .epoch ≡ 2 = eqb-true (oldest .epoch) 2 h in
+      let ne : oldest .epoch ≡ k .application .epoch → ⊥ = λ y. ⊎-elim (λ (u : k .application .epoch ≡ 0). omega arith) (λ (u : 3 ≤ k .application .epoch). omega arith) (a .epoch) in
+      subst (λ (u : SendKeys). Agrees u left) (sym (if-true _ _ h))
+      (record {
+        handshake = own 2 (k .handshake .sealed) (k .handshake .next) e (a .handshake) .1;
+        application = other (k .application .epoch) (k .application .sealed) (k .application .next) ne (a .application);
+        under = under-sealed m (k .application .epoch) rs (a .under);
+        unkeyed = λ y. absurd (two-keyed e (a .unkeyed y));
+        epoch = a .epoch;
+        small = a .small;
+      }))
+      (λ h.
+      let ne : oldest .epoch ≡ 2 → ⊥ = eqb-false (oldest .epoch) 2 h in
+      let e : oldest .epoch ≡ k .application .epoch = ⊎-elim (λ (u : oldest .epoch ≡ 2). absurd (ne u)) (λ (u : oldest .epoch ≡ k .application .epoch). u) (under-first (k .application .epoch) 0 0 rs w some (a .under)) in
+      subst (λ (u : SendKeys). Agrees u left) (sym (if-false _ _ h))
+      (record {
+        handshake = other 2 (k .handshake .sealed) (k .handshake .next) ne (a .handshake);
+        application = own (k .application .epoch) (k .application .sealed) (k .application .next) e (a .application) .1;
+        under = under-sealed m (k .application .epoch) rs (a .under);
+        unkeyed = a .unkeyed;
+        epoch = a .epoch;
+        small = a .small;
+      }))
+
+-- other bytes in its part change no number
+pub put-agrees : (k : SendKeys) (rs : List Queued) (v : List ℕ) → Agrees k rs → Agrees k (firstIn (putWith v) rs)
+put-agrees k rs v a = record {
+  handshake = rw (numbers-put v 2 rs) (a .handshake);
+  application = rw (numbers-put v (k .application .epoch) rs) (a .application);
+  under = under-put v (k .application .epoch) rs (a .under);
+  unkeyed = a .unkeyed;
+  epoch = a .epoch;
+  small = a .small;
+}
