@@ -8,3 +8,4 @@ pub mod Sends
 pub mod First
 pub mod Seeks
 pub mod Changes
+pub mod Seals
