@@ -9,3 +9,4 @@ pub mod First
 pub mod Seeks
 pub mod Changes
 pub mod Seals
+pub mod Oldest
