@@ -10,3 +10,4 @@ pub mod Seeks
 pub mod Changes
 pub mod Seals
 pub mod Oldest
+pub mod Takes
