@@ -11,3 +11,4 @@ pub mod Changes
 pub mod Seals
 pub mod Oldest
 pub mod Takes
+pub mod Keying
