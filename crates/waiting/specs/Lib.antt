@@ -12,3 +12,4 @@ pub mod Seals
 pub mod Oldest
 pub mod Takes
 pub mod Keying
+pub mod Pieces

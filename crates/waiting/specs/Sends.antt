@@ -76,6 +76,10 @@ recordOf s e t x = laidAs e t (nextOf (s .keys) e) x
 abbrev pub sentTo : Sending → ℕ → ℕ → List ℕ → List (List Queued) → List (List Queued)
 sentTo s e t x ds = grown (joins (s .queue .mtu) (tailOf (s .queue)) (recordLen e (length x))) ds (recordOf s e t x)
 
+-- it waits, or needs no sealing, and its bytes are as they were laid
+pub record-as-laid : (s : Sending) (e t : ℕ) (x : List ℕ) → AsLaid (recordOf s e t x ∷ [])
+record-as-laid s e t x = by-test (λ (u : Queued). AsLaid (u ∷ [])) (λ z. tt) (λ z. (refl, tt))
+
 -- the state and the memory, where its place is known
 abbrev stateAt : Sending → ℕ → ℕ → Place → Sending
 stateAt s e n p = record {
@@ -104,9 +108,6 @@ module _ (s : Sending) (mem : List ℕ) (ds : List (List Queued)) (h : Holds s m
         short = clear-short (c .clear);
         part = length-append x (trailerOf t e (nextOf (s .keys) e)) ∙ ap (λ (k : ℕ). length x + k) (Rattle.queue.specs.Laid.length-trailer t e (nextOf (s .keys) e));
       })
-
-  record-laid : AsLaid (r ∷ [])
-  record-laid = by-test (λ (u : Queued). AsLaid (u ∷ [])) (λ z. tt) (λ z. (refl, tt))
 
   record-size : length (bytesOf r) ≡ recordLen e (length x)
   record-size = ap length (laid-bytes e t (nextOf (s .keys) e) x) ∙ length-record e t (nextOf (s .keys) e) x
@@ -158,7 +159,7 @@ module _ (s : Sending) (mem : List ℕ) (ds : List (List Queued)) (h : Holds s m
         table = length-set (s .queue .lengths) (slotOf first limit (p .datagram)) (p .offset + length (bytesOf r)) ∙ h .table;
         count = count;
         rows = rows;
-        order = subst InOrder (sym same) (order-append (flat ds) (r ∷ []) (h .order) record-laid);
+        order = subst InOrder (sym same) (order-append (flat ds) (r ∷ []) (h .order) (record-as-laid s e t x));
         oldest = oldest-behind p ∙ sym oldest;
         keys = subst (Agrees (used (s .keys) e)) (sym same) (used-agrees (s .keys) (flat ds) (h .keys) e t x (c .usable) (c .keyed));
       }))
