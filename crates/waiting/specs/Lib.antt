@@ -13,3 +13,4 @@ pub mod Oldest
 pub mod Takes
 pub mod Keying
 pub mod Pieces
+pub mod Example
