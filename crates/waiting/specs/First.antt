@@ -3,7 +3,7 @@ use mathlib.Core.Bool.{Bool, true, false, false≢true}
 use mathlib.Core.List.{List, [], _∷_, _++_, append-assoc}
 use mathlib.Core.Logic.{_⊎_}
 use mathlib.Core.Path.{_≡_, refl, sym, ap, subst, _∙_}
-use Prim.Native.Nat.{ℕ, _+_, _*_, _<_, _≤_}
+use Prim.Native.Nat.{ℕ, suc, _+_, _*_, _<_, _≤_}
 use native.Mathlib.Omega.{arith}
 use lib.Dec.{eqb}
 use lib.ListN.{length, length-append}
@@ -39,13 +39,13 @@ firstOf f (d ∷ ds) = choose (waitsIn d) (firstIn f d ∷ ds) (d ∷ firstOf f 
 module _ (f : Queued → Queued) where
   pub length-in : (rs : List Queued) → length (firstIn f rs) ≡ length rs
   length-in [] = refl
-  length-in (plain t n x ∷ rs) = ap Prim.Native.Nat.suc (length-in rs)
+  length-in (plain t n x ∷ rs) = ap suc (length-in rs)
   length-in (waits e t n x p ∷ rs) = refl
-  length-in (sealed e t n x m p ∷ rs) = ap Prim.Native.Nat.suc (length-in rs)
+  length-in (sealed e t n x m p ∷ rs) = ap suc (length-in rs)
 
   pub length-of : (ds : List (List Queued)) → length (firstOf f ds) ≡ length ds
   length-of [] = refl
-  length-of (d ∷ ds) = by-test (λ (l : List (List Queued)). length l ≡ length (d ∷ ds)) (λ e. refl) (λ e. ap Prim.Native.Nat.suc (length-of ds))
+  length-of (d ∷ ds) = by-test (λ (l : List (List Queued)). length l ≡ length (d ∷ ds)) (λ e. refl) (λ e. ap suc (length-of ds))
 
   in-first : (rs us : List Queued) → waitsIn rs ≡ true → firstIn f (rs ++ us) ≡ firstIn f rs ++ us
   in-first [] us h = absurd (false≢true h)

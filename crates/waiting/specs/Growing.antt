@@ -3,7 +3,7 @@ use mathlib.Core.Bool.{Bool, true, false, false≢true}
 use mathlib.Core.List.{List, [], _∷_, _++_, append-assoc, append-nil}
 use mathlib.Core.Logic.{_⊎_, inl, inr, ⊎-elim}
 use mathlib.Core.Path.{_≡_, refl, sym, ap, subst, _∙_}
-use Prim.Native.Nat.{ℕ, _+_, _-_, _*_, _<_, _≤_}
+use Prim.Native.Nat.{ℕ, suc, _+_, _-_, _*_, _<_, _≤_}
 use native.Mathlib.Nat.{mul-le-mul-right}
 use native.Mathlib.Omega.{arith}
 use lib.Dec.{leb, eqb}
@@ -42,7 +42,7 @@ flat-grown j ds r = by-test (λ (l : List (List Queued)). flat l ≡ flat ds ++ 
 pub length-joined : (ds : List (List Queued)) (r : Queued) → 0 < length ds → length (joined ds r) ≡ length ds
 length-joined [] r h = absurd (omega arith)
 length-joined (d ∷ []) r h = refl
-length-joined (d ∷ e ∷ ds) r h = ap Prim.Native.Nat.suc (length-joined (e ∷ ds) r (omega arith))
+length-joined (d ∷ e ∷ ds) r h = ap suc (length-joined (e ∷ ds) r (omega arith))
 
 -- ---- the oldest that waits
 

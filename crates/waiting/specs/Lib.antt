@@ -14,3 +14,5 @@ pub mod Takes
 pub mod Keying
 pub mod Pieces
 pub mod Example
+pub mod Facts
+pub mod Effects

@@ -99,7 +99,7 @@ module _ (mem : List ℕ) (mtu e t n : ℕ) (x p : List ℕ) (us : List Queued) 
       record { any = refl; epoch = i; number = j; size = ap (λ (u : List ℕ). length u + 17) k; stands = subst (Stands mem (slot * mtu + at)) r (l .0) }
   names-in slot at (sealed e′ t′ n′ x′ m′ p′ ∷ rs) zs w l h y = names-in slot (at + length (bytesOf (sealed e′ t′ n′ x′ m′ p′))) rs zs w (l .1) h y
 
-waiting-later : (rs us : List Queued) → waitsIn rs ≡ false → waitingOf (rs ++ us) ≡ waitingOf us
+pub waiting-later : (rs us : List Queued) → waitsIn rs ≡ false → waitingOf (rs ++ us) ≡ waitingOf us
 waiting-later [] us h = refl
 waiting-later (plain t n x ∷ rs) us h = waiting-later rs us h
 waiting-later (waits e t n x p ∷ rs) us h = absurd (false≢true (sym h))

@@ -11,7 +11,7 @@ use Rattle.base.specs.Choose.{choose, both, either, by-test, test-cases, if-tru
 use Rattle.base.specs.Parts.{splice, length-splice}
 use Rattle.queue.specs.declared.Place.{Place}
 use Rattle.queue.specs.Queue.{isReady, slotOf, lastLen, tailOf, joins, placeOf, laid, startOf, InRange, Ready, Fits, laid-range, joinable-counted, spot}
-use Rattle.queue.specs.Laid.{recordBytes, recordLen, trailerOf, length-record, len-over}
+use Rattle.queue.specs.Laid.{recordBytes, recordLen, trailerOf, length-record, length-trailer, len-over}
 use Rattle.send_keys.specs.Keys.{isUsable, isKeyed, nextOf, used}
 use Rattle.outgoing.specs.declared.Waiting.{Waiting}
 use Rattle.outgoing.specs.declared.Sending.{Sending}
@@ -106,7 +106,7 @@ module _ (s : Sending) (mem : List ℕ) (ds : List (List Queued)) (h : Holds s m
         kind = c .kind;
         number = c .clear .number;
         short = clear-short (c .clear);
-        part = length-append x (trailerOf t e (nextOf (s .keys) e)) ∙ ap (λ (k : ℕ). length x + k) (Rattle.queue.specs.Laid.length-trailer t e (nextOf (s .keys) e));
+        part = length-append x (trailerOf t e (nextOf (s .keys) e)) ∙ ap (λ (k : ℕ). length x + k) (length-trailer t e (nextOf (s .keys) e));
       })
 
   record-size : length (bytesOf r) ≡ recordLen e (length x)
