@@ -16,3 +16,4 @@ pub mod Pieces
 pub mod Example
 pub mod Facts
 pub mod Effects
+pub mod Calls
