@@ -17,3 +17,4 @@ pub mod Example
 pub mod Facts
 pub mod Effects
 pub mod Calls
+pub mod Never
