@@ -1,27 +1,26 @@
 -- Any list of calls that send, on a fresh state: the queue's memory means the datagrams that the calls made, and each call does one of the
 -- five things to them. Assumes nothing.
-use mathlib.Core.Bool.{Bool, true, false, false≢true}
-use mathlib.Core.List.{List, [], _∷_, _++_}
-use mathlib.Core.Path.{_≡_, refl, sym, ap, subst, _∙_}
-use Prim.Native.Nat.{ℕ, _+_, _*_, _<_, _≤_}
-use native.Mathlib.Omega.{arith}
+use mathlib.Core.Bool.{true}
+use mathlib.Core.List.{List, [], _∷_}
+use mathlib.Core.Path.{_≡_, refl}
+use Prim.Native.Nat.{ℕ, _*_, _<_, _≤_}
 use lib.ListN.{length}
-use Rattle.base.specs.Choose.{choose, by-test, test-cases, if-true, if-false}
+use Rattle.base.specs.Choose.{by-test}
 use Rattle.queue.specs.Queue.{isSetting}
 use Rattle.outgoing.specs.declared.Sending.{Sending}
 use Rattle.outgoing.specs.declared.SendAnswer.{SendAnswer}
-use Rattle.outgoing.specs.State.{isDone, freshSending, keyingState}
+use Rattle.outgoing.specs.State.{freshSending, keyingState}
 use Rattle.outgoing.specs.Send.{sendAnswer, sendState, sendMemory}
 use Rattle.flight.specs.declared.Flight.{Flight}
 use Rattle.flight.specs.Flight.{freshFlight, begun}
 use Rattle.flight.specs.Save.{saveAnswer, saveState, saveQueue, saveKept}
 use Rattle.messages.specs.Message.{beginning, messageAnswer, messageState, messageQueue, messageKept}
-use Rattle.sealing.specs.Sealing.{isPut, putMemory, isSealed, sealAnswer, sealedState, sealedMemory}
-use Rattle.sealing.specs.Take.{isTaken, takeAnswer, takeState}
+use Rattle.sealing.specs.Sealing.{isPut, putMemory, sealAnswer, sealedState, sealedMemory}
+use Rattle.sealing.specs.Take.{takeAnswer, takeState}
 use Rattle.waiting.specs.Queued.{Queued, flat, Holds}
 use Rattle.waiting.specs.Fresh.{fresh-holds}
 use Rattle.waiting.specs.Sends.{afterSend, send-holds, save-holds}
-use Rattle.waiting.specs.First.{sealWith, putWith, firstOf, flat-first}
+use Rattle.waiting.specs.First.{sealWith, putWith, flat-first}
 use Rattle.waiting.specs.Seals.{afterPut, afterReply, put-holds, seal-holds}
 use Rattle.waiting.specs.Takes.{afterTaken, taken-settled, take-holds}
 use Rattle.waiting.specs.Keying.{keying-holds}

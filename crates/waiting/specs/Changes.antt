@@ -1,19 +1,19 @@
 -- Where the oldest record that waits lies, and a write over it: the other records stay as they are. Assumes nothing.
-use mathlib.Core.Bool.{Bool, true, false, false≢true}
-use mathlib.Core.List.{List, [], _∷_, _++_}
+use mathlib.Core.Bool.{true, false≢true}
+use mathlib.Core.List.{List, [], _∷_}
 use mathlib.Core.Path.{_≡_, refl, sym, ap, subst, _∙_}
 use Prim.Native.Nat.{ℕ, _+_, _*_, _<_, _≤_}
 use native.Mathlib.Omega.{arith}
-use lib.ListN.{length, getD, length-append}
-use Rattle.base.specs.Choose.{choose, by-test, test-cases, if-true, if-false}
+use lib.ListN.{length, length-append}
+use Rattle.base.specs.Choose.{test-cases, if-true, if-false}
 use Rattle.base.specs.Parts.{part}
 use Rattle.queue.specs.declared.Queue.{Queue}
 use Rattle.queue.specs.Queue.{slotOf, InRange}
 use Rattle.queue.specs.Laid.{recordBytes}
 use Rattle.outgoing.specs.declared.Waiting.{Waiting}
-use Rattle.waiting.specs.Queued.{Queued, plain, waits, sealed, bytesOf, bytes, flat, waitsIn, Sealing, Sound, Stands, Lies, Row, Rows, oldestIn, oldestOf}
+use Rattle.waiting.specs.Queued.{Queued, plain, waits, sealed, bytesOf, bytes, flat, waitsIn, Stands, Lies, Row, Rows, oldestIn, oldestOf}
 use Rattle.waiting.specs.Ring.{Outside, other-slot, slot-apart}
-use Rattle.waiting.specs.Lists.{length-waits, none-in, some-in, waits-append, lies-still}
+use Rattle.waiting.specs.Lists.{length-waits, none-in, waits-append, lies-still}
 use Rattle.waiting.specs.First.{firstIn, firstOf, length-in}
 
 -- ---- where the oldest lies

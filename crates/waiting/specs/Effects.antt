@@ -1,17 +1,16 @@
 -- The five things that a call can do to the records of the queue, and what they leave: a record that waits stays as it lies until it is
 -- sealed, the oldest first; a sealed one stays as it lies until it is taken. Assumes nothing.
-use mathlib.Core.Bool.{Bool, true, false, false≢true}
+use mathlib.Core.Bool.{false, false≢true}
 use mathlib.Core.List.{List, [], _∷_, _++_, append-nil, List·Memᴰ as Mem, List·Memᴰ·head as here, List·Memᴰ·tail as there, List·Memᴰ·cases-cons as mem-cases, List·Memᴰ·append-cases as mem-append, List·Memᴰ·not-nil as mem-nil, Memᴰ·append-left as mem-left}
 use mathlib.Core.Logic.{_⊎_, inl, inr, ⊎-elim}
 use mathlib.Core.Path.{_≡_, refl, sym, ap, subst, _∙_}
-use Prim.Native.Nat.{ℕ, _+_}
+use Prim.Native.Nat.{ℕ}
 use native.Mathlib.Omega.{arith}
-use lib.ListN.{length}
-use Rattle.base.specs.Choose.{choose, by-test, test-cases, if-true, if-false}
-use Rattle.waiting.specs.Queued.{Queued, plain, waits, sealed, flat, waitingOf, waitsIn, AsLaid}
+use Rattle.base.specs.Choose.{test-cases}
+use Rattle.waiting.specs.Queued.{Queued, plain, waits, sealed, waitingOf, waitsIn, AsLaid}
 use Rattle.waiting.specs.Lists.{waiting-append}
-use Rattle.waiting.specs.First.{sealWith, putWith, firstIn, firstOf, flat-first}
-use Rattle.waiting.specs.Oldest.{none-waiting, waiting-some, first-of, waiting-sealed, waiting-put, waiting-later}
+use Rattle.waiting.specs.First.{sealWith, putWith, firstIn}
+use Rattle.waiting.specs.Oldest.{first-of, waiting-sealed, waiting-put, waiting-later}
 
 -- from these records to those
 pub data Effect (rs us : List Queued) : Type 0 where

@@ -1,7 +1,7 @@
 -- The meaning of a queue, computed: epoch 2 is keyed, a record is sent in plaintext and two to be sealed, the first of them is sealed.
 -- Assumes nothing.
-use mathlib.Core.Bool.{Bool, true, false}
-use mathlib.Core.List.{List, [], _∷_, _++_}
+use mathlib.Core.Bool.{true}
+use mathlib.Core.List.{List, [], _∷_}
 use mathlib.Core.Path.{_≡_, refl}
 use Prim.Native.Nat.{ℕ}
 use native.Mathlib.Omega.{arith}
@@ -19,9 +19,9 @@ use Rattle.sealing.specs.Seek.{nthOf, beyond, passed, foundAt, stepOf, seekStep
 use Rattle.sealing.specs.Sealing.{isSpan, isHeld, partStart, maskedHeader, behindOldest, sealAnswer, sealedState, sealedMemory}
 use Rattle.sealing.specs.declared.TakeAnswer.the-variants as take
 use Rattle.sealing.specs.Take.{takeAnswer}
-use Rattle.waiting.specs.Queued.{Queued, plain, waits, sealed, bytes, flat, Holds}
+use Rattle.waiting.specs.Queued.{Queued, plain, waits, sealed, Holds}
 use Rattle.waiting.specs.Fresh.{fresh-holds}
-use Rattle.waiting.specs.Sends.{sentTo, afterSend, send-holds}
+use Rattle.waiting.specs.Sends.{afterSend, send-holds}
 use Rattle.waiting.specs.Seals.{afterReply, seal-holds}
 use Rattle.waiting.specs.Keying.{keying-holds}
 

@@ -1,23 +1,22 @@
 -- What the meaning of a queue tells: each record's bytes lie in the memory; what waits is as it was laid, but for the oldest's part; no
 -- number waits twice, and each is below the next one of its epoch. Assumes nothing.
-use mathlib.Core.Bool.{Bool, true, false, false≢true}
 use mathlib.Core.List.{List, [], _∷_, _++_, List·Memᴰ as Mem, List·Memᴰ·head as here, List·Memᴰ·tail as there, List·Memᴰ·cases-cons as mem-cases, List·Memᴰ·append-cases as mem-append, List·Memᴰ·not-nil as mem-nil}
-use mathlib.Core.Logic.{_⊎_, inl, inr, ⊎-elim}
-use mathlib.Core.Path.{_≡_, refl, sym, ap, subst, _∙_}
+use mathlib.Core.Logic.{_⊎_, ⊎-elim}
+use mathlib.Core.Path.{_≡_, sym, subst, _∙_}
 use Prim.Native.Nat.{ℕ, _+_, _*_, _<_, _≤_}
 use native.Mathlib.Nat.{mul-le-mul-right}
 use native.Mathlib.Omega.{arith}
 use lib.Dec.{eqb}
 use lib.ListN.{length, length-append}
-use borrow.Author.Tests.{eqb-true, eqb-false, eq-eqb, ne-eqb}
-use Rattle.base.specs.Choose.{choose, test-cases, if-true, if-false}
+use borrow.Author.Tests.{eqb-false, eq-eqb, ne-eqb}
+use Rattle.base.specs.Choose.{test-cases, if-true, if-false}
 use Rattle.queue.specs.declared.Queue.{Queue}
 use Rattle.queue.specs.Queue.{slotOf, InRange, slot-lt}
 use Rattle.queue.specs.Laid.{trailerOf}
 use Rattle.send_keys.specs.declared.SendKeys.{SendKeys}
 use Rattle.send_keys.specs.Keys.{nextOf, next-handshake, next-application}
 use Rattle.outgoing.specs.declared.Sending.{Sending}
-use Rattle.waiting.specs.Queued.{Queued, plain, waits, sealed, bytesOf, bytes, flat, waitingOf, numbersOf, Stands, Lies, Rows, AsLaid, InOrder, Runs, Under, Agrees, Holds}
+use Rattle.waiting.specs.Queued.{Queued, plain, waits, sealed, bytesOf, bytes, flat, waitingOf, numbersOf, Stands, Lies, Rows, AsLaid, InOrder, Runs, Under, Holds}
 use Rattle.waiting.specs.Lists.{runs-length}
 
 -- ---- each record's bytes lie in the memory

@@ -1,17 +1,16 @@
 -- The first record that waits, changed: sealed, or with other bytes in its part. Assumes nothing.
-use mathlib.Core.Bool.{Bool, true, false, false≢true}
-use mathlib.Core.List.{List, [], _∷_, _++_, append-assoc}
+use mathlib.Core.Bool.{true, false, false≢true}
+use mathlib.Core.List.{List, [], _∷_, _++_}
 use mathlib.Core.Logic.{_⊎_}
 use mathlib.Core.Path.{_≡_, refl, sym, ap, subst, _∙_}
-use Prim.Native.Nat.{ℕ, suc, _+_, _*_, _<_, _≤_}
-use native.Mathlib.Omega.{arith}
+use Prim.Native.Nat.{ℕ, suc, _+_}
 use lib.Dec.{eqb}
-use lib.ListN.{length, length-append}
-use Rattle.base.specs.Choose.{choose, by-test, test-cases, if-true, if-false}
+use lib.ListN.{length}
+use Rattle.base.specs.Choose.{choose, by-test, test-cases}
 use Rattle.queue.specs.Queue.{slotOf}
 use Rattle.outgoing.specs.declared.Waiting.{Waiting}
-use Rattle.waiting.specs.Queued.{Queued, plain, waits, sealed, bytesOf, bytes, flat, waitingOf, numbersOf, waitsIn, InOrder, oldestIn, oldestOf, Under}
-use Rattle.waiting.specs.Lists.{waits-append, waits-first, laid-order, oldest-append, none-in, some-in}
+use Rattle.waiting.specs.Queued.{Queued, plain, waits, sealed, bytesOf, bytes, flat, numbersOf, waitsIn, InOrder, oldestIn, oldestOf, Under}
+use Rattle.waiting.specs.Lists.{laid-order, oldest-append, none-in, some-in}
 
 -- sealed: the mask on its number, its part as it lies
 abbrev pub sealWith : List ℕ → Queued → Queued

@@ -5,7 +5,7 @@ use mathlib.Core.Logic.{inl}
 use mathlib.Core.Path.{_≡_, refl}
 use Prim.Native.Nat.{ℕ, _*_, _≤_}
 use native.Mathlib.Omega.{arith}
-use lib.ListN.{length, length-replicate}
+use lib.ListN.{length}
 use Rattle.queue.specs.Queue.{isSetting}
 use Rattle.send_keys.specs.Keys.{noEpoch, noKeys}
 use Rattle.outgoing.specs.State.{freshSending}

@@ -1,22 +1,17 @@
 -- A record laid: the datagrams grow by it, joined to the last one or in a new one, and the memory means them. Assumes nothing.
-use mathlib.Core.Bool.{Bool, true, false, false≢true}
+use mathlib.Core.Bool.{Bool}
 use mathlib.Core.List.{List, [], _∷_, _++_, append-assoc, append-nil}
-use mathlib.Core.Logic.{_⊎_, inl, inr, ⊎-elim}
 use mathlib.Core.Path.{_≡_, refl, sym, ap, subst, _∙_}
-use Prim.Native.Nat.{ℕ, suc, _+_, _-_, _*_, _<_, _≤_}
+use Prim.Native.Nat.{ℕ, suc, _+_, _*_, _<_, _≤_}
 use native.Mathlib.Nat.{mul-le-mul-right}
 use native.Mathlib.Omega.{arith}
-use lib.Dec.{leb, eqb}
-use lib.ListN.{length, getD, set, length-append, length-set}
+use lib.ListN.{length, getD, set, length-append}
 use lib.Seq.{getD-set-same, getD-set-other}
-use borrow.Author.Tests.{leb-true, eqb-true, eqb-false, eq-eqb, ne-eqb}
-use Rattle.base.specs.Choose.{choose, both, by-test, test-cases, if-true, if-false, both-left, both-right}
-use Rattle.base.specs.Parts.{part, splice, length-splice, splice-here}
+use Rattle.base.specs.Choose.{choose, by-test}
+use Rattle.base.specs.Parts.{splice, splice-here}
 use Rattle.queue.specs.declared.Queue.{Queue}
-use Rattle.queue.specs.declared.Place.{Place}
-use Rattle.queue.specs.Queue.{slotOf, lastLen, tailOf, joins, placeOf, laid, startOf, InRange, Fits, slot-lt, joinable-counted}
-use Rattle.queue.specs.Laid.{recordBytes, recordLen, length-record, len-over}
-use Rattle.waiting.specs.Queued.{Queued, bytesOf, bytes, laidAs, flat, Sound, Stands, Lies, Row, Rows, oldestIn, oldestOf}
+use Rattle.queue.specs.Queue.{slotOf, laid, InRange, slot-lt}
+use Rattle.waiting.specs.Queued.{Queued, bytesOf, bytes, flat, Sound, Stands, Row, Rows, oldestIn, oldestOf}
 use Rattle.waiting.specs.Ring.{Outside, splice-outside, other-slot, slot-apart}
 use Rattle.waiting.specs.Lists.{length-bytes, flat-snoc, oldest-append, lies-still, lies-append}
 use Rattle.outgoing.specs.declared.Waiting.{Waiting}

@@ -1,14 +1,14 @@
 -- Keying an epoch to send in (01, refusals 12, 13, 23): the queue means the same; 23 exactly if a sealing under the application epoch waits.
 -- Assumes nothing.
-use mathlib.Core.Bool.{Bool, true, false, false≢true}
+use mathlib.Core.Bool.{true, false≢true}
 use mathlib.Core.List.{List, [], _∷_, _++_}
-use mathlib.Core.Logic.{_⊎_, inl, inr, ⊎-elim}
+use mathlib.Core.Logic.{inl, inr, ⊎-elim}
 use mathlib.Core.Path.{_≡_, refl, sym, ap, subst, _∙_}
 use Prim.Native.Nat.{ℕ, _+_, _*_, _<_, _≤_}
 use native.Mathlib.Omega.{arith}
 use lib.Dec.{ltb, leb, eqb}
 use lib.ListN.{length}
-use borrow.Author.Tests.{ltb-true, ltb-false, leb-true, leb-false, eqb-true, eqb-false, eq-eqb, ne-eqb, lt-ltb, le-ltb}
+use borrow.Author.Tests.{ltb-true, ltb-false, leb-false, eqb-true, eqb-false, ne-eqb, lt-ltb, le-ltb}
 use Rattle.base.specs.Choose.{choose, by-test, test-cases, if-true, if-false}
 use Rattle.queue.specs.declared.Queue.{Queue}
 use Rattle.queue.specs.Queue.{slotOf, isSound, sound-again}
@@ -17,7 +17,7 @@ use Rattle.send_keys.specs.declared.KeyAnswer.{KeyAnswer}
 use Rattle.send_keys.specs.declared.KeyAnswer.the-variants as key
 use Rattle.send_keys.specs.Keys.{keyAnswer, keyed}
 use Rattle.outgoing.specs.declared.Sending.{Sending}
-use Rattle.outgoing.specs.State.{withKeys, isKeyedNow, keyingState}
+use Rattle.outgoing.specs.State.{isKeyedNow, keyingState}
 use Rattle.waiting.specs.Queued.{Queued, plain, waits, sealed, bytesOf, flat, numbersOf, Lies, Rows, Runs, Under, Agrees, Holds}
 use Rattle.waiting.specs.Lists.{numbers-append, runs-length}
 

@@ -1,22 +1,21 @@
 -- Laws of lists of queued records: one behind another, none that waits, the first that waits. Assumes nothing.
-use mathlib.Core.Bool.{Bool, true, false, false≢true}
-use mathlib.Core.List.{List, [], _∷_, _++_, append-assoc, append-nil}
+use mathlib.Core.Bool.{true, false, false≢true}
+use mathlib.Core.List.{List, [], _∷_, _++_, append-assoc}
 use mathlib.Core.Path.{_≡_, refl, sym, ap, _∙_}
-use Prim.Native.Nat.{ℕ, _+_, _*_, _<_, _≤_}
-use native.Mathlib.Nat.{add-assoc}
+use Prim.Native.Nat.{ℕ, _+_, _≤_}
 use native.Mathlib.Omega.{arith}
 use lib.Dec.{eqb}
 use lib.ListN.{length, length-append}
 use borrow.Author.Tests.{eqb-true, eqb-false}
-use Rattle.base.specs.Choose.{choose, by-test, test-cases, if-true, if-false}
+use Rattle.base.specs.Choose.{by-test, test-cases, if-true, if-false}
 use Rattle.base.specs.Parts.{part}
 use Rattle.record.specs.Record.{unifiedHeader}
 use Rattle.queue.specs.Queue.{slotOf}
-use Rattle.queue.specs.Laid.{recordBytes, recordLen, trailerOf, length-record, len-plaintext, len-ciphertext, bytes-ciphertext, length-unified, length-trailer, len-over}
+use Rattle.queue.specs.Laid.{recordBytes, length-record, len-plaintext, bytes-ciphertext, length-unified}
 use Rattle.outgoing.specs.declared.Waiting.{Waiting}
 use Rattle.outgoing.specs.State.{noWaiting}
 use Rattle.sealing.specs.Sealing.{maskedHeader, length-masked}
-use Rattle.waiting.specs.Queued.{Queued, plain, waits, sealed, bytesOf, bytes, laidAs, flat, waitingOf, numbersOf, waitsIn, Sealing, Plain, Sound, Stands, Lies, Row, AsLaid, InOrder, oldestIn, oldestOf, Runs, Under}
+use Rattle.waiting.specs.Queued.{Queued, plain, waits, sealed, bytesOf, bytes, laidAs, flat, waitingOf, numbersOf, waitsIn, Sound, Lies, AsLaid, InOrder, oldestIn, oldestOf, Runs, Under}
 
 -- ---- lengths
 

@@ -1,41 +1,39 @@
 -- No list of calls that send, on a fresh state with buffers long enough, meets 12. Assumes nothing.
-use mathlib.Core.Bool.{Bool, true, false, false≢true, true≢false}
-use mathlib.Core.List.{List, [], _∷_, _++_}
-use mathlib.Core.Path.{_≡_, refl, sym, ap, subst, _∙_}
-use Prim.Native.Nat.{ℕ, zero, suc, _+_, _-_, _*_, _<_, _≤_}
+use mathlib.Core.Bool.{true}
+use mathlib.Core.List.{List, [], _∷_}
+use mathlib.Core.Path.{_≡_, refl, sym, subst, _∙_}
+use Prim.Native.Nat.{ℕ, zero, suc, _+_, _-_, _*_, _≤_}
 use native.Mathlib.Omega.{arith}
-use lib.Dec.{ltb, leb, eqb}
 use lib.ListN.{length}
-use borrow.Author.Tests.{le-leb, leb-true}
+use borrow.Author.Tests.{le-leb}
 use Rattle.base.specs.Choose.{choose, by-test, test-cases, if-true, if-false, both-true}
-use Rattle.base.specs.Parts.{splice, length-splice}
-use Rattle.queue.specs.Queue.{isSetting, isSound, isReady, lastLen, laid}
+use Rattle.base.specs.Parts.{length-splice}
+use Rattle.queue.specs.Queue.{isSetting, isReady, lastLen, laid}
 use Rattle.send_keys.specs.declared.KeyAnswer.{KeyAnswer}
 use Rattle.send_keys.specs.Keys as keys
-use Rattle.send_keys.specs.Keys.{keyAnswer}
 use Rattle.outgoing.specs.declared.Sending.{Sending}
 use Rattle.outgoing.specs.declared.SendAnswer.{SendAnswer}
 use Rattle.outgoing.specs.State as sends
 use Rattle.outgoing.specs.State.{isDone, freshSending, keyingState}
-use Rattle.outgoing.specs.Send.{laidState, sendAnswer, sendState, sendMemory}
+use Rattle.outgoing.specs.Send.{laidState, sendAnswer, sendState}
 use Rattle.flight.specs.declared.Flight.{Flight}
 use Rattle.flight.specs.declared.Begun.{Begun}
 use Rattle.flight.specs.declared.Saved.{Saved}
 use Rattle.flight.specs.Flight.{isKept, freshFlight, begun, savedWith, savedMemory}
-use Rattle.flight.specs.Save.{saveAnswer, saveState, saveQueue, saveKept, save-safe, kept-fits}
+use Rattle.flight.specs.Save.{saveAnswer, saveState, saveKept, save-safe, kept-fits}
 use Rattle.messages.specs.Cut.{epochOf, overhead, size-rest}
-use Rattle.messages.specs.Message.{contentOf, Laid, pieceOf, sizeNow, sendAll, beginning, messageAnswer, messageState, messageQueue, messageKept, length-content}
+use Rattle.messages.specs.Message.{contentOf, Laid, pieceOf, sizeNow, sendAll, beginning, messageAnswer, messageState, messageKept, length-content}
 use Rattle.sealing.specs.declared.SealAnswer.{SealAnswer}
 use Rattle.sealing.specs.declared.TakeAnswer.{TakeAnswer}
 use Rattle.sealing.specs.Sealing as seals
-use Rattle.sealing.specs.Sealing.{sealAnswer, sealedState, questionOf}
+use Rattle.sealing.specs.Sealing.{sealAnswer, sealedState}
 use Rattle.sealing.specs.Take as takes
 use Rattle.sealing.specs.Take.{takeAnswer, takeState}
-use Rattle.waiting.specs.Queued.{Queued, flat, bytes, waitsIn, Holds}
+use Rattle.waiting.specs.Queued.{Queued, Holds}
 use Rattle.waiting.specs.Seals.{ready-always, seal-told}
 use Rattle.waiting.specs.Takes.{takeTold, take-told}
 use Rattle.waiting.specs.Keying.{keying-told}
-use Rattle.waiting.specs.Calls.{End, Call, key, send, save, message, begin, put, reply, take, does, after, Narrow, AllNarrow, run, meant, fresh, call-holds, run-holds, always-holds}
+use Rattle.waiting.specs.Calls.{End, Call, key, send, save, message, begin, put, reply, take, does, AllNarrow, run, meant, fresh, always-holds}
 
 -- the number that a call answers; 0 where it is done, and where the host writes
 abbrev pub numberOf : End → Call → ℕ

@@ -1,20 +1,19 @@
 -- What the keys know of the records that wait: kept when a number is used, when the oldest is sealed, when an epoch is keyed.
 -- Assumes nothing.
-use mathlib.Core.Bool.{true, false}
+use mathlib.Core.Bool.{true}
 use mathlib.Core.List.{List, [], _∷_, _++_, append-nil}
-use mathlib.Core.Logic.{_⊎_, inl, inr, ⊎-elim}
+use mathlib.Core.Logic.{inl, inr, ⊎-elim}
 use mathlib.Core.Path.{_≡_, refl, sym, ap, subst, _∙_}
 use Prim.Native.Nat.{ℕ, _+_, _<_, _≤_}
 use native.Mathlib.Omega.{arith}
 use lib.Dec.{leb, eqb}
-use lib.ListN.{length}
-use borrow.Author.Tests.{leb-true, eqb-true, eqb-false, eq-eqb, ne-eqb}
-use Rattle.base.specs.Choose.{choose, both, either, by-test, test-cases, if-true, if-false, both-left, both-right, either-true, either-false}
+use borrow.Author.Tests.{eqb-true, eqb-false, eq-eqb, ne-eqb}
+use Rattle.base.specs.Choose.{both, by-test, test-cases, if-true, if-false, both-right, either-false}
 use Rattle.queue.specs.Laid.{trailerOf}
 use Rattle.send_keys.specs.declared.SendKeys.{SendKeys}
-use Rattle.send_keys.specs.Keys.{isUsable, isKeyed, nextOf, used, withNext, sealedUpTo, next-handshake, next-application}
+use Rattle.send_keys.specs.Keys.{isUsable, isKeyed, nextOf, used, sealedUpTo, next-handshake, next-application}
 use Rattle.outgoing.specs.declared.Waiting.{Waiting}
-use Rattle.waiting.specs.Queued.{Queued, plain, waits, sealed, laidAs, numbersOf, waitsIn, oldestIn, Runs, Under, Agrees}
+use Rattle.waiting.specs.Queued.{Queued, plain, waits, sealed, laidAs, numbersOf, waitsIn, oldestIn, Runs, Agrees}
 use Rattle.waiting.specs.First.{sealWith, putWith, firstIn, under-sealed, numbers-sealed, under-first, under-put, numbers-put}
 use Rattle.waiting.specs.Lists.{numbers-append, under-append, runs-snoc, runs-length}
 

@@ -1,11 +1,11 @@
 -- The state names the first record that waits: its epoch, number, length and place; and the question shows it. Assumes nothing.
-use mathlib.Core.Bool.{Bool, true, false, false≢true}
+use mathlib.Core.Bool.{true, false, false≢true}
 use mathlib.Core.List.{List, [], _∷_, _++_}
 use mathlib.Core.Path.{_≡_, refl, sym, ap, subst, _∙_}
 use Prim.Native.Nat.{ℕ, _+_, _-_, _*_}
 use native.Mathlib.Omega.{arith}
 use lib.ListN.{length, length-append}
-use Rattle.base.specs.Choose.{choose, both, by-test, test-cases, if-true, if-false, both-true}
+use Rattle.base.specs.Choose.{test-cases, if-true, if-false, both-true}
 use Rattle.base.specs.Parts.{part}
 use Rattle.record.specs.Record.{unifiedHeader}
 use Rattle.dtls_aead.specs.Nonce.{nonceOf}
@@ -17,13 +17,12 @@ use Rattle.outgoing.specs.declared.Waiting.{Waiting}
 use Rattle.outgoing.specs.declared.Sending.{Sending}
 use Rattle.outgoing.specs.State.{noWaiting}
 use Rattle.sealing.specs.declared.SealQuestion.the-variants as ask
-use Rattle.sealing.specs.declared.Question.{Question}
-use Rattle.sealing.specs.Sealing.{isHeld, isAsked, partStart, asked, nothingAsked, questionOf, partOf}
+use Rattle.sealing.specs.Sealing.{isAsked, partStart, nothingAsked, questionOf, partOf}
 use Rattle.waiting.specs.Queued.{Queued, plain, waits, sealed, bytesOf, flat, waitingOf, waitsIn, Stands, Lies, Rows, oldestIn, oldestOf, Holds}
 use Rattle.waiting.specs.Ring.{part-left, part-right}
-use Rattle.waiting.specs.Lists.{waits-append, none-in}
-use Rattle.waiting.specs.First.{sealWith, putWith, firstIn, firstOf, flat-first}
-use Rattle.waiting.specs.Seals.{any-same, held-again, ready-always, question-told}
+use Rattle.waiting.specs.Lists.{none-in}
+use Rattle.waiting.specs.First.{sealWith, putWith, firstIn}
+use Rattle.waiting.specs.Seals.{held-again, ready-always, question-told}
 
 -- ---- those that wait
 

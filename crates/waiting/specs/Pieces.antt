@@ -1,8 +1,7 @@
 -- A handshake message: each piece is a saved send, so the queue means the same datagrams and the pieces' records behind them, in order.
 -- Assumes nothing.
-use mathlib.Core.Bool.{Bool, true, false}
 use mathlib.Core.List.{List, [], _∷_, _++_, append-assoc, append-nil}
-use mathlib.Core.Path.{_≡_, refl, sym, ap, subst, _∙_}
+use mathlib.Core.Path.{_≡_, sym, ap, subst, _∙_}
 use Prim.Native.Nat.{ℕ, zero, suc, _+_, _-_, _≤_}
 use native.Mathlib.Omega.{arith}
 use lib.Dec.{eqb}
@@ -19,7 +18,7 @@ use Rattle.messages.specs.Cut.{epochOf, overhead, size-rest}
 use Rattle.messages.specs.Message.{contentOf, Laid, pieceOf, sizeNow, sendAll, numbered, beginning, sentAll, messageState, messageQueue, length-content}
 use Rattle.waiting.specs.Queued.{Queued, flat, AsLaid, Holds}
 use Rattle.waiting.specs.Lists.{laid-append}
-use Rattle.waiting.specs.Sends.{recordOf, sentTo, afterSend, save-holds, sent-last, record-as-laid}
+use Rattle.waiting.specs.Sends.{recordOf, afterSend, save-holds, sent-last, record-as-laid}
 
 -- the content of a piece
 abbrev pub pieceContent : ℕ → List ℕ → ℕ → ℕ → Sending → List ℕ

@@ -10,7 +10,7 @@ use lib.Dec.{ltb, leb}
 use lib.ListN.{length, take, drop}
 use lib.Seq.{take-add, drop-drop, take-take, take-at, drop-at}
 use borrow.Author.Tests.{ltb-true, ltb-false, leb-true, leb-false}
-use Rattle.base.specs.Choose.{choose, by-test, test-cases, if-true, if-false, lt-or-ge}
+use Rattle.base.specs.Choose.{choose, by-test, lt-or-ge}
 use Rattle.base.specs.Parts.{part, splice, length-splice, splice-before, splice-after}
 use Rattle.queue.specs.Queue.{slotOf}
 use Rattle.sealing.specs.Seek.{nthOf}

@@ -1,18 +1,18 @@
 -- The sealing question, the host's bytes in the part that is lent, and the reply (01: "Sealings are asked oldest first and never
 -- cancelled"): the first record that waits becomes sealed, the others stay as they are. Assumes nothing.
-use mathlib.Core.Bool.{Bool, true, false, false≢true}
-use mathlib.Core.List.{List, [], _∷_, _++_}
+use mathlib.Core.Bool.{Bool, true, false≢true}
+use mathlib.Core.List.{List}
 use mathlib.Core.Path.{_≡_, refl, sym, ap, subst, _∙_}
 use Prim.Native.Nat.{ℕ, _+_, _-_, _*_, _<_, _≤_}
 use native.Mathlib.Nat.{mul-le-mul-right}
 use native.Mathlib.Omega.{arith}
-use lib.Dec.{ltb, leb, eqb}
+use lib.Dec.{eqb}
 use lib.ListN.{length, length-append}
 use borrow.Author.Tests.{eqb-true, lt-ltb, le-leb}
-use Rattle.base.specs.Choose.{choose, both, by-test, test-cases, if-true, if-false, both-left, both-right, both-true}
-use Rattle.base.specs.Parts.{part, splice, length-splice, splice-here}
+use Rattle.base.specs.Choose.{choose, by-test, test-cases, if-true, if-false, both-left, both-right, both-true}
+use Rattle.base.specs.Parts.{part, splice, splice-here}
 use Rattle.record.specs.Record.{unifiedHeader}
-use Rattle.queue.specs.Queue.{slotOf, InRange, isReady, isSound, ready-again, sound-again, slot-lt}
+use Rattle.queue.specs.Queue.{isReady, ready-again, sound-again, slot-lt}
 use Rattle.queue.specs.Laid.{length-unified}
 use Rattle.send_keys.specs.declared.SendKeys.{SendKeys}
 use Rattle.send_keys.specs.Keys.{sealedUpTo}
@@ -21,16 +21,15 @@ use Rattle.outgoing.specs.declared.Sending.{Sending}
 use Rattle.outgoing.specs.State.{noWaiting}
 use Rattle.sealing.specs.declared.SealAnswer.{SealAnswer}
 use Rattle.sealing.specs.declared.SealAnswer.the-variants as reply
-use Rattle.sealing.specs.declared.Question.{Question}
 use Rattle.sealing.specs.Seek.{seek}
-use Rattle.sealing.specs.Sealing.{isSpan, isHeld, isAsked, isPut, partStart, asked, nothingAsked, questionOf, partOf, putMemory, maskedHeader, behindOldest, sealAnswer, isSealed, afterSealing, sealedState, sealedMemory, length-masked}
+use Rattle.sealing.specs.Sealing.{isSpan, isHeld, isAsked, isPut, partStart, asked, nothingAsked, questionOf, putMemory, maskedHeader, behindOldest, sealAnswer, isSealed, afterSealing, sealedState, sealedMemory, length-masked}
 use Rattle.sealing.specs.declared.SealQuestion.the-variants as ask
-use Rattle.waiting.specs.Queued.{Queued, plain, waits, sealed, bytesOf, flat, waitsIn, waitingOf, Sealing, Sound, Stands, Rows, InOrder, oldestIn, oldestOf, Agrees, Holds}
+use Rattle.waiting.specs.Queued.{Queued, flat, waitsIn, InOrder, oldestIn, oldestOf, Agrees, Holds}
 use Rattle.waiting.specs.Ring.{Outside, splice-outside, part-join, part-left, part-right}
 use Rattle.waiting.specs.Lists.{length-waits, length-sealed, any-waits}
 use Rattle.waiting.specs.First.{sealWith, putWith, firstIn, firstOf, length-of, flat-first, Same, oldest-flat, order-sealed, order-put, oldest-put}
 use Rattle.waiting.specs.Seeks.{steps-enough, seek-exact}
-use Rattle.waiting.specs.Changes.{Within, Found, Became, Writes, oldest-found, first-rows}
+use Rattle.waiting.specs.Changes.{Found, Writes, oldest-found, first-rows}
 use Rattle.waiting.specs.Numbers.{sealed-agrees, put-agrees}
 
 module _ (s : Sending) (mem : List ℕ) (ds : List (List Queued)) (h : Holds s mem ds) where

@@ -1,29 +1,27 @@
 -- The search for the next record that waits is exact: from behind the oldest it passes plaintext records and finds the next one that
 -- waits, with its epoch and number, or none where none does; 2,000 steps are enough. Assumes nothing.
-use mathlib.Core.Bool.{Bool, true, false, false≢true}
+use mathlib.Core.Bool.{true, false, false≢true}
 use mathlib.Core.List.{List, [], _∷_, _++_, append-assoc}
 use mathlib.Core.Path.{_≡_, refl, sym, ap, subst, _∙_}
-use Prim.Native.Nat.{ℕ, zero, suc, _+_, _-_, _*_, _%_, _^_, _<_, _≤_}
+use Prim.Native.Nat.{ℕ, zero, suc, _+_, _-_, _*_, _<_, _≤_}
 use native.Mathlib.Nat.{mod-eq-of-lt}
 use native.Mathlib.Omega.{arith}
-use lib.Dec.{ltb, leb, eqb}
-use lib.ListN.{length, getD, take, drop, length-append}
-use borrow.Author.Tests.{leb-true, le-leb, lt-leb, eq-eqb, ne-eqb}
+use lib.ListN.{length, getD, length-append}
+use borrow.Author.Tests.{le-leb, lt-leb}
 use Rattle.base.specs.Bytes.{be, beAt, beAt-be, beAt-behind}
-use Rattle.base.specs.Choose.{choose, both, either, by-test, test-cases, if-true, if-false, both-true}
+use Rattle.base.specs.Choose.{choose, either, test-cases, if-true, if-false, both-true}
 use Rattle.base.specs.Parts.{part}
 use Rattle.record.specs.declared.Parsed.{Parsed}
-use Rattle.record.specs.declared.Parsed.the-variants as read
 use Rattle.record.specs.Record.{isType, parsed, unifiedHeader}
 use Rattle.queue.specs.declared.Queue.{Queue}
 use Rattle.queue.specs.Queue.{slotOf, InRange}
-use Rattle.queue.specs.Laid.{recordBytes, trailerOf, bytes-ciphertext, length-unified, length-trailer}
+use Rattle.queue.specs.Laid.{recordBytes, trailerOf, bytes-ciphertext, length-unified}
 use Rattle.outgoing.specs.declared.Waiting.{Waiting}
 use Rattle.outgoing.specs.State.{noWaiting, isContentType}
 use Rattle.written.specs.ReadBack.{sealed-back, plain-back}
 use Rattle.sealing.specs.declared.Search.{Search}
 use Rattle.sealing.specs.Seek.{nthOf, beyond, passed, foundAt, stepOf, recordAt, stepIn, seekStep, seek, seek-done, seek-on}
-use Rattle.waiting.specs.Queued.{Queued, plain, waits, sealed, bytesOf, bytes, flat, waitsIn, Plain, Sealing, Sound, Stands, Lies, Row, Rows, AsLaid, InOrder, oldestIn, oldestOf}
+use Rattle.waiting.specs.Queued.{Queued, plain, waits, sealed, bytesOf, bytes, flat, waitsIn, Plain, Sealing, Lies, Rows, AsLaid, InOrder, oldestIn, oldestOf}
 use Rattle.waiting.specs.First.{sealWith, firstIn, firstOf}
 use Rattle.waiting.specs.Ring.{part-join, nth-slot}
 use Rattle.waiting.specs.Lists.{length-plain, length-waits, length-sealed, long, laid-split, order-later, none-in, waits-append}

@@ -4,24 +4,23 @@ use mathlib.Core.List.{List, [], _∷_, _++_}
 use mathlib.Core.Path.{_≡_, refl, sym, ap, subst, _∙_}
 use Prim.Native.Nat.{ℕ, _+_, _-_, _*_, _<_, _≤_}
 use native.Mathlib.Omega.{arith}
-use lib.Dec.{ltb, leb, eqb}
-use lib.ListN.{length, getD, set, length-append, length-set}
-use borrow.Author.Tests.{leb-true, leb-false, eqb-true, eqb-false, eq-eqb, ne-eqb, ltb-true}
-use Rattle.base.specs.Choose.{choose, both, either, by-test, test-cases, if-true, if-false, both-left, both-right, either-true, either-false}
+use lib.Dec.{eqb}
+use lib.ListN.{length, getD, length-append, length-set}
+use borrow.Author.Tests.{leb-true, eqb-true, eqb-false, ne-eqb}
+use Rattle.base.specs.Choose.{choose, by-test, test-cases, if-true, if-false, both-left, both-right, either-true, either-false}
 use Rattle.base.specs.Parts.{splice, length-splice}
 use Rattle.queue.specs.declared.Place.{Place}
-use Rattle.queue.specs.Queue.{isReady, slotOf, lastLen, tailOf, joins, placeOf, laid, startOf, InRange, Ready, Fits, laid-range, joinable-counted, spot}
-use Rattle.queue.specs.Laid.{recordBytes, recordLen, trailerOf, length-record, length-trailer, len-over}
+use Rattle.queue.specs.Queue.{slotOf, lastLen, tailOf, joins, placeOf, laid, startOf, Ready, Fits, laid-range, joinable-counted, spot}
+use Rattle.queue.specs.Laid.{recordBytes, recordLen, trailerOf, length-record, length-trailer}
 use Rattle.send_keys.specs.Keys.{isUsable, isKeyed, nextOf, used}
 use Rattle.outgoing.specs.declared.Waiting.{Waiting}
 use Rattle.outgoing.specs.declared.Sending.{Sending}
 use Rattle.outgoing.specs.declared.SendAnswer.{SendAnswer}
 use Rattle.outgoing.specs.State.{noWaiting, isDone, isAllowed, isContentType}
-use Rattle.outgoing.specs.Send.{spotOf, isFull, isSpent, waitsBehind, laidState, laidMemory, sendAnswer, sendState, sendMemory, Clear, send-clear, clear-fits, clear-short}
+use Rattle.outgoing.specs.Send.{spotOf, waitsBehind, laidState, laidMemory, sendAnswer, sendState, sendMemory, Clear, send-clear, clear-short}
 use Rattle.flight.specs.declared.Flight.{Flight}
-use Rattle.flight.specs.Flight.{isKept}
 use Rattle.flight.specs.Save.{saveAnswer, saveState, saveQueue, save-safe}
-use Rattle.waiting.specs.Queued.{Queued, plain, waits, bytesOf, laidAs, flat, waitsIn, Plain, Sealing, Sound, Rows, AsLaid, InOrder, oldestIn, oldestOf, Agrees, Holds}
+use Rattle.waiting.specs.Queued.{Queued, bytesOf, laidAs, flat, waitsIn, Sound, Rows, AsLaid, InOrder, oldestIn, oldestOf, Agrees, Holds}
 use Rattle.waiting.specs.Lists.{laid-bytes, order-append, none-of, some-of, any-waits, flat-snoc}
 use Rattle.waiting.specs.Growing.{joined, grown, flat-joined, flat-grown, length-joined, oldest-new, rows-new, rows-joined, oldest-joined}
 use Rattle.waiting.specs.Numbers.{used-agrees, usable-small}

@@ -3,15 +3,14 @@
 use mathlib.Core.Bool.{Bool, true, false, false≢true}
 use mathlib.Core.List.{List, [], _∷_, _++_}
 use mathlib.Core.Path.{_≡_, refl, sym, ap, subst, _∙_}
-use Prim.Native.Nat.{ℕ, _+_, _-_, _*_, _<_, _≤_}
+use Prim.Native.Nat.{ℕ, _+_, _*_, _≤_}
 use native.Mathlib.Omega.{arith}
-use lib.Dec.{ltb, leb, eqb}
-use lib.ListN.{length, getD}
+use lib.Dec.{ltb, eqb}
+use lib.ListN.{length}
 use borrow.Author.Tests.{eq-eqb, ne-eqb, le-leb}
-use Rattle.base.specs.Choose.{choose, both, by-test, test-cases, if-true, if-false, both-true, both-false}
+use Rattle.base.specs.Choose.{choose, by-test, test-cases, if-true, if-false, both-true, both-false}
 use Rattle.base.specs.Parts.{part, splice}
-use Rattle.queue.specs.declared.Queue.{Queue}
-use Rattle.queue.specs.Queue.{slotOf, InRange, isReady}
+use Rattle.queue.specs.Queue.{slotOf}
 use Rattle.send_keys.specs.declared.SendKeys.{SendKeys}
 use Rattle.outgoing.specs.declared.Waiting.{Waiting}
 use Rattle.outgoing.specs.declared.Sending.{Sending}
@@ -19,11 +18,11 @@ use Rattle.outgoing.specs.State.{noWaiting}
 use Rattle.sealing.specs.declared.TakeAnswer.{TakeAnswer}
 use Rattle.sealing.specs.declared.TakeAnswer.the-variants as take
 use Rattle.sealing.specs.Take.{frontLen, isFront, nextSlot, takeAnswer, isTaken, afterTake, takeState, takeBuffer}
-use Rattle.waiting.specs.Queued.{Queued, plain, waits, sealed, bytes, flat, numbersOf, waitsIn, Row, Rows, InOrder, oldestIn, oldestOf, Runs, Under, Agrees, Holds}
+use Rattle.waiting.specs.Queued.{Queued, plain, waits, sealed, bytes, flat, numbersOf, waitsIn, Row, Rows, oldestIn, oldestOf, Under, Agrees, Holds}
 use Rattle.waiting.specs.Ring.{slot-front, slot-apart, slot-next, next-slot}
 use Rattle.waiting.specs.Lists.{order-later, none-in, any-waits, some-in}
 use Rattle.waiting.specs.Seeks.{lies-bytes}
-use Rattle.waiting.specs.Changes.{Found, oldest-found}
+use Rattle.waiting.specs.Changes.{oldest-found}
 use Rattle.waiting.specs.Seals.{ready-always}
 
 -- ---- records of which none waits
