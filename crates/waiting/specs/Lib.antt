@@ -18,3 +18,4 @@ pub mod Facts
 pub mod Effects
 pub mod Calls
 pub mod Never
+pub mod Replies

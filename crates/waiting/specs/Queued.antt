@@ -140,6 +140,10 @@ oldestOf first limit i (d ∷ ds) w = oldestIn (slotOf first limit i) 0 d (oldes
 
 -- ---- what the keys know of it
 
+-- the first number of an epoch that is not sealed yet
+abbrev pub sealedOf : SendKeys → ℕ → ℕ
+sealedOf k e = choose (eqb e 2) (k .handshake .sealed) (k .application .sealed)
+
 -- a list is a, a + 1 and so on, up to b
 abbrev pub Runs : ℕ → ℕ → List ℕ → Type 0
 Runs a b [] = a ≡ b
