@@ -19,3 +19,4 @@ pub mod Effects
 pub mod Calls
 pub mod Never
 pub mod Replies
+pub mod Asked

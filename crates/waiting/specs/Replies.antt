@@ -2,27 +2,26 @@
 -- answers the first, whose bytes are then masked header and part. Assumes nothing.
 use mathlib.Core.Bool.{true}
 use mathlib.Core.List.{List, [], _∷_, _++_, List·Memᴰ as Mem, List·Memᴰ·head as here, List·Memᴰ·tail as there}
-use mathlib.Core.Path.{_≡_, refl, sym, ap, subst, _∙_}
+use mathlib.Core.Path.{_≡_, sym, ap, subst, _∙_}
 use mathlib.Core.Logic.{⊎-elim}
-use Prim.Native.Nat.{ℕ, _+_, _-_, _*_, _≤_}
+use Prim.Native.Nat.{ℕ, _+_, _-_, _*_}
 use native.Mathlib.Omega.{arith}
 use lib.Dec.{eqb}
-use lib.ListN.{length, length-append}
-use borrow.Author.Tests.{eq-eqb, ne-eqb, eqb-true, eqb-false}
+use lib.ListN.{length}
+use borrow.Author.Tests.{eq-eqb, eqb-true, eqb-false}
 use Rattle.base.specs.Choose.{choose, by-test, test-cases, if-true, if-false}
 use Rattle.base.specs.Parts.{part, splice}
 use Rattle.queue.specs.Laid.{trailerOf}
 use Rattle.send_keys.specs.declared.SendKeys.{SendKeys}
 use Rattle.send_keys.specs.Keys.{nextOf, sealedUpTo}
 use Rattle.outgoing.specs.declared.Sending.{Sending}
-use Rattle.sealing.specs.declared.SealAnswer.{SealAnswer}
-use Rattle.sealing.specs.Sealing.{partStart, maskedHeader, sealAnswer, isSealed, sealedState, sealedMemory, length-masked}
+use Rattle.sealing.specs.Sealing.{partStart, maskedHeader, sealAnswer, isSealed, sealedState, sealedMemory}
 use Rattle.waiting.specs.Queued.{Queued, plain, waits, sealed, bytesOf, flat, waitingOf, numbersOf, sealedOf, Runs, Under, Agrees, Holds}
 use Rattle.waiting.specs.Lists.{waiting-append, length-sealed}
 use Rattle.waiting.specs.First.{sealWith, firstIn, firstOf, flat-first}
 use Rattle.waiting.specs.Sends.{sentTo, sent-last}
 use Rattle.waiting.specs.Seals.{afterReply, seal-writes, sealed-tests}
-use Rattle.waiting.specs.Oldest.{Names, names-first, waiting-sealed}
+use Rattle.waiting.specs.Oldest.{names-first, waiting-sealed}
 
 -- ---- a send
 
