@@ -1,0 +1,3 @@
+pub mod Lay
+pub mod Leaves
+pub mod Whole
