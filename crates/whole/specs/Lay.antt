@@ -59,6 +59,7 @@ pub record Placed (kind : ℕ) (body : List ℕ) (at n : ℕ) (l : Laid) : Type 
   pub saved : l .saved .flight .saved < 12
   pub space : l .saved .flight .saved * l .saved .state .queue .mtu + length (contentOf kind (l .saved .state .«message_seq») body at n) ≤ length (l .kept)
   pub short : 12 + n ≤ l .saved .state .queue .mtu
+  pub room : startOf (l .saved .state .queue) (spotOf (l .saved .state) (epochOf kind) (12 + n)) + recordLen (epochOf kind) (12 + n) ≤ length (l .queue)
 
 -- pieces of these sizes, each at its place behind those before it
 abbrev pub AllPlaced : ℕ → List ℕ → ℕ → List ℕ → Laid → Type 0
@@ -194,10 +195,14 @@ module _ (k kind : ℕ) (body : List ℕ) (at : ℕ) (l : Laid) (a : Able (suc k
 
   -- ---- what the piece leaves
 
+  in-queue : startOf (s .queue) (spotOf s e (12 + n)) + recordLen e (12 + n) ≤ length (l .queue)
+  unfolding startOf
+  in-queue = omega (arith, spot (a .ready) place-fits .space)
+
   laid-fits : startOf (s .queue) (spotOf s e (length content)) + length (recordBytes e 22 (nextOf (s .keys) e) content) ≤ length (l .queue)
   unfolding startOf
   laid-fits =
-      rw (length-record e 22 (nextOf (s .keys) e) content, long) (omega (arith, spot (a .ready) place-fits .space))
+      rw (length-record e 22 (nextOf (s .keys) e) content, long) in-queue
 
   saved-fits : f .saved * mtu + length content ≤ length (l .kept)
   saved-fits =
@@ -311,6 +316,7 @@ all-placed (suc k) kind body at l a =
       saved = few k kind body at l a;
       space = saved-fits k kind body at l a;
       short = omega (arith, fits k kind body at l a, len-over (epochOf kind) (12 + size));
+      room = in-queue k kind body at l a;
     } in
     test-cases (eqb (cutNext (l .saved .state .queue .mtu) (overhead (epochOf kind)) (cutAt body at l) .rest) 0)
     (λ z.

@@ -1,3 +1,4 @@
 pub mod Lay
 pub mod Leaves
+pub mod Queued
 pub mod Whole

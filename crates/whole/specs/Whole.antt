@@ -12,7 +12,8 @@ use Rattle.base.specs.Choose.{by-test, test-cases, both-right, if-true}
 use Rattle.base.specs.Parts.{part}
 use Rattle.queue.specs.declared.Place.{Place}
 use Rattle.queue.specs.declared.Tail.{Tail}
-use Rattle.queue.specs.Queue.{tailOf, placeOf, grown, InRange, ready}
+use Rattle.queue.specs.Queue.{tailOf, placeOf, grown, startOf, InRange, ready}
+use Rattle.queue.specs.Laid.{recordLen, recordBytes}
 use Rattle.send_keys.specs.Keys.{nextOf}
 use Rattle.outgoing.specs.declared.Sending.{Sending}
 use Rattle.outgoing.specs.declared.SendAnswer.{SendAnswer}
@@ -27,6 +28,7 @@ use Rattle.messages.specs.Cut.{epochOf, overhead, sizeIn, cutNext, pieces, plan
 use Rattle.messages.specs.Message.{contentOf, Laid, firstCut, countOf, reachOf, messageAnswer, numbered, beginning, sentAll, messageState, messageQueue, messageKept}
 use Rattle.messages.specs.Laws as laws
 use Rattle.whole.specs.Lay.{layAll, EachDone, Able, AllPlaced, all-laid, each-done, all-placed}
+use Rattle.whole.specs.Queued.{placesOf, Settled, lay-settled, lay-record}
 use Rattle.whole.specs.Leaves.{tailBehind, lay-next, lay-other, lay-saved, lay-still, lay-range, lay-tail, lay-older, lay-entry, lay-before, lay-content}
 
 -- the sizes of a message's pieces
@@ -125,6 +127,14 @@ pub record Whole (s : Sending) (f : Flight) (q m : List ℕ) (kind : ℕ) (body 
       → part ((f .saved + i) * s .queue .mtu) (12 + getD (sizesOf s kind body) i 0) (leftKept s f q m kind body)
       ≡ contentOf kind (s .«message_seq») body (total (take i (sizesOf s kind body))) (getD (sizesOf s kind body) i 0)
   pub before : (a n : ℕ) → a + n ≤ f .saved * s .queue .mtu → part a n (leftKept s f q m kind body) ≡ part a n m
+  -- each piece's record stands in the queue where the dry run placed it; the bytes in front of the queue's end stay
+  pub laid : (d : Place) (i : ℕ) → i < length (sizesOf s kind body)
+      → part (startOf (s .queue) (getD (placesOf (s .queue .mtu) (overhead (epochOf kind)) (sizesOf s kind body) (tailOf (s .queue))) i d))
+      (recordLen (epochOf kind) (12 + getD (sizesOf s kind body) i 0)) (leftQueue s f q m kind body)
+      ≡ recordBytes (epochOf kind) 22 (nextOf (s .keys) (epochOf kind) + i)
+      (contentOf kind (s .«message_seq») body (total (take i (sizesOf s kind body))) (getD (sizesOf s kind body) i 0))
+  pub settled : (p : Place) (n : ℕ) → p .offset + n ≤ s .queue .mtu → Settled (tailOf (s .queue)) p n
+      → part (startOf (s .queue) p) n (leftQueue s f q m kind body) ≡ part (startOf (s .queue) p) n q
   -- settings and remembered numbers stay
   pub mtu : leftState s f q m kind body .state .queue .mtu ≡ s .queue .mtu
   pub limit : leftState s f q m kind body .state .queue .limit ≡ s .queue .limit
@@ -195,6 +205,11 @@ module _ (s : Sending) (f : Flight) (q m : List ℕ) (kind : ℕ) (body : List �
         content = λ i h. ap (part ((f .saved + i) * s .queue .mtu) (12 + getD ns i 0)) left-kept ∙ lay-content kind body i 0 ns from at-place h
             ∙ ap (λ (x : ℕ). contentOf kind (s .«message_seq») body x (getD ns i 0)) (zero-add (total (take i ns)));
         before = λ a n h. ap (part a n) left-kept ∙ lay-before kind body a n 0 ns from at-place h;
+        laid = λ d i h.
+            ap (part (startOf (s .queue) (getD (placesOf (s .queue .mtu) (overhead e) ns (tailOf (s .queue))) i d)) (recordLen e (12 + getD ns i 0))) left-queue
+            ∙ lay-record kind body d i 0 ns from at-place h
+            ∙ ap (λ (x : ℕ). recordBytes e 22 (nextOf (s .keys) e + i) (contentOf kind (s .«message_seq») body x (getD ns i 0))) (zero-add (total (take i ns)));
+        settled = λ p n h st. ap (part (startOf (s .queue) p) n) left-queue ∙ lay-settled kind body 0 ns from at-place h st;
         mtu = ap (λ (x : Sending). x .queue .mtu) st ∙ lay-still kind body 0 ns from .1;
         limit = ap (λ (x : Sending). x .queue .limit) st ∙ lay-still kind body 0 ns from .2;
         numbers = ap (λ (x : Flight). x .numbers) fl ∙ lay-still kind body 0 ns from .3;
