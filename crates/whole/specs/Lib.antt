@@ -2,3 +2,6 @@ pub mod Lay
 pub mod Leaves
 pub mod Queued
 pub mod Whole
+pub mod Calls
+pub mod Ranges
+pub mod Twelve
