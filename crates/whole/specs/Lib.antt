@@ -4,4 +4,5 @@ pub mod Queued
 pub mod Whole
 pub mod Calls
 pub mod Ranges
+pub mod Found
 pub mod Twelve
