@@ -7,7 +7,7 @@ use Rattle.outgoing.specs.declared.Sending.{Sending}
 use Rattle.outgoing.specs.State.{refusal, freshSending, keyingState}
 use Rattle.outgoing.specs.Send.{sendAnswer, sendState, sendMemory}
 use Rattle.sealing.specs.Sealing.{refusal as sealRefusal, putMemory, sealAnswer, sealedState, sealedMemory}
-use Rattle.sealing.specs.Take.{refusal as takeRefusal, takeAnswer, takeState}
+use Rattle.taking.specs.Take.{refusal as takeRefusal, takeAnswer, takeState}
 use Rattle.flight.specs.declared.Flight.{Flight}
 use Rattle.flight.specs.Flight.{freshFlight, begun}
 use Rattle.flight.specs.Save.{saveState, saveQueue, saveKept}

@@ -23,9 +23,9 @@ use Rattle.outgoing.specs.Send.{spotOf, waitsBehind, laidState, laidMemory, sen
 use Rattle.outgoing.specs.Laws.{fresh-range}
 use Rattle.outgoing.specs.State.{isDone, freshSending, keyingState}
 use Rattle.sealing.specs.declared.SealAnswer.{SealAnswer}
-use Rattle.sealing.specs.declared.TakeAnswer.{TakeAnswer}
+use Rattle.taking.specs.declared.TakeAnswer.{TakeAnswer}
 use Rattle.sealing.specs.Sealing.{isSpan, isHeld, isAsked, isPut, partStart, putMemory, sealAnswer, sealedState, sealedMemory, asked-held, sealed-held, part-fits, length-masked}
-use Rattle.sealing.specs.Take.{nextSlot, takeState}
+use Rattle.taking.specs.Take.{nextSlot, takeState}
 use Rattle.flight.specs.declared.Flight.{Flight}
 use Rattle.flight.specs.declared.Saved.{Saved}
 use Rattle.flight.specs.declared.Begun.{Begun}

@@ -15,9 +15,9 @@ use Rattle.outgoing.specs.declared.SendAnswer.{SendAnswer}
 use Rattle.outgoing.specs.State.{refusal, keyingState}
 use Rattle.outgoing.specs.Send.{sendAnswer, sendState}
 use Rattle.sealing.specs.declared.SealAnswer.{SealAnswer}
-use Rattle.sealing.specs.declared.TakeAnswer.{TakeAnswer}
+use Rattle.taking.specs.declared.TakeAnswer.{TakeAnswer}
 use Rattle.sealing.specs.Sealing.{refusal as sealRefusal, isHeld, sealAnswer, sealedState}
-use Rattle.sealing.specs.Take.{refusal as takeRefusal, frontLen, takeAnswer, takeState}
+use Rattle.taking.specs.Take.{refusal as takeRefusal, frontLen, takeAnswer, takeState}
 use Rattle.flight.specs.declared.Begun.{Begun}
 use Rattle.flight.specs.declared.Flight.{Flight}
 use Rattle.flight.specs.declared.Saved.{Saved}

@@ -1,12 +1,12 @@
--- `sealing::take_answer` meets its contract: 12, none, 23, 16 in this order. Assumes nothing.
+-- `taking::take_answer` meets its contract: 12, none, 23, 16 in this order. Assumes nothing.
 use borrow.Author.Needs.{needs}
 use borrow.Author.Tests.{lt-ltb, le-ltb, le-leb, lt-leb, eq-eqb, ne-eqb, not-true, not-false}
 use mathlib.Core.Path.{sym, _∙_}
 use Rattle.base.specs.Choose.{if-true, if-false}
 use Rattle.queue.specs.Queue.{ready}
-use Rattle.sealing.specs.Take.{takeAnswer}
-use Rattle.sealing.proofs.take_answer.Statement.{statement}
-use Rattle.sealing.proofs.take_answer.Tie as tie
+use Rattle.taking.specs.Take.{takeAnswer}
+use Rattle.taking.proofs.take_answer.Statement.{statement}
+use Rattle.taking.proofs.take_answer.Tie as tie
 
 is-ready-requires : tie.Need-is-ready-requires
 is-ready-requires c κs = search needs
