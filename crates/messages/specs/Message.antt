@@ -10,7 +10,7 @@ use borrow.Author.Tests.{ltb-false, leb-true, leb-false, eq-eqb, ne-eqb}
 use Rattle.base.specs.Choose.{choose, by-test, both-left, if-true, if-false}
 use Rattle.base.specs.Parts.{part}
 use Rattle.handshake.specs.Header.{headerBytes, length-header}
-use Rattle.queue.specs.Queue.{isReady, tailOf, lastLen, InRange, ready}
+use Rattle.queue.specs.Queue.{isReady, lastLen, InRange, ready}
 use Rattle.send_keys.specs.Keys.{isKeyed, nextOf}
 use Rattle.outgoing.specs.declared.Sending.{Sending}
 use Rattle.outgoing.specs.declared.SendAnswer.{SendAnswer}
@@ -21,7 +21,7 @@ use Rattle.flight.specs.declared.Saved.{Saved}
 use Rattle.flight.specs.Flight.{isKept}
 use Rattle.flight.specs.Save.{saveState, saveQueue, saveKept, save-range}
 use Rattle.messages.specs.declared.Cut.{Cut}
-use Rattle.messages.specs.Cut.{epochOf, overhead, pieceSize, planCount, planReach}
+use Rattle.messages.specs.Cut.{epochOf, overhead, pieceSize, cutBehind, planCount, planReach}
 
 -- "each piece's header carries the message's type, total, number, its offset and length"; then the piece of the body
 unfoldable pub contentOf : ℕ → ℕ → List ℕ → ℕ → ℕ → List ℕ
@@ -58,13 +58,20 @@ sendAll (suc k) kind body at l =
 
 -- where the cutting begins
 abbrev pub firstCut : Sending → ℕ → Cut
-firstCut s n = record { tail = tailOf (s .queue); rest = n }
+firstCut s n = cutBehind (s .queue) n
 
 abbrev pub countOf : Sending → ℕ → ℕ → ℕ
 countOf s kind n = planCount 13 (s .queue .mtu) (overhead (epochOf kind)) (firstCut s n)
 
 abbrev pub reachOf : Sending → ℕ → ℕ → ℕ
 reachOf s kind n = planReach 13 (s .queue .mtu) (overhead (epochOf kind)) (firstCut s n)
+
+-- 18, 19, 20 over what the dry run found
+abbrev pub planAnswer : ℕ → ℕ → ℕ → ℕ → ℕ → SendAnswer
+planAnswer saved limit next count reach =
+    choose (ltb 12 (saved + count)) FlightFull
+    (choose (ltb limit reach) QueueFull
+    (choose (ltb 281474976710655 (next + count)) NumbersSpent Done))
 
 -- each number over the whole message before the next: 12, 14, 17, 21, 18, 19, 20. A thirteenth piece is one too many, so thirteen are
 -- enough to see
@@ -75,10 +82,7 @@ messageAnswer s f room kept kind n =
     (choose (ltb 16384 n) BadRecord
     (choose (isKeyed (s .keys) (epochOf kind))
     (choose (leb 65535 (s .«message_seq»)) MessagesSpent
-    (choose (ltb 12 (f .saved + countOf s kind n)) FlightFull
-    (choose (ltb (s .queue .limit) (reachOf s kind n)) QueueFull
-    (choose (ltb 281474976710655 (nextOf (s .keys) (epochOf kind) + countOf s kind n)) NumbersSpent
-    Done))))
+    (planAnswer (f .saved) (s .queue .limit) (nextOf (s .keys) (epochOf kind)) (countOf s kind n) (reachOf s kind n)))
     KeysAbsent))
     OutOfRange)
     OutOfRange

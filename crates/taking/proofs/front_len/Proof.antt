@@ -1,7 +1,7 @@
--- `sealing::front_len` meets its contract. Assumes nothing.
+-- `taking::front_len` meets its contract. Assumes nothing.
 use native.Mathlib.Omega.{arith}
-use Rattle.sealing.proofs.front_len.Statement.{statement}
-use Rattle.sealing.proofs.front_len.Tie as tie
+use Rattle.taking.proofs.front_len.Statement.{statement}
+use Rattle.taking.proofs.front_len.Tie as tie
 
 len-at-requires : tie.Need-len-at-requires
 len-at-requires c κs = omega (arith, c .before .pre .first, c .before .pre .limit)

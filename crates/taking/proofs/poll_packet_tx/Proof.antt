@@ -1,4 +1,4 @@
--- `sealing::poll_packet_tx` meets its contract: the front datagram is copied, and the front moves on. Assumes nothing.
+-- `taking::poll_packet_tx` meets its contract: the front datagram is copied, and the front moves on. Assumes nothing.
 use Prim.Native.Nat.{ℕ, _+_, _-_, _*_}
 use borrow.Author.Needs.{needs}
 use borrow.Rule.Slice.PartMut.{putMid}
@@ -7,9 +7,9 @@ use mathlib.Core.Path.{_≡_, sym, ap, _∙_}
 use native.Mathlib.Omega.{arith}
 use Rattle.base.specs.Choose.{if-true, if-false}
 use Rattle.base.specs.Parts.{splice, lent}
-use Rattle.sealing.specs.Take.{takeState, takeBuffer, takes, front-fits}
-use Rattle.sealing.proofs.poll_packet_tx.Statement.{statement}
-use Rattle.sealing.proofs.poll_packet_tx.Tie as tie
+use Rattle.taking.specs.Take.{takeState, takeBuffer, takes, front-fits}
+use Rattle.taking.proofs.poll_packet_tx.Statement.{statement}
+use Rattle.taking.proofs.poll_packet_tx.Tie as tie
 
 take-answer-requires : tie.Need-take-answer-requires
 take-answer-requires c κs = search needs

@@ -1,8 +1,8 @@
--- `sealing::is_waiting_in` meets its contract. Assumes nothing.
+-- `taking::is_waiting_in` meets its contract. Assumes nothing.
 use mathlib.Core.Path.{sym}
 use Rattle.base.specs.Choose.{both-true, both-false}
-use Rattle.sealing.proofs.is_waiting_in.Statement.{statement}
-use Rattle.sealing.proofs.is_waiting_in.Tie as tie
+use Rattle.taking.proofs.is_waiting_in.Statement.{statement}
+use Rattle.taking.proofs.is_waiting_in.Tie as tie
 
 returns : tie.Need-returns
 returns c = sym (both-true (c .before .if1 .taken))

@@ -1,11 +1,11 @@
--- `sealing::next_slot` meets its contract. Assumes nothing.
+-- `taking::next_slot` meets its contract. Assumes nothing.
 use borrow.Author.Needs.{needs}
 use borrow.Author.Tests.{lt-ltb, le-ltb}
 use mathlib.Core.Path.{sym}
 use Rattle.base.specs.Choose.{if-true, if-false}
-use Rattle.sealing.specs.Take.{nextSlot}
-use Rattle.sealing.proofs.next_slot.Statement.{statement}
-use Rattle.sealing.proofs.next_slot.Tie as tie
+use Rattle.taking.specs.Take.{nextSlot}
+use Rattle.taking.proofs.next_slot.Statement.{statement}
+use Rattle.taking.proofs.next_slot.Tie as tie
 
 add-if1 : tie.Need-add-if1
 add-if1 c = search needs

@@ -1,12 +1,13 @@
--- `sealing::take_answer` meets its contract: 12, none, 23, 16 in this order. Assumes nothing.
+-- `taking::take_answer` meets its contract: 12, none, 23, 16 in this order. Assumes nothing.
 use borrow.Author.Needs.{needs}
 use borrow.Author.Tests.{lt-ltb, le-ltb, le-leb, lt-leb, eq-eqb, ne-eqb, not-true, not-false}
-use mathlib.Core.Path.{sym, _∙_}
+use mathlib.Core.Path.{sym, ap, _∙_}
 use Rattle.base.specs.Choose.{if-true, if-false}
 use Rattle.queue.specs.Queue.{ready}
-use Rattle.sealing.specs.Take.{takeAnswer}
-use Rattle.sealing.proofs.take_answer.Statement.{statement}
-use Rattle.sealing.proofs.take_answer.Tie as tie
+use Rattle.taking.specs.declared.TakeAnswer.the-variants as take
+use Rattle.taking.specs.Take.{takeAnswer}
+use Rattle.taking.proofs.take_answer.Statement.{statement}
+use Rattle.taking.proofs.take_answer.Tie as tie
 
 is-ready-requires : tie.Need-is-ready-requires
 is-ready-requires c κs = search needs
@@ -35,11 +36,11 @@ returns-4 c = sym (if-true _ _ (sym (c .before .before .before .before .before .
 
 returns-5 : tie.Need-returns-5
 unfolding takeAnswer
-returns-5 c = rw (c .before .before .before .before .before .front-len .ensures .0) (sym (if-true _ _ (sym (c .before .before .before .before .before .before .before .before .before .is-ready .ensures) ∙ not-false _ (c .before .before .before .before .before .before .before .before .if1 .left)) ∙ if-false _ _ (ne-eqb _ _ (c .before .before .before .before .before .before .if2 .left)) ∙ if-true _ _ (rw (c .before .before .before .before .before .front-len .ensures .0) at (le-leb _ _ (c .before .before .before .if3 .left))) ∙ if-false _ _ (sym (c .before .before .is-waiting-in .ensures) ∙ c .before .if4 .left) ∙ if-true _ _ (rw (c .before .before .before .before .before .front-len .ensures .0) at (lt-ltb _ _ (c .if5 .taken)))))
+returns-5 c = ap take.Short (c .before .before .before .before .before .front-len .ensures .0) ∙ (sym (if-true _ _ (sym (c .before .before .before .before .before .before .before .before .before .is-ready .ensures) ∙ not-false _ (c .before .before .before .before .before .before .before .before .if1 .left)) ∙ if-false _ _ (ne-eqb _ _ (c .before .before .before .before .before .before .if2 .left)) ∙ if-true _ _ (rw (c .before .before .before .before .before .front-len .ensures .0) at (le-leb _ _ (c .before .before .before .if3 .left))) ∙ if-false _ _ (sym (c .before .before .is-waiting-in .ensures) ∙ c .before .if4 .left) ∙ if-true _ _ (rw (c .before .before .before .before .before .front-len .ensures .0) at (lt-ltb _ _ (c .if5 .taken)))))
 
 returns-6 : tie.Need-returns-6
 unfolding takeAnswer
-returns-6 c = rw (c .before .before .before .before .before .front-len .ensures .0) (sym (if-true _ _ (sym (c .before .before .before .before .before .before .before .before .before .is-ready .ensures) ∙ not-false _ (c .before .before .before .before .before .before .before .before .if1 .left)) ∙ if-false _ _ (ne-eqb _ _ (c .before .before .before .before .before .before .if2 .left)) ∙ if-true _ _ (rw (c .before .before .before .before .before .front-len .ensures .0) at (le-leb _ _ (c .before .before .before .if3 .left))) ∙ if-false _ _ (sym (c .before .before .is-waiting-in .ensures) ∙ c .before .if4 .left) ∙ if-false _ _ (rw (c .before .before .before .before .before .front-len .ensures .0) at (le-ltb _ _ (c .if5 .left)))))
+returns-6 c = ap take.Taken (c .before .before .before .before .before .front-len .ensures .0) ∙ (sym (if-true _ _ (sym (c .before .before .before .before .before .before .before .before .before .is-ready .ensures) ∙ not-false _ (c .before .before .before .before .before .before .before .before .if1 .left)) ∙ if-false _ _ (ne-eqb _ _ (c .before .before .before .before .before .before .if2 .left)) ∙ if-true _ _ (rw (c .before .before .before .before .before .front-len .ensures .0) at (le-leb _ _ (c .before .before .before .if3 .left))) ∙ if-false _ _ (sym (c .before .before .is-waiting-in .ensures) ∙ c .before .if4 .left) ∙ if-false _ _ (rw (c .before .before .before .before .before .front-len .ensures .0) at (le-ltb _ _ (c .if5 .left)))))
 
 pub take-answer-spec : {M : Type 1} → statement M
 take-answer-spec =

@@ -13,9 +13,9 @@ use Rattle.base.specs.Parts.{part, splice}
 use Rattle.queue.specs.Queue.{isReady, Ready, ready}
 use Rattle.outgoing.specs.declared.Waiting.{Waiting}
 use Rattle.outgoing.specs.declared.Sending.{Sending}
-use Rattle.sealing.specs.declared.TakeAnswer.{TakeAnswer}
-use Rattle.sealing.specs.declared.TakeAnswer.the-variants as take
-use Rattle.sealing.specs.declared.Take.{Take}
+use Rattle.taking.specs.declared.TakeAnswer.{TakeAnswer}
+use Rattle.taking.specs.declared.TakeAnswer.the-variants as take
+use Rattle.taking.specs.declared.Take.{Take}
 
 -- the paper's number of each answer; 0 where a datagram, or none, is handed out
 abbrev pub refusal : TakeAnswer → ℕ
