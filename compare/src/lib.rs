@@ -32,5 +32,8 @@ pub use error::{
 };
 pub use rng::SeededRng;
 
+pub mod beside;
+pub mod dice;
 pub mod histories;
 pub mod leaves;
+pub mod sendings;
