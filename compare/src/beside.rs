@@ -18,7 +18,7 @@ pub fn script(lines: &[Line]) -> String {
 }
 
 /// What the program answers to a script.
-fn answers(program: &str, script: &str) -> io::Result<Vec<String>> {
+pub fn answers(program: &str, script: &str) -> io::Result<Vec<String>> {
     let mut child = Command::new(program)
         .stdin(Stdio::piped())
         .stdout(Stdio::piped())

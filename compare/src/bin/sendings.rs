@@ -9,57 +9,12 @@ use std::{env, io, panic};
 
 use dimpl::beside::{self, Batch};
 use dimpl::dice::Dice;
+use dimpl::differences::{named, shrink};
 use dimpl::sendings::generate::random;
-use dimpl::sendings::{Bytes, History, Step, Tally, limits, reference};
+use dimpl::sendings::{History, Tally, limits, reference};
 
 fn fails(program: &str, history: &History) -> io::Result<bool> {
     beside::fails(program, &reference::run(history).lines)
-}
-
-/// The contents of a step.
-fn content(step: &mut Step) -> Option<&mut Bytes> {
-    match step {
-        Step::Send { content, .. } => Some(content),
-        Step::Message { body, .. } => Some(body),
-        _ => None,
-    }
-}
-
-/// Drops steps, then shortens contents, for as long as the history differs.
-fn shrink(program: &str, mut history: History) -> io::Result<History> {
-    loop {
-        let before = history.clone();
-        let settings = history.settings;
-        beside::drop_steps(&mut history.steps, |steps| {
-            let steps = steps.to_vec();
-            fails(program, &History { settings, steps })
-        })?;
-        for i in 0..history.steps.len() {
-            let Some(bytes) = content(&mut history.steps[i]).cloned() else {
-                continue;
-            };
-            let (mut low, mut high) = (0, bytes.length);
-            while low < high {
-                let length = low + (high - low) / 2;
-                let mut other = history.clone();
-                content(&mut other.steps[i]).unwrap().length = length;
-                if fails(program, &other)? {
-                    history = other;
-                    high = length;
-                } else {
-                    low = length + 1;
-                }
-            }
-            let mut other = history.clone();
-            content(&mut other.steps[i]).unwrap().pattern = vec![0];
-            if fails(program, &other)? {
-                history = other;
-            }
-        }
-        if history == before {
-            return Ok(history);
-        }
-    }
 }
 
 /// What the Rust does where 01 refuses: it must not go on by 17, 18, 19 and 20.
@@ -70,7 +25,7 @@ fn refused(history: &History, met: &mut BTreeMap<(u8, String), u64>) {
             stops || matches!(refusal, 13 | 14 | 21),
             "the Rust does not refuse by {refusal}: {history:?}"
         );
-        *met.entry((refusal, outcome)).or_default() += 1;
+        *met.entry((refusal, named(&outcome))).or_default() += 1;
     }
 }
 
@@ -99,7 +54,7 @@ fn compare(program: &str, count: u64, seed: u64) -> io::Result<bool> {
         failed = batch.compare(program)?;
     }
     if let Some(history) = failed {
-        let history = shrink(program, history)?;
+        let history = shrink(history, |other| fails(program, other))?;
         let lines = reference::run(&history).lines;
         beside::report(program, "sendings", &lines)?;
         return Ok(false);
@@ -125,7 +80,7 @@ fn compare(program: &str, count: u64, seed: u64) -> io::Result<bool> {
     }
     println!("  at the first call that 01 refuses the Rust, asked all the same:");
     for ((refusal, outcome), n) in &met {
-        println!("  {refusal} {outcome:<62} {n:>6}");
+        println!("  {refusal} {outcome:<15} {n:>9}");
     }
     Ok(true)
 }

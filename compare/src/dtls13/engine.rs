@@ -85,6 +85,16 @@ pub mod probe {
         engine.seal_current_datagram();
     }
 
+    /// A record noted for the ACK; how many are.
+    pub fn note(engine: &mut Engine, epoch: u64, number: u64) -> usize {
+        _ = engine.received_record_numbers.try_push((epoch, number));
+        noted(engine)
+    }
+
+    pub fn noted(engine: &Engine) -> usize {
+        engine.received_record_numbers.len()
+    }
+
     /// What a buffer was handed: a datagram's length, or the length that it lacks.
     #[derive(Debug, PartialEq, Eq)]
     pub enum Taken {

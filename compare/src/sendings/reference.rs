@@ -82,6 +82,18 @@ impl World {
         world
     }
 
+    pub fn engine_mut(&mut self) -> &mut Engine {
+        &mut self.engine
+    }
+
+    /// The refusal of a record or a message.
+    pub fn refusal(&self, step: &Step) -> Option<u8> {
+        match step {
+            Step::Send { .. } | Step::Message { .. } => self.places(step).err(),
+            _ => None,
+        }
+    }
+
     pub fn sending(&self) -> Sending {
         probe::sending(&self.engine)
     }
@@ -420,8 +432,7 @@ impl World {
 pub fn first_refused(history: &History) -> Option<(u8, String)> {
     let mut world = World::new(history.settings);
     for step in &history.steps {
-        if matches!(step, Step::Send { .. } | Step::Message { .. })
-            && let Err(refusal) = world.places(step)
+        if let Some(refusal) = world.refusal(step)
             && refusal != 12
         {
             return Some((refusal, world.beyond(step)));
