@@ -1,4 +1,4 @@
-# Sourced by run and sample: where things are, what is missing, how to build.
+# Sourced by run, differences and sample: where things are, what is missing, how to build.
 
 here=$(cd "$(dirname "${BASH_SOURCE[0]}")" && pwd)
 root=$(dirname "$here")
@@ -46,6 +46,18 @@ check_rust() {
     done
 }
 
+# What makes the library and the programs that the environment does not name.
+check_rattle() {
+    if [ -n "${LEAVES_LIB:-}" ] && [ -n "${READINGS:-}" ] && [ -n "${SENDINGS:-}" ]; then
+        return
+    fi
+    command -v rt >/dev/null || lacks "rt is missing: install the Rattle kit"
+    local crate
+    for crate in "$@"; do
+        [ -d "$root/crates/$crate" ] || lacks "the crate $crate is missing in $root/crates"
+    done
+}
+
 # The folder of crates that a Debian package is in.
 crates_of() {
     dpkg -L "librust-$1-dev" 2>/dev/null | sed -n "s|/$1-[^/]*/Cargo.toml\$||p"
@@ -63,6 +75,17 @@ quietly() {
         echo "$(basename "$0"): failed: $1 $2" >&2
         exit 2
     fi
+}
+
+# Names what is to be compared, whole: what the environment names, or what rt makes.
+name() {
+    local made=$root/target/$2
+    if [ -n "${!1:-}" ]; then
+        made=$(realpath "${!1}")
+    else
+        (cd "$root" && quietly rt "${@:3}")
+    fi
+    export "$1=$made"
 }
 
 # Builds one of the programs.

@@ -32,5 +32,9 @@ pub use error::{
 };
 pub use rng::SeededRng;
 
+pub mod beside;
+pub mod dice;
+pub mod differences;
 pub mod histories;
 pub mod leaves;
+pub mod sendings;

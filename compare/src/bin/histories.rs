@@ -3,57 +3,26 @@
 //!
 //! histories PROGRAM COUNT SEED
 
-use std::io::Write;
 use std::ops::Range;
-use std::process::{Command, ExitCode, Stdio};
+use std::process::ExitCode;
 use std::{env, io};
 
-use dimpl::histories::generate::{Dice, random};
-use dimpl::histories::{History, Run, Step, limits, reference};
+use dimpl::beside::{self, Batch};
+use dimpl::dice::Dice;
+use dimpl::histories::generate::random;
+use dimpl::histories::{History, Step, limits, reference};
 
-/// A script is at most this long; the program reads 65,536 bytes.
-const MOST: usize = 60_000;
-
-/// What the program answers to a script.
-fn answers(program: &str, script: &str) -> io::Result<Vec<String>> {
-    let mut child = Command::new(program)
-        .stdin(Stdio::piped())
-        .stdout(Stdio::piped())
-        .spawn()?;
-    // The program reads to the end before it writes.
-    child.stdin.take().unwrap().write_all(script.as_bytes())?;
-    let output = child.wait_with_output()?;
-    if !output.status.success() {
-        return Err(io::Error::other(format!("{program}: {}", output.status)));
-    }
-    let text = String::from_utf8_lossy(&output.stdout);
-    Ok(text.lines().map(str::to_string).collect())
-}
-
-/// The first line that is answered differently.
-fn differs(program: &str, run: &Run) -> io::Result<Option<(usize, String)>> {
-    let found = answers(program, &run.script())?;
-    let mut found = found.into_iter();
-    for (i, line) in run.lines.iter().enumerate() {
-        let answer = found.next().unwrap_or_default();
-        if answer != line.answered {
-            return Ok(Some((i, answer)));
-        }
-    }
-    Ok(None)
+fn fails(program: &str, history: &History) -> io::Result<bool> {
+    beside::fails(program, &reference::run(history).lines)
 }
 
 /// Takes the smaller history, if it differs too.
 fn try_instead(program: &str, current: &mut History, other: History) -> io::Result<bool> {
-    if other == *current {
-        return Ok(false);
-    }
-    let run = reference::run(&other);
-    let fails = run.script().len() <= MOST && differs(program, &run)?.is_some();
-    if fails {
+    let smaller = other != *current && fails(program, &other)?;
+    if smaller {
         *current = other;
     }
-    Ok(fails)
+    Ok(smaller)
 }
 
 /// The history with bytes of a datagram taken out, and the first of its replies.
@@ -71,18 +40,14 @@ fn without(history: &History, step: usize, taken: Range<usize>, first: usize) ->
 fn shrink(program: &str, mut history: History) -> io::Result<History> {
     loop {
         let before = history.clone();
-        let mut size = history.steps.len();
-        while size > 0 {
-            let mut at = 0;
-            while at + size <= history.steps.len() {
-                let mut other = history.clone();
-                other.steps.drain(at..at + size);
-                if !try_instead(program, &mut history, other)? {
-                    at += 1;
-                }
-            }
-            size /= 2;
-        }
+        let min_protected = history.min_protected;
+        beside::drop_steps(&mut history.steps, |steps| {
+            let other = History {
+                min_protected,
+                steps: steps.to_vec(),
+            };
+            fails(program, &other)
+        })?;
         for i in 0..history.steps.len() {
             let Step::Datagram { bytes, replies } = &history.steps[i] else {
                 continue;
@@ -134,50 +99,6 @@ fn shrink(program: &str, mut history: History) -> io::Result<History> {
     }
 }
 
-fn report(program: &str, history: History) -> io::Result<()> {
-    let history = shrink(program, history)?;
-    let run = reference::run(&history);
-    println!("histories: the answers differ");
-    let (at, found) = differs(program, &run)?.unwrap();
-    for (i, line) in run.lines.iter().enumerate().take(at + 1) {
-        println!("  step    {}", line.asked);
-        println!("  Rust    {}", line.answered);
-        if i == at {
-            println!("  Rattle  {found}");
-        }
-    }
-    Ok(())
-}
-
-/// Histories whose scripts fit in one run of the program.
-#[derive(Default)]
-struct Batch {
-    histories: Vec<History>,
-    script: String,
-    expected: Vec<String>,
-    /// The history of each expected line.
-    owner: Vec<usize>,
-}
-
-impl Batch {
-    fn add(&mut self, history: History, run: &Run) {
-        self.script += &run.script();
-        for line in &run.lines {
-            self.expected.push(line.answered.clone());
-            self.owner.push(self.histories.len());
-        }
-        self.histories.push(history);
-    }
-
-    /// The first history that differs.
-    fn compare(self, program: &str) -> io::Result<Option<History>> {
-        let found = answers(program, &self.script)?;
-        let differ = (0..self.expected.len()).find(|i| found.get(*i) != Some(&self.expected[*i]));
-        let mut histories = self.histories;
-        Ok(differ.map(|line| histories.swap_remove(self.owner[line])))
-    }
-}
-
 fn main() -> ExitCode {
     let args: Vec<String> = env::args().skip(1).collect();
     let numbers: Vec<u64> = args.iter().skip(1).filter_map(|a| a.parse().ok()).collect();
@@ -203,11 +124,10 @@ fn compare(program: &str, count: u64, seed: u64) -> io::Result<bool> {
     histories.extend((0..count).map(|i| random(&mut Dice::new(seed << 32 ^ i))));
     let (mut steps, mut kinds, mut reasons) = (0, [0; 10], [0; 12]);
     let mut batch = Batch::default();
+    let mut failed = None;
     let total = histories.len();
     for history in histories {
         let run = reference::run(&history);
-        let length = run.script().len();
-        assert!(length <= MOST, "a history of {length} bytes");
         steps += run.lines.len();
         for (sum, n) in kinds.iter_mut().zip(run.kinds) {
             *sum += n;
@@ -215,16 +135,17 @@ fn compare(program: &str, count: u64, seed: u64) -> io::Result<bool> {
         for (sum, n) in reasons.iter_mut().zip(run.reasons) {
             *sum += n;
         }
-        if batch.script.len() + length > MOST
-            && let Some(history) = std::mem::take(&mut batch).compare(program)?
-        {
-            report(program, history)?;
-            return Ok(false);
+        failed = batch.add(program, history, run.lines)?;
+        if failed.is_some() {
+            break;
         }
-        batch.add(history, &run);
     }
-    if let Some(history) = batch.compare(program)? {
-        report(program, history)?;
+    if failed.is_none() {
+        failed = batch.compare(program)?;
+    }
+    if let Some(history) = failed {
+        let history = shrink(program, history)?;
+        beside::report(program, "histories", &reference::run(&history).lines)?;
         return Ok(false);
     }
     println!(

@@ -1,7 +1,7 @@
 //! Writes fixed lists, and the Rust's answers to them, as text: the inputs of the leaves, and
-//! histories of receiving.
+//! histories of receiving and of sending.
 //!
-//! sample LEAVES_FOLDER HISTORIES_FOLDER
+//! sample LEAVES_FOLDER RECEIVING_FOLDER SENDING_FOLDER
 
 use std::collections::HashSet;
 use std::error::Error;
@@ -10,9 +10,10 @@ use std::path::Path;
 use std::{env, fs};
 
 use dimpl::SeededRng;
-use dimpl::histories::generate::{Dice, random};
-use dimpl::histories::{limits, reference};
+use dimpl::beside::{Line, script};
+use dimpl::dice::Dice;
 use dimpl::leaves::{LEAVES, hex};
+use dimpl::{histories, sendings};
 
 const SEED: u64 = 1;
 /// Cases of a leaf, if its limits are fewer; and random ones at least.
@@ -22,28 +23,44 @@ const RANDOM: usize = 12;
 const MOST: usize = 100;
 
 /// Histories at the limits, then random ones up to about so many bytes of script.
-const SCRIPT: usize = 36_000;
+const RECEIVING: usize = 36_000;
+const SENDING: usize = 18_000;
 
 fn main() -> Result<(), Box<dyn Error>> {
     let folders: Vec<String> = env::args().skip(1).collect();
-    let [leaves, histories] = &folders[..] else {
-        return Err("usage: sample LEAVES_FOLDER HISTORIES_FOLDER".into());
+    let [leaves, receiving, sending] = &folders[..] else {
+        return Err("usage: sample LEAVES_FOLDER RECEIVING_FOLDER SENDING_FOLDER".into());
     };
     write_leaves(Path::new(leaves))?;
-    write_histories(Path::new(histories))
+    let dice = || (0..).map(|i| Dice::new(SEED << 32 ^ i));
+    let random = dice().map(|mut dice| histories::generate::random(&mut dice));
+    let runs = histories::limits::all()
+        .into_iter()
+        .chain(random)
+        .map(|history| histories::reference::run(&history).lines);
+    write_histories(Path::new(receiving), RECEIVING, runs)?;
+    let random = dice().map(|mut dice| sendings::generate::random(&mut dice));
+    let runs = sendings::limits::all()
+        .into_iter()
+        .chain(random)
+        .map(|history| sendings::reference::run(&history).lines);
+    write_histories(Path::new(sending), SENDING, runs)
 }
 
-fn write_histories(folder: &Path) -> Result<(), Box<dyn Error>> {
+fn write_histories(
+    folder: &Path,
+    most: usize,
+    runs: impl Iterator<Item = Vec<Line>>,
+) -> Result<(), Box<dyn Error>> {
     let mut stdin = String::new();
     let mut stdout = String::new();
-    let random = (0..).map(|i| random(&mut Dice::new(SEED << 32 ^ i)));
-    for history in limits::all().into_iter().chain(random) {
-        let run = reference::run(&history);
-        if stdin.len() + run.script().len() > SCRIPT {
+    for lines in runs {
+        let script = script(&lines);
+        if stdin.len() + script.len() > most {
             break;
         }
-        for line in &run.lines {
-            writeln!(stdin, "{}", line.asked)?;
+        stdin += &script;
+        for line in lines {
             writeln!(stdout, "{}", line.answered)?;
         }
     }

@@ -1,5 +1,5 @@
-//! A provider whose cipher is a script: masks and openings are decided beforehand, and each
-//! question is written down. The script belongs to the thread.
+//! A provider whose cipher is a script: masks and openings are decided beforehand, sealings made
+//! from what is sealed, and each question is written down. The script belongs to the thread.
 
 use std::cell::RefCell;
 
@@ -34,12 +34,27 @@ pub struct OpeningAsked {
     pub length: usize,
 }
 
+/// The sealing question, and the reply: a pattern that is repeated over the text and its tag, and
+/// the mask. Both depend on key, nonce, header and text.
+#[derive(Debug, Clone)]
+pub struct SealingAsked {
+    pub key: Vec<u8>,
+    pub header: [u8; 5],
+    pub nonce: [u8; 12],
+    pub plaintext: Vec<u8>,
+    pub pattern: [u8; 7],
+    pub mask: [u8; 2],
+    /// What the mask was then asked about.
+    pub sampled: Option<MaskAsked>,
+}
+
 #[derive(Default)]
 struct Script {
     min_protected: usize,
     reply: Reply,
     mask: Option<MaskAsked>,
     opening: Option<OpeningAsked>,
+    sealings: Vec<SealingAsked>,
 }
 
 thread_local! {
@@ -61,6 +76,19 @@ pub fn take_asked() -> (Option<MaskAsked>, Option<OpeningAsked>) {
     SCRIPT.with_borrow_mut(|script| (script.mask.take(), script.opening.take()))
 }
 
+/// The sealings asked since the last time, in order.
+pub fn take_sealings() -> Vec<SealingAsked> {
+    SCRIPT.with_borrow_mut(|script| std::mem::take(&mut script.sealings))
+}
+
+/// A pattern repeated up to a length.
+pub fn repeated(pattern: &[u8], length: usize) -> Vec<u8> {
+    match pattern {
+        [] => vec![0; length],
+        _ => pattern.iter().copied().cycle().take(length).collect(),
+    }
+}
+
 /// A cipher that knows its key by name only.
 #[derive(Debug)]
 struct ScriptCipher(Vec<u8>);
@@ -70,8 +98,25 @@ pub fn cipher(key: &[u8]) -> Box<dyn Cipher> {
 }
 
 impl Cipher for ScriptCipher {
-    fn encrypt(&mut self, _: &mut Buf, _: Aad, _: Nonce) -> Result<(), CryptoError> {
-        Err(CryptoError::NotProvided)
+    fn encrypt(&mut self, plaintext: &mut Buf, aad: Aad, nonce: Nonce) -> Result<(), CryptoError> {
+        let pattern: [u8; 7] = stub::mix(&[&self.0, &nonce.0, &aad.0, plaintext]);
+        let asked = SealingAsked {
+            key: self.0.clone(),
+            header: aad.0[..].try_into().unwrap(),
+            nonce: nonce.0,
+            plaintext: plaintext.to_vec(),
+            pattern,
+            mask: stub::mix(&[&pattern]),
+            sampled: None,
+        };
+        let length = plaintext.len() + TAG_LEN;
+        plaintext.clear();
+        plaintext.extend_from_slice(&repeated(&pattern, length));
+        SCRIPT.with_borrow_mut(|script| {
+            script.reply.mask = asked.mask;
+            script.sealings.push(asked);
+        });
+        Ok(())
     }
 
     fn decrypt(
@@ -139,10 +184,14 @@ impl SupportedDtls13CipherSuite for ScriptSuite {
     /// Two bytes of the script; the others must not matter.
     fn encrypt_sn(&self, sn_key: &[u8], sample: &[u8; 16]) -> [u8; 16] {
         SCRIPT.with_borrow_mut(|script| {
-            script.mask = Some(MaskAsked {
+            let asked = MaskAsked {
                 key: sn_key.to_vec(),
                 sample: *sample,
-            });
+            };
+            if let Some(last) = script.sealings.last_mut() {
+                last.sampled = Some(asked.clone());
+            }
+            script.mask = Some(asked);
             let mut mask = [0xA5; 16];
             mask[..2].copy_from_slice(&script.reply.mask);
             mask

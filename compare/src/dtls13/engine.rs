@@ -9,18 +9,22 @@ pub mod probe {
         super::reconstruct_sequence(partial, expected, bits)
     }
 
-    /// Keys an epoch to receive with the scripted cipher, as `install_handshake_keys` and
-    /// `update_recv_keys` do; the epoch is also the name of its keys.
-    pub fn key_receive(engine: &mut Engine, epoch: u16, iv: [u8; 12]) {
+    /// Keys with the scripted cipher; the epoch is also their name.
+    fn keys(epoch: u16, iv: [u8; 12]) -> EpochKeys {
         let name = epoch.to_be_bytes();
         let mut sn_key = Buf::new();
         sn_key.extend_from_slice(&name);
-        let keys = EpochKeys {
+        EpochKeys {
             cipher: script::cipher(&name),
             iv,
             traffic_secret: Buf::new(),
             sn_key,
-        };
+        }
+    }
+
+    /// Keys an epoch to receive, as `install_handshake_keys` and `update_recv_keys` do.
+    pub fn key_receive(engine: &mut Engine, epoch: u16, iv: [u8; 12]) {
+        let keys = keys(epoch, iv);
         if epoch == 2 {
             engine.hs_recv_keys = Some(keys);
             return;
@@ -46,5 +50,121 @@ pub mod probe {
         let handshake = engine.hs_recv_keys.iter().map(|_| 2);
         let application = engine.app_recv_keys.iter().map(|entry| entry.epoch);
         handshake.chain(application).collect()
+    }
+
+    /// Keys an epoch to send, as `install_handshake_keys`, `install_application_keys` and, once a
+    /// key update is acknowledged, `update_send_keys` do.
+    pub fn key_send(engine: &mut Engine, epoch: u16, iv: [u8; 12]) {
+        let keys = Some(keys(epoch, iv));
+        if epoch == 2 {
+            engine.hs_send_keys = keys;
+            engine.hs_send_seq = 0;
+            return;
+        }
+        engine.app_send_keys = keys;
+        engine.app_send_epoch = epoch;
+        engine.app_send_seq = 0;
+    }
+
+    /// The next number of an epoch.
+    pub fn set_number(engine: &mut Engine, epoch: u16, number: u64) {
+        match epoch {
+            0 => engine.sequence_epoch_0.sequence_number = number,
+            2 => engine.hs_send_seq = number,
+            _ => engine.app_send_seq = number,
+        }
+    }
+
+    /// The next message number.
+    pub fn set_message(engine: &mut Engine, number: u16) {
+        engine.next_handshake_seq_no = number;
+    }
+
+    /// Closes the last datagram, as `flight_resend` does.
+    pub fn close(engine: &mut Engine) {
+        engine.seal_current_datagram();
+    }
+
+    /// A record noted for the ACK; how many are.
+    pub fn note(engine: &mut Engine, epoch: u64, number: u64) -> usize {
+        _ = engine.received_record_numbers.try_push((epoch, number));
+        noted(engine)
+    }
+
+    pub fn noted(engine: &Engine) -> usize {
+        engine.received_record_numbers.len()
+    }
+
+    /// What a buffer was handed: a datagram's length, or the length that it lacks.
+    #[derive(Debug, PartialEq, Eq)]
+    pub enum Taken {
+        Datagram(usize),
+        Short(usize),
+        Nothing,
+    }
+
+    pub fn take(engine: &mut Engine, buffer: &mut [u8]) -> Taken {
+        match engine.poll_packet_tx(buffer) {
+            PollOutput::Data(datagram) => Taken::Datagram(datagram.len()),
+            PollOutput::BufferTooSmall { needed } => Taken::Short(needed),
+            PollOutput::None(_) => Taken::Nothing,
+        }
+    }
+
+    /// A saved record.
+    #[derive(Debug, Clone, PartialEq, Eq)]
+    pub struct Saved {
+        pub content_type: u8,
+        pub epoch: u16,
+        pub number: u64,
+        pub marked: bool,
+        pub remembered: Vec<u64>,
+        pub content: Vec<u8>,
+    }
+
+    /// The sending side: next numbers, the application epoch or 0, the queue, the flight.
+    #[derive(Debug, Clone, PartialEq, Eq)]
+    pub struct Sending {
+        pub plaintext_next: u64,
+        pub handshake_keyed: bool,
+        pub handshake_next: u64,
+        pub application: u16,
+        pub application_next: u64,
+        pub message: u16,
+        pub closed: bool,
+        pub lengths: Vec<usize>,
+        pub saved: Vec<Saved>,
+    }
+
+    pub fn sending(engine: &Engine) -> Sending {
+        let saved = engine.flight_saved_records.iter().map(|entry| Saved {
+            content_type: entry.content_type.as_u8(),
+            epoch: entry.epoch,
+            number: entry.send_seq,
+            marked: entry.acked,
+            remembered: entry.fragment[entry.fragment_len..]
+                .chunks(8)
+                .map(|number| u64::from_be_bytes(number.try_into().unwrap()))
+                .collect(),
+            content: entry.fragment().to_vec(),
+        });
+        Sending {
+            plaintext_next: engine.sequence_epoch_0.sequence_number,
+            handshake_keyed: engine.hs_send_keys.is_some(),
+            handshake_next: engine.hs_send_seq,
+            application: engine
+                .app_send_keys
+                .as_ref()
+                .map_or(0, |_| engine.app_send_epoch),
+            application_next: engine.app_send_seq,
+            message: engine.next_handshake_seq_no,
+            closed: engine.datagram_sealed,
+            lengths: engine
+                .queue_tx
+                .iter()
+                .map(|datagram| datagram.len())
+                .collect(),
+            saved: saved.collect(),
+        }
     }
 }

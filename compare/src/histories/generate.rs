@@ -1,37 +1,7 @@
 //! Random histories.
 
 use super::*;
-use crate::SeededRng;
-
-/// Random choices.
-pub struct Dice(SeededRng);
-
-impl Dice {
-    pub fn new(seed: u64) -> Self {
-        Self(SeededRng::new(Some(seed)))
-    }
-
-    fn below(&mut self, n: usize) -> usize {
-        (self.0.random::<u64>() % n.max(1) as u64) as usize
-    }
-
-    /// True once in `n` times.
-    fn once_in(&mut self, n: usize) -> bool {
-        self.below(n) == 0
-    }
-
-    fn of<T: Copy>(&mut self, choices: &[T]) -> T {
-        choices[self.below(choices.len())]
-    }
-
-    fn byte(&mut self) -> u8 {
-        self.below(256) as u8
-    }
-
-    fn bytes(&mut self, n: usize) -> Vec<u8> {
-        (0..n).map(|_| self.byte()).collect()
-    }
-}
+use crate::dice::Dice;
 
 /// What the making of records needs to know of the state: the epochs keyed, each with the highest
 /// number used, and whether the peer encrypts.

@@ -6,6 +6,7 @@ pub mod limits;
 pub mod reference;
 
 pub use crate::crypto::script::Reply;
+use crate::beside::Line;
 use crate::leaves::hex;
 
 /// A step of a history.
@@ -36,13 +37,6 @@ pub enum Step {
 pub struct History {
     pub min_protected: u8,
     pub steps: Vec<Step>,
-}
-
-/// One line of the script, and the line that answers it.
-#[derive(Debug, Clone, PartialEq, Eq)]
-pub struct Line {
-    pub asked: String,
-    pub answered: String,
 }
 
 /// What a line answers. All zeros: a call that reads nothing, done.
@@ -123,9 +117,5 @@ impl Run {
             asked: format!("{letter} {}", hex(input)),
             answered: answer.line(letter),
         });
-    }
-
-    pub fn script(&self) -> String {
-        self.lines.iter().map(|l| l.asked.clone() + "\n").collect()
     }
 }

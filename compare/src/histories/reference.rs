@@ -80,6 +80,45 @@ pub fn run(history: &History) -> Run {
     run
 }
 
+/// What the Rust asks about the first record of a datagram with peer encryption on: epochs keyed,
+/// the highest number of the first, the bytes.
+pub fn asked(min: u8, epochs: &[u16], highest: Option<u64>, bytes: &[u8]) -> String {
+    let config = Config {
+        crypto_provider: script::provider(),
+        ..Config::default()
+    };
+    let mut engine = Engine::new(Arc::new(config), DtlsCertificate::default());
+    engine.set_cipher_suite(Dtls13CipherSuite::AES_128_GCM_SHA256);
+    script::set_min_protected(min as usize);
+    engine.enable_peer_encryption().unwrap();
+    for epoch in epochs {
+        engine::probe::key_receive(&mut engine, *epoch, std::array::from_fn(|i| i as u8));
+    }
+    if let Some(number) = highest {
+        engine.replay_update(Sequence {
+            epoch: epochs[0],
+            sequence_number: number,
+        });
+    }
+    let mut tap = Tap {
+        engine: &mut engine,
+        replies: VecDeque::new(),
+        seen: RefCell::default(),
+        above: true,
+    };
+    let mut records: ArrayVec<Record, 16> = ArrayVec::new();
+    let result = incoming::probe::parse_records(bytes, &mut tap, &mut records);
+    let seen = tap.seen.into_inner();
+    let mut words = vec![format!("{result:?}, {} readings", records.len())];
+    if let Some(seen) = seen.first() {
+        words.extend(seen.epoch.map(|epoch| format!("resolved to {epoch}")));
+        words.extend(seen.mask.iter().map(|_| "mask asked".to_string()));
+        words.extend(seen.number.map(|number| format!("number {number}")));
+        words.extend(seen.opening.iter().map(|_| "opening asked".to_string()));
+    }
+    words.join("; ")
+}
+
 /// What the engine was asked about one record.
 #[derive(Default)]
 struct Seen {
@@ -100,6 +139,8 @@ struct Tap<'a> {
     engine: &'a mut Engine,
     replies: VecDeque<Reply>,
     seen: RefCell<Vec<Seen>>,
+    /// Whether the cipher is asked for numbers above 2^48 - 1.
+    above: bool,
 }
 
 impl Tap<'_> {
@@ -171,7 +212,7 @@ impl RecordHandler for Tap<'_> {
         ciphertext: &mut TmpBuf,
     ) -> Result<(), Error> {
         // X9: the Rust asks the cipher for numbers above 2^48 - 1; it is told no.
-        if seq.sequence_number > LAST_NUMBER {
+        if seq.sequence_number > LAST_NUMBER && !self.above {
             return Err(Error::CryptoError(CryptoError::NotOpened));
         }
         let result = self.engine.decrypt_record(header, seq, ciphertext);
@@ -201,6 +242,7 @@ fn datagram(engine: &mut Engine, min: u8, bytes: &[u8], replies: &[Reply], run: 
         engine,
         replies: replies.iter().cloned().collect(),
         seen: RefCell::default(),
+        above: false,
     };
     let mut records: ArrayVec<Record, 16> = ArrayVec::new();
     // X15: the readings before a fault stand; the wrapper `Records::parse` discards them.
