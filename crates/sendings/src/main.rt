@@ -12,8 +12,8 @@ use sealing::Question;
 use sealing::Reply;
 use sealing::SealAnswer;
 use sealing::SealQuestion;
-use sealing::Take;
-use sealing::TakeAnswer;
+use taking::Take;
+use taking::TakeAnswer;
 use send_keys::KeyAnswer;
 use send_keys::SendEpoch;
 use send_keys::SendKeys;
@@ -450,9 +450,9 @@ fn question(s: Sending, memory: &[u8]) {
 
 fn take_part(s: Sending, buffer: &mut [u8], n: usize, memory: &[u8]) -> Take {
     if n < buffer.len() {
-        return sealing::poll_packet_tx(s, &mut buffer[..n], memory);
+        return taking::poll_packet_tx(s, &mut buffer[..n], memory);
     }
-    sealing::poll_packet_tx(s, buffer, memory)
+    taking::poll_packet_tx(s, buffer, memory)
 }
 
 fn take(s: Sending, input: &[u8], memory: &[u8]) -> Sending {

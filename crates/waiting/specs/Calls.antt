@@ -16,7 +16,7 @@ use Rattle.flight.specs.Flight.{freshFlight, begun}
 use Rattle.flight.specs.Save.{saveAnswer, saveState, saveQueue, saveKept}
 use Rattle.messages.specs.Message.{beginning, messageAnswer, messageState, messageQueue, messageKept}
 use Rattle.sealing.specs.Sealing.{isPut, putMemory, sealAnswer, sealedState, sealedMemory}
-use Rattle.sealing.specs.Take.{takeAnswer, takeState}
+use Rattle.taking.specs.Take.{takeAnswer, takeState}
 use Rattle.waiting.specs.Queued.{Queued, flat, Holds}
 use Rattle.waiting.specs.Fresh.{fresh-holds}
 use Rattle.waiting.specs.Sends.{afterSend, send-holds, save-holds}

@@ -17,8 +17,8 @@ use Rattle.outgoing.specs.State.{noWaiting, freshSending, isContentType, isAllo
 use Rattle.outgoing.specs.Send.{waitsBehind, laidState, laidMemory, sendAnswer, sendState, sendMemory}
 use Rattle.sealing.specs.Seek.{nthOf, beyond, passed, foundAt, stepOf, seekStep, seek}
 use Rattle.sealing.specs.Sealing.{isSpan, isHeld, partStart, maskedHeader, behindOldest, sealAnswer, sealedState, sealedMemory}
-use Rattle.sealing.specs.declared.TakeAnswer.the-variants as take
-use Rattle.sealing.specs.Take.{takeAnswer}
+use Rattle.taking.specs.declared.TakeAnswer.the-variants as take
+use Rattle.taking.specs.Take.{takeAnswer}
 use Rattle.waiting.specs.Queued.{Queued, plain, waits, sealed, Holds}
 use Rattle.waiting.specs.Fresh.{fresh-holds}
 use Rattle.waiting.specs.Sends.{afterSend, send-holds}

@@ -24,11 +24,11 @@ use Rattle.flight.specs.Save.{saveAnswer, saveState, saveKept, save-safe, kept-
 use Rattle.messages.specs.Cut.{epochOf, overhead, size-rest}
 use Rattle.messages.specs.Message.{contentOf, Laid, pieceOf, sizeNow, sendAll, beginning, messageAnswer, messageState, messageKept, length-content}
 use Rattle.sealing.specs.declared.SealAnswer.{SealAnswer}
-use Rattle.sealing.specs.declared.TakeAnswer.{TakeAnswer}
+use Rattle.taking.specs.declared.TakeAnswer.{TakeAnswer}
 use Rattle.sealing.specs.Sealing as seals
 use Rattle.sealing.specs.Sealing.{sealAnswer, sealedState}
-use Rattle.sealing.specs.Take as takes
-use Rattle.sealing.specs.Take.{takeAnswer, takeState}
+use Rattle.taking.specs.Take as takes
+use Rattle.taking.specs.Take.{takeAnswer, takeState}
 use Rattle.waiting.specs.Queued.{Queued, Holds}
 use Rattle.waiting.specs.Seals.{ready-always, seal-told}
 use Rattle.waiting.specs.Takes.{takeTold, take-told}

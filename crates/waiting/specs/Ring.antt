@@ -14,7 +14,7 @@ use Rattle.base.specs.Choose.{choose, by-test, lt-or-ge}
 use Rattle.base.specs.Parts.{part, splice, length-splice, splice-before, splice-after}
 use Rattle.queue.specs.Queue.{slotOf}
 use Rattle.sealing.specs.Seek.{nthOf}
-use Rattle.sealing.specs.Take.{nextSlot}
+use Rattle.taking.specs.Take.{nextSlot}
 
 -- ---- slots
 

@@ -15,9 +15,9 @@ use Rattle.send_keys.specs.declared.SendKeys.{SendKeys}
 use Rattle.outgoing.specs.declared.Waiting.{Waiting}
 use Rattle.outgoing.specs.declared.Sending.{Sending}
 use Rattle.outgoing.specs.State.{noWaiting}
-use Rattle.sealing.specs.declared.TakeAnswer.{TakeAnswer}
-use Rattle.sealing.specs.declared.TakeAnswer.the-variants as take
-use Rattle.sealing.specs.Take.{frontLen, isFront, nextSlot, takeAnswer, isTaken, afterTake, takeState, takeBuffer}
+use Rattle.taking.specs.declared.TakeAnswer.{TakeAnswer}
+use Rattle.taking.specs.declared.TakeAnswer.the-variants as take
+use Rattle.taking.specs.Take.{frontLen, isFront, nextSlot, takeAnswer, isTaken, afterTake, takeState, takeBuffer}
 use Rattle.waiting.specs.Queued.{Queued, plain, waits, sealed, bytes, flat, numbersOf, waitsIn, Row, Rows, oldestIn, oldestOf, Under, Agrees, Holds}
 use Rattle.waiting.specs.Ring.{slot-front, slot-apart, slot-next, next-slot}
 use Rattle.waiting.specs.Lists.{order-later, none-in, any-waits, some-in}
