@@ -2,6 +2,7 @@ pub mod Lay
 pub mod Leaves
 pub mod Queued
 pub mod Whole
+pub mod Example
 pub mod Calls
 pub mod Ranges
 pub mod Found

@@ -119,7 +119,7 @@ save-kept-long s f room e t x m =
     by-test (λ (d : List ℕ). length d ≡ length m) (λ d. length-splice _ _ _ (kept-fits (save-safe s f room (length m) e t (length x) d .keeps) .0)) (λ d. refl)
 
 -- a saved send of any length, with any content
-save-sane : (s : Sending) (f : Flight) (q m : List ℕ) (e t n : ℕ) (x : List ℕ) → Sane s f q m
+pub save-sane : (s : Sending) (f : Flight) (q m : List ℕ) (e t n : ℕ) (x : List ℕ) → Sane s f q m
     → Sane (saveState s f (length q) (length m) e t n .state) (saveState s f (length q) (length m) e t n .flight) (saveQueue s f (length m) e t x q) (saveKept s f (length q) e t x m)
 save-sane s f q m e t n x h =
     let g = save-settings s f (length q) (length m) e t n in
@@ -143,7 +143,7 @@ all-sane (suc k) kind body at l h =
     (λ e. all-sane k kind body (at + n) (pieceOf kind body at n (l .saved .state) (l .saved .flight) (l .queue) (l .kept)) next)
 
 -- another message number
-numbered-sane : {s : Sending} {f : Flight} {q m : List ℕ} (n : ℕ) → Sane s f q m → Sane (numbered s n) f q m
+pub numbered-sane : {s : Sending} {f : Flight} {q m : List ℕ} (n : ℕ) → Sane s f q m → Sane (numbered s n) f q m
 numbered-sane n h = record { queue = h .queue; room = h .room; saved = h .saved; space = h .space }
 
 -- one test chooses state, flight and memories
@@ -153,7 +153,7 @@ unfolding choose
 chosen-sane true x y q r m n h g = h
 chosen-sane false x y q r m n h g = g
 
-message-sane : (a : SendAnswer) (s : Sending) (f : Flight) (q m : List ℕ) (kind : ℕ) (body : List ℕ) → Sane s f q m
+pub message-sane : (a : SendAnswer) (s : Sending) (f : Flight) (q m : List ℕ) (kind : ℕ) (body : List ℕ) → Sane s f q m
     → Sane (messageState a s f q m kind body .state) (messageState a s f q m kind body .flight) (messageQueue a s f q m kind body) (messageKept a s f q m kind body)
 unfolding messageState messageQueue messageKept
 message-sane a s f q m kind body h =
@@ -161,17 +161,17 @@ message-sane a s f q m kind body h =
 
 -- ---- the other calls
 
-keying-sane : (s : Sending) (e : ℕ) (iv : List ℕ) (f : Flight) (q m : List ℕ) → Sane s f q m → Sane (keyingState s e iv .state) f q m
+pub keying-sane : (s : Sending) (e : ℕ) (iv : List ℕ) (f : Flight) (q m : List ℕ) → Sane s f q m → Sane (keyingState s e iv .state) f q m
 unfolding keyingState
 keying-sane s e iv f q m h =
     by-test (λ (u : Sending). Sane u f q m) (λ d. record { queue = h .queue; room = h .room; saved = h .saved; space = h .space }) (λ d. h)
 
-begin-sane : (s : Sending) (f : Flight) (q m : List ℕ) → Sane s f q m → Sane s (begun f .flight) q m
+pub begin-sane : (s : Sending) (f : Flight) (q m : List ℕ) → Sane s f q m → Sane s (begun f .flight) q m
 unfolding begun
 begin-sane s f q m h =
     by-test (λ (b : Begun). Sane s (b .flight) q m) (λ d. record { queue = h .queue; room = h .room; saved = omega arith; space = h .space }) (λ d. h)
 
-put-long : (s : Sending) (v q : List ℕ) → length (putMemory s v q) ≡ length q
+pub put-long : (s : Sending) (v q : List ℕ) → length (putMemory s v q) ≡ length q
 unfolding putMemory isPut
 put-long s v q =
     by-test (λ (d : List ℕ). length d ≡ length q)
@@ -180,7 +180,7 @@ put-long s v q =
     length-splice (partStart s) v q (omega (arith, part-fits (a .0) (a .1), eqb-true (length v) (s .waiting .length) (both-right (isAsked s (length q)) _ h))))
     (λ h. refl)
 
-sealed-long : (s : Sending) (n : ℕ) (mask q : List ℕ) → length (sealedMemory (sealAnswer s (length q) n) s mask q) ≡ length q
+pub sealed-long : (s : Sending) (n : ℕ) (mask q : List ℕ) → length (sealedMemory (sealAnswer s (length q) n) s mask q) ≡ length q
 unfolding sealedMemory partStart
 sealed-long s n mask q =
     by-test (λ (d : List ℕ). length d ≡ length q)
@@ -189,20 +189,20 @@ sealed-long s n mask q =
     length-splice _ _ _ (omega (arith, part-fits (a .0) (a .1), length-masked (s .waiting .epoch) (s .waiting .number) (s .waiting .length) mask)))
     (λ h. refl)
 
-sealed-sane : (a : SealAnswer) (s : Sending) (f : Flight) (q m : List ℕ) → Sane s f q m → Sane (sealedState a s q .state) f q m
+pub sealed-sane : (a : SealAnswer) (s : Sending) (f : Flight) (q m : List ℕ) → Sane s f q m → Sane (sealedState a s q .state) f q m
 unfolding sealedState
 sealed-sane a s f q m h =
     by-test (λ (u : Sending). Sane u f q m) (λ d. record { queue = h .queue; room = h .room; saved = h .saved; space = h .space }) (λ d. h)
 
 -- a memory of the same length will do
-long-sane : {s : Sending} {f : Flight} {m : List ℕ} (q r : List ℕ) → length r ≡ length q → Sane s f q m → Sane s f r m
+pub long-sane : {s : Sending} {f : Flight} {m : List ℕ} (q r : List ℕ) → length r ≡ length q → Sane s f q m → Sane s f r m
 long-sane q r e h = record { queue = h .queue; room = rw e (h .room); saved = h .saved; space = h .space }
 
 next-slot : (first limit : ℕ) → first < limit → nextSlot first limit < limit
 unfolding nextSlot
 next-slot first limit h = by-test (λ (n : ℕ). n < limit) (λ e. ltb-true (first + 1) limit e) (λ e. omega arith)
 
-take-sane : (a : TakeAnswer) (s : Sending) (f : Flight) (q m : List ℕ) → Sane s f q m → Sane (takeState a s .state) f q m
+pub take-sane : (a : TakeAnswer) (s : Sending) (f : Flight) (q m : List ℕ) → Sane s f q m → Sane (takeState a s .state) f q m
 unfolding takeState
 take-sane a s f q m h =
     let r = h .queue .range in
@@ -226,7 +226,7 @@ take-sane a s f q m h =
     })
     (λ d. h)
 
-send-sane : (s : Sending) (f : Flight) (q m : List ℕ) (e t : ℕ) (x : List ℕ) → Sane s f q m
+pub send-sane : (s : Sending) (f : Flight) (q m : List ℕ) (e t : ℕ) (x : List ℕ) → Sane s f q m
     → Sane (sendState (sendAnswer s (length q) e t (length x)) s e (length x) .state) f (sendMemory (sendAnswer s (length q) e t (length x)) s e t x q) m
 send-sane s f q m e t x h =
     let g = send-settings s (length q) e t (length x) in
@@ -306,11 +306,11 @@ module _ {s : Sending} {room e n : ℕ} (c : Clear s room e n) where
 abbrev IsHeld : Sending → Type 0
 IsHeld s = isHeld s ≡ true
 
-send-held : (s : Sending) (room e t n : ℕ) → IsHeld s → IsHeld (sendState (sendAnswer s room e t n) s e n .state)
+pub send-held : (s : Sending) (room e t n : ℕ) → IsHeld s → IsHeld (sendState (sendAnswer s room e t n) s e n .state)
 unfolding sendState
 send-held s room e t n h = by-test IsHeld (λ d. laid-held (send-clear s room e t n d) h) (λ d. h)
 
-save-held : (s : Sending) (f : Flight) (room kept e t n : ℕ) → IsHeld s → IsHeld (saveState s f room kept e t n .state)
+pub save-held : (s : Sending) (f : Flight) (room kept e t n : ℕ) → IsHeld s → IsHeld (saveState s f room kept e t n .state)
 unfolding saveState
 save-held s f room kept e t n h = by-test IsHeld (λ d. laid-held (save-safe s f room kept e t n d .clear) h) (λ d. h)
 
@@ -323,15 +323,15 @@ all-held (suc k) kind body at l h =
     by-test (λ (r : Laid). IsHeld (r .saved .state)) (λ e. next)
     (λ e. all-held k kind body (at + n) (pieceOf kind body at n (l .saved .state) (l .saved .flight) (l .queue) (l .kept)) next)
 
-message-held : (a : SendAnswer) (s : Sending) (f : Flight) (q m : List ℕ) (kind : ℕ) (body : List ℕ) → IsHeld s → IsHeld (messageState a s f q m kind body .state)
+pub message-held : (a : SendAnswer) (s : Sending) (f : Flight) (q m : List ℕ) (kind : ℕ) (body : List ℕ) → IsHeld s → IsHeld (messageState a s f q m kind body .state)
 unfolding messageState isHeld
 message-held a s f q m kind body h = by-test (λ (x : Saved). IsHeld (x .state)) (λ d. all-held 13 kind body 0 (start s f q m) h) (λ d. h)
 
-keying-held : (s : Sending) (e : ℕ) (iv : List ℕ) → IsHeld s → IsHeld (keyingState s e iv .state)
+pub keying-held : (s : Sending) (e : ℕ) (iv : List ℕ) → IsHeld s → IsHeld (keyingState s e iv .state)
 unfolding keyingState isHeld
 keying-held s e iv h = by-test IsHeld (λ d. h) (λ d. h)
 
-take-held : (a : TakeAnswer) (s : Sending) → IsHeld s → IsHeld (takeState a s .state)
+pub take-held : (a : TakeAnswer) (s : Sending) → IsHeld s → IsHeld (takeState a s .state)
 unfolding takeState isHeld
 take-held a s h = by-test IsHeld (λ d. h) (λ d. h)
 

@@ -7,16 +7,18 @@ use native.Mathlib.Omega.{arith}
 use lib.ListN.{length}
 use borrow.Author.Tests.{le-leb}
 use Rattle.base.specs.Choose.{by-test, both-true}
-use Rattle.queue.specs.Queue.{isSetting, isSound, isReady, ready-again, sound-again}
+use Rattle.queue.specs.Queue.{isSetting, isSound, isReady, InRange, ready-again, sound-again}
 use Rattle.send_keys.specs.declared.KeyAnswer.{KeyAnswer}
 use Rattle.send_keys.specs.Keys.{refusal as keyRefusal, keyAnswer}
 use Rattle.outgoing.specs.declared.Sending.{Sending}
 use Rattle.outgoing.specs.declared.SendAnswer.{SendAnswer}
 use Rattle.outgoing.specs.State.{refusal, keyingState}
 use Rattle.outgoing.specs.Send.{sendAnswer, sendState}
+use Rattle.sealing.specs.declared.Question.{Question}
 use Rattle.sealing.specs.declared.SealAnswer.{SealAnswer}
+use Rattle.sealing.specs.declared.SealQuestion.the-variants as ask
 use Rattle.taking.specs.declared.TakeAnswer.{TakeAnswer}
-use Rattle.sealing.specs.Sealing.{refusal as sealRefusal, isHeld, sealAnswer, sealedState}
+use Rattle.sealing.specs.Sealing.{refusal as sealRefusal, isHeld, questionOf, sealAnswer, sealedState}
 use Rattle.taking.specs.Take.{refusal as takeRefusal, frontLen, takeAnswer, takeState}
 use Rattle.flight.specs.declared.Begun.{Begun}
 use Rattle.flight.specs.declared.Flight.{Flight}
@@ -117,6 +119,16 @@ module _ (s : Sending) (f : Flight) (q m : List ℕ) (h : Sane s f q m) where
       (λ x. by-test (λ (a : TakeAnswer). takeRefusal a ≡ 12 → ⊥) (λ y z. omega arith) (λ y z. omega arith)))
       (λ v z. false≢true (sym v ∙ le-leb (frontLen s) (s .queue .mtu) (h .queue .short (s .queue .first))))))
       (λ t z. false≢true (sym t ∙ is-ready))
+
+-- and the sealing question
+pub question-not : (s : Sending) → InRange (s .queue) → isHeld s ≡ true → questionOf s .question ≡ ask.OutOfRange → ⊥
+unfolding questionOf
+question-not s r held =
+    by-test (λ (x : Question). x .question ≡ ask.OutOfRange → ⊥)
+    (λ t. by-test (λ (x : Question). x .question ≡ ask.OutOfRange → ⊥)
+    (λ u. by-test (λ (x : Question). x .question ≡ ask.OutOfRange → ⊥) (λ v e. let z : _≡_ {A = ℕ} 0 1 = cc in omega arith) (λ v e. let z : _≡_ {A = ℕ} 0 1 = cc in omega arith))
+    (λ u e. false≢true (sym u ∙ held)))
+    (λ t e. false≢true (sym t ∙ sound-again r))
 
 message-number : (a : SendAnswer) (s : Sending) (f : Flight) (q m : List ℕ) (kind : ℕ) (body : List ℕ) → messageState a s f q m kind body .answer ≡ a
 unfolding messageState
