@@ -1,6 +1,7 @@
 // A reader over one datagram: it keeps the slice and the offset reached. Thin over the cut of a record (crate record).
 ghost use mathlib.Core.Path.{_≡_};
 ghost use Prim.Native.Nat.{_-_};
+ghost use Rattle.record.specs.Record.{headOf, sizeOf, contentOf, restOf};
 ghost use Rattle.reader.specs.Reader.{nextOf, stepAt};
 use record::Parsed;
 
@@ -14,6 +15,45 @@ pub struct Step {
 pub struct Reader<'a> {
     pub datagram: &'a [u8],
     pub at: usize,
+}
+
+// Where the content of a record begins, and how long it is.
+fn head_of(p: Parsed) -> usize
+    ensures { λ r. ⌜ r ≡ headOf p ⌝ }
+{
+    match p {
+        Parsed::Plaintext(_) => record::PLAINTEXT_HEADER_LEN,
+        Parsed::Ciphertext(r) => r.header_len,
+        Parsed::Invalid(_) => record::PLAINTEXT_HEADER_LEN,
+        Parsed::End => 0,
+        Parsed::Incomplete => 0,
+    }
+}
+
+fn size_of(p: Parsed) -> usize
+    ensures { λ r. ⌜ r ≡ sizeOf p ⌝ }
+{
+    match p {
+        Parsed::Plaintext(r) => r.length,
+        Parsed::Ciphertext(r) => r.length,
+        Parsed::Invalid(n) => n,
+        Parsed::End => 0,
+        Parsed::Incomplete => 0,
+    }
+}
+
+// The content of the record that a slice begins with, as a part of it.
+pub fn content(d: &[u8], p: Parsed) -> &[u8]
+    ensures { λ r. ⌜ now r ≡ contentOf (now (d .entry)) p ⌝ }
+{
+    base::fragment(d, head_of(p), size_of(p))
+}
+
+// What follows the record that a slice begins with, as a part of it.
+pub fn rest(d: &[u8], p: Parsed) -> &[u8]
+    ensures { λ r. ⌜ now r ≡ restOf (now (d .entry)) p ⌝ }
+{
+    base::behind(base::behind(d, head_of(p)), size_of(p))
 }
 
 fn minus(a: usize, b: usize) -> usize
@@ -44,7 +84,7 @@ pub fn step_at(d: &[u8], at: usize) -> Step
 {
     let t = base::behind(d, at);
     let p = record::parse(t);
-    let left = record::rest(t, p);
+    let left = rest(t, p);
     Step {
         found: p,
         at: next_of(p, d.len(), left.len()),

@@ -14,10 +14,6 @@ ghost use Rattle.record.specs.Record.{
   parseCiphertext,
   parsePlaintext,
   parsed,
-  headOf,
-  sizeOf,
-  contentOf,
-  restOf,
 };
 
 // The versions that a plaintext header may carry; the second is written.
@@ -26,7 +22,7 @@ const DTLS1_0: [u8; 2] = [0xFE, 0xFF];
 pub const DTLS1_2: [u8; 2] = [0xFE, 0xFD];
 
 // Bytes of a plaintext header: type 1, version 2, epoch 2, number 6, length 2.
-const PLAINTEXT_HEADER_LEN: usize = 13;
+pub const PLAINTEXT_HEADER_LEN: usize = 13;
 
 pub struct Plaintext {
     pub content_type: u8,
@@ -189,43 +185,4 @@ pub fn parse(d: &[u8]) -> Parsed
         return parse_ciphertext(d, flags);
     }
     parse_plaintext(d)
-}
-
-// Where the content of a record begins, and how long it is.
-fn head_of(p: Parsed) -> usize
-    ensures { λ r. ⌜ r ≡ headOf p ⌝ }
-{
-    match p {
-        Parsed::Plaintext(_) => PLAINTEXT_HEADER_LEN,
-        Parsed::Ciphertext(r) => r.header_len,
-        Parsed::Invalid(_) => PLAINTEXT_HEADER_LEN,
-        Parsed::End => 0,
-        Parsed::Incomplete => 0,
-    }
-}
-
-fn size_of(p: Parsed) -> usize
-    ensures { λ r. ⌜ r ≡ sizeOf p ⌝ }
-{
-    match p {
-        Parsed::Plaintext(r) => r.length,
-        Parsed::Ciphertext(r) => r.length,
-        Parsed::Invalid(n) => n,
-        Parsed::End => 0,
-        Parsed::Incomplete => 0,
-    }
-}
-
-// The content of the record that a slice begins with, as a part of it.
-pub fn content(d: &[u8], p: Parsed) -> &[u8]
-    ensures { λ r. ⌜ now r ≡ contentOf (now (d .entry)) p ⌝ }
-{
-    base::fragment(d, head_of(p), size_of(p))
-}
-
-// What follows the record that a slice begins with, as a part of it.
-pub fn rest(d: &[u8], p: Parsed) -> &[u8]
-    ensures { λ r. ⌜ now r ≡ restOf (now (d .entry)) p ⌝ }
-{
-    base::behind(base::behind(d, head_of(p)), size_of(p))
 }

@@ -1,7 +1,7 @@
--- `record::rest` meets its contract. Assumes nothing.
+-- `reader::rest` meets its contract. Assumes nothing.
 use borrow.Author.Needs.{needs}
-use Rattle.record.proofs.rest.Statement.{statement}
-use Rattle.record.proofs.rest.Tie as tie
+use Rattle.reader.proofs.rest.Statement.{statement}
+use Rattle.reader.proofs.rest.Tie as tie
 
 head-of-requires : tie.Need-head-of-requires
 head-of-requires c κs = search needs

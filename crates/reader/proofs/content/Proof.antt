@@ -1,7 +1,7 @@
--- `record::content` meets its contract. Assumes nothing.
+-- `reader::content` meets its contract. Assumes nothing.
 use borrow.Author.Needs.{needs}
-use Rattle.record.proofs.content.Statement.{statement}
-use Rattle.record.proofs.content.Tie as tie
+use Rattle.reader.proofs.content.Statement.{statement}
+use Rattle.reader.proofs.content.Tie as tie
 
 head-of-requires : tie.Need-head-of-requires
 head-of-requires c κs = search needs
