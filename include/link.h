@@ -1,7 +1,8 @@
 /* The record link's C interface: target/staticlib/liblink.a, made by `rt staticlib link`.
- * Plain functions over flat structs: no allocation, no global state, no requirement on the caller but that each pointer has the
- * length given beside it. State goes in by value and comes back; a refused call hands back what it was given. Any bytes may stand in
- * a state: one that is none is refused by 12. Refusals have the numbers of the specification. */
+ * Plain functions over memory that the host lends: no allocation, no global state, no requirement on the caller but that each pointer
+ * leads to what its type or the length beside it says, and that no two of them overlap. A state is words whose meaning the library
+ * keeps; whatever stands in them, a call ends with an answer, and refuses by 12 what is no state. Refusals have the numbers of the
+ * specification. */
 #ifndef LINK_H
 #define LINK_H
 
@@ -14,38 +15,10 @@ extern "C" {
 
 /* ---- receiving */
 
-/* An epoch keyed to receive: its number, its IV, the highest number received, and the marks of it and the 63 below it. */
+/* The receive side: epochs with their IVs and windows, the begun datagram, the question that waits. */
 typedef struct {
-    uint16_t epoch;
-    uint8_t iv[12];
-    uint64_t max_seq, window;
-} LinkEpoch;
-
-/* The question that waits, by kind: 0 none, 1 the mask, 2 the opening. */
-typedef struct {
-    size_t header_len, length;
-    uint64_t number;
-    uint16_t epoch;
-    uint8_t kind, s_flag;
-} LinkQuestion;
-
-typedef struct {
-    LinkEpoch epochs[5];
-    size_t count, min_protected, size, at, readings;
-    LinkQuestion question;
-    uint16_t highest;
-    uint8_t peer_encryption, released;
+    uint64_t word[89];
 } LinkReceiving;
-
-typedef struct {
-    uint8_t bytes[12];
-} LinkIv;
-
-/* answer: 0, or the number of the refusal; 6 where a record was dropped with its epoch. */
-typedef struct {
-    uint8_t answer;
-    LinkReceiving state;
-} LinkKept;
 
 enum {
     LINK_REFUSED = 0,   /* refusal 12 or 15: nothing has changed */
@@ -67,25 +40,24 @@ typedef struct {
     uint8_t nonce[12];
 } LinkReading;
 
-typedef struct {
-    LinkReading reading;
-    LinkReceiving state;
-} LinkRead;
+/* These answer 0, or the number of the refusal. */
 
 /* A receive side with nothing keyed. A protected part has at least min_protected bytes, 0 to 17. */
-LinkKept link_receiving(size_t min_protected);
-LinkKept link_key_receive(LinkReceiving s, uint16_t epoch, LinkIv iv);
-LinkKept link_remove_receive(LinkReceiving s, uint16_t epoch);
-LinkKept link_enable_peer_encryption(LinkReceiving s);
-LinkKept link_release_application_data(LinkReceiving s);
+uint8_t link_receiving(LinkReceiving *s, size_t min_protected);
+uint8_t link_key_receive(LinkReceiving *s, uint16_t epoch, const uint8_t iv[12]);
+/* 6 where the record under a question is dropped with its epoch. */
+uint8_t link_remove_receive(LinkReceiving *s, uint16_t epoch);
+uint8_t link_enable_peer_encryption(LinkReceiving *s);
+uint8_t link_release_application_data(LinkReceiving *s);
+/* Begins a datagram of n bytes. */
+uint8_t link_begin(LinkReceiving *s, size_t n);
 
-/* Begins a datagram, then one record after the other: read; where asked, mask; where asked, opened. The same datagram goes into
- * each call. The mask is XORed onto the number bytes in place. opened is 1 if the host put the plaintext, length bytes (16 fewer than
- * the protected part), at the start of the protected part, else 0. */
-LinkKept link_begin(LinkReceiving s, const uint8_t *d, size_t n);
-LinkRead link_read(LinkReceiving s, const uint8_t *d, size_t n);
-LinkRead link_mask(LinkReceiving s, uint8_t mask_0, uint8_t mask_1, uint8_t *d, size_t n);
-LinkRead link_opened(LinkReceiving s, uint8_t opened, size_t length, const uint8_t *d, size_t n);
+/* One record after the other: read; where asked, mask; where asked, opened. The same datagram, of the length begun, goes into each
+ * call. The mask is XORed onto the number bytes in place. opened is 1 if the host put the plaintext, length bytes (16 fewer than the
+ * protected part), at the start of the protected part, else 0. */
+LinkReading link_read(LinkReceiving *s, const uint8_t *d, size_t n);
+LinkReading link_mask(LinkReceiving *s, uint8_t mask_0, uint8_t mask_1, uint8_t *d, size_t n);
+LinkReading link_opened(LinkReceiving *s, uint8_t opened, size_t length, const uint8_t *d, size_t n);
 
 #ifdef __cplusplus
 }

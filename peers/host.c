@@ -93,31 +93,26 @@ static int open_part(const Keys *keys, const uint8_t *nonce, const uint8_t *head
 
 /* ---- the link */
 
-static void take(LinkReceiving *link, LinkKept kept)
+static void take(uint8_t answer)
 {
-    if (kept.answer != 0)
+    if (answer != 0)
         stop(1, "a call is refused");
-    *link = kept.state;
 }
 
 /* The next reading of a begun datagram: the link's questions are answered. */
 static LinkReading next(Receiver *r, uint8_t *d, size_t n)
 {
-    LinkRead read = link_read(r->link, d, n);
-    LinkReading q = read.reading;
+    LinkReading q = link_read(&r->link, d, n);
     if (q.kind == LINK_MASK) {
         uint8_t mask[2];
         mask_of(&r->keys[q.epoch % EPOCHS], d + q.start, mask);
-        read = link_mask(read.state, mask[0], mask[1], d, n);
-        q = read.reading;
+        q = link_mask(&r->link, mask[0], mask[1], d, n);
     }
     if (q.kind == LINK_OPENING) {
         uint8_t *part = d + q.start + q.header_len;
         int ok = open_part(&r->keys[q.epoch % EPOCHS], q.nonce, d + q.start, q.header_len, part, q.length);
-        read = link_opened(read.state, ok ? 1 : 0, q.length - TAG, d, n);
-        q = read.reading;
+        q = link_opened(&r->link, ok ? 1 : 0, q.length - TAG, d, n);
     }
-    r->link = read.state;
     return q;
 }
 
@@ -167,15 +162,15 @@ static void expect(Receiver *r, uint8_t *d, size_t n, char *line)
 static void key(Receiver *r, unsigned epoch, const char *suite, const char *key_text, const char *iv_text, const char *sn_text)
 {
     Keys *keys = &r->keys[epoch % EPOCHS];
-    LinkIv iv;
+    uint8_t iv[12];
     keys->chacha = strcmp(suite, "TLS_CHACHA20_POLY1305_SHA256") == 0;
     if (!keys->chacha && strcmp(suite, "TLS_AES_128_GCM_SHA256") != 0)
         stop(2, "a suite that is not known");
     bytes_of(key_text, keys->key, sizeof keys->key);
     bytes_of(sn_text, keys->sn_key, sizeof keys->sn_key);
-    if (bytes_of(iv_text, iv.bytes, sizeof iv.bytes) != sizeof iv.bytes)
+    if (bytes_of(iv_text, iv, sizeof iv) != sizeof iv)
         stop(2, "an IV that is not of 12 bytes");
-    take(&r->link, link_key_receive(r->link, (uint16_t)epoch, iv));
+    take(link_key_receive(&r->link, (uint16_t)epoch, iv));
 }
 
 int main(void)
@@ -187,8 +182,8 @@ int main(void)
     ssize_t got;
     Receiver *reading = NULL;
     for (int side = 0; side < 2; side++) {
-        take(&receivers[side].link, link_receiving(TAG));
-        take(&receivers[side].link, link_enable_peer_encryption(receivers[side].link));
+        take(link_receiving(&receivers[side].link, TAG));
+        take(link_enable_peer_encryption(&receivers[side].link));
     }
     while ((got = getline(&line, &room, stdin)) > 0) {
         unsigned side = 0, epoch;
@@ -204,13 +199,13 @@ int main(void)
         } else if (sscanf(line, "key %u %u %63s %127s %63s %127s", &side, &epoch, suite, key_text, iv_text, sn_text) == 6 && side < 2) {
             key(&receivers[side], epoch, suite, key_text, iv_text, sn_text);
         } else if (sscanf(line, "remove %u %u", &side, &epoch) == 2 && side < 2) {
-            take(&receivers[side].link, link_remove_receive(receivers[side].link, (uint16_t)epoch));
+            take(link_remove_receive(&receivers[side].link, (uint16_t)epoch));
         } else if (sscanf(line, "release %u", &side) == 1 && side < 2) {
-            take(&receivers[side].link, link_release_application_data(receivers[side].link));
+            take(link_release_application_data(&receivers[side].link));
         } else if (sscanf(line, "datagram %u", &side) == 1 && side < 2) {
             n = bytes_of(strrchr(line, ' ') + 1, d, sizeof d);
             reading = &receivers[side];
-            take(&reading->link, link_begin(reading->link, d, n));
+            take(link_begin(&reading->link, n));
             datagrams++;
         } else {
             stop(2, "bad line");

@@ -1,46 +1,62 @@
--- The calls of the C interface: each is the call of the receive side on the state that the struct stands for; a struct that stands
--- for none, or a reply neither 0 nor 1, is 12, and the struct comes back as it was.
+-- The calls of the C interface: each is the call of the receive side on the state that the words stand for. Words that stand for none,
+-- or a reply neither 0 nor 1, are refused by 12, and the state stays.
+use mathlib.Core.Bool.{Bool, true}
 use mathlib.Core.List.{List, [], _∷_}
+use mathlib.Core.Path.{_≡_}
 use Prim.Native.Nat.{ℕ}
 use lib.Dec.{leb}
-use Rattle.base.specs.Choose.{choose}
-use Rattle.receiving.specs.Receiving.{freshOf, keyOf, removeOf, encryptOf, releaseOf, beginOf, readOf, maskOf, openedOf}
-use Rattle.link.specs.Flat.{isFlat, stateOf, flatKept, flatRead, bare, openingOf}
-use Rattle.link.specs.declared.LinkReceiving.{LinkReceiving}
-use Rattle.link.specs.declared.LinkKept.{LinkKept}
-use Rattle.link.specs.declared.LinkRead.{LinkRead}
+use Rattle.base.specs.Choose.{choose, both}
+use Rattle.datagram.specs.declared.Step.{Step}
+use Rattle.opening_reply.specs.declared.Marked.{Marked}
+use Rattle.recv_keys.specs.Keys.{marked}
+use Rattle.recv_keys.specs.declared.RecvKeys.{RecvKeys}
+use Rattle.receiving.specs.Receiving.{maskOf}
+use Rattle.receiving.specs.declared.Answer.{Answer}
+use Rattle.receiving.specs.declared.Kept.{Kept}
+use Rattle.receiving.specs.declared.Read.{Read}
+use Rattle.receiving.specs.declared.Receiving.{Receiving}
+use Rattle.link_words.specs.Words.{keysOf, datagramOf, isFlat}
+use Rattle.link.specs.Flat.{answerOf, bare, flatReading}
+use Rattle.link.specs.declared.LinkReading.{LinkReading}
+use Rattle.link.specs.declared.Opened.{Opened}
 
-abbrev pub refusedKept : LinkReceiving → LinkKept
-refusedKept s = record { answer = 12; state = s }
+-- the state that words stand for
+abbrev pub stateOf : List ℕ → Receiving
+stateOf w = record { keys = keysOf w; datagram = datagramOf w }
 
-abbrev pub refusedRead : LinkReceiving → LinkRead
-refusedRead s = record { reading = bare 0 12; state = s }
+-- ---- a call that reads nothing: w before it, v behind it, k what the definition makes of the state
 
-abbrev pub freshCall : ℕ → LinkKept
-freshCall min = flatKept (freshOf min)
+abbrev pub Does : ℕ → List ℕ → List ℕ → Kept → Type 0
+Does r v w k = (r ≡ choose (isFlat w) (answerOf (k .answer)) 12) × (stateOf v ≡ choose (isFlat w) (k .state) (stateOf w)) × (isFlat v ≡ isFlat w)
 
-unfoldable pub keyCall : LinkReceiving → ℕ → List ℕ → LinkKept
-keyCall s epoch iv = choose (isFlat s) (flatKept (keyOf (stateOf s) epoch iv)) (refusedKept s)
+-- the same within a call, where the words stand for a state
+abbrev pub Kept-as : Answer → List ℕ → List ℕ → Kept → Type 0
+Kept-as a v w k = (a ≡ k .answer) × (stateOf v ≡ k .state) × (isFlat v ≡ isFlat w)
 
-unfoldable pub removeCall : LinkReceiving → ℕ → LinkKept
-removeCall s epoch = choose (isFlat s) (flatKept (removeOf (stateOf s) epoch)) (refusedKept s)
+-- ---- a call that reads
 
-unfoldable pub encryptCall : LinkReceiving → LinkKept
-encryptCall s = choose (isFlat s) (flatKept (encryptOf (stateOf s))) (refusedKept s)
+abbrev pub Reads : LinkReading → List ℕ → List ℕ → Read → Type 0
+Reads r v w k =
+    (r ≡ choose (isFlat w) (flatReading (k .reading) (k .nonce)) (bare 0 12)) × (stateOf v ≡ choose (isFlat w) (k .state) (stateOf w))
+    × (isFlat v ≡ isFlat w)
 
-unfoldable pub releaseCall : LinkReceiving → LinkKept
-releaseCall s = choose (isFlat s) (flatKept (releaseOf (stateOf s))) (refusedKept s)
+abbrev pub Stepped : LinkReading → List ℕ → List ℕ → Step → Type 0
+Stepped r v w t =
+    (r ≡ flatReading (t .reading) (t .nonce)) × (keysOf v ≡ keysOf w) × (datagramOf v ≡ t .datagram) × (isFlat v ≡ true)
 
-unfoldable pub beginCall : LinkReceiving → ℕ → LinkKept
-beginCall s n = choose (isFlat s) (flatKept (beginOf (stateOf s) n)) (refusedKept s)
+abbrev pub masks : ℕ → ℕ → List ℕ
+masks m n = m ∷ n ∷ []
 
-unfoldable pub readCall : LinkReceiving → List ℕ → LinkRead
-readCall s d = choose (isFlat s) (flatRead (readOf (stateOf s) d)) (refusedRead s)
+-- the datagram behind a mask
+abbrev pub maskBytesOf : List ℕ → ℕ → ℕ → List ℕ → List ℕ
+maskBytesOf w m n d = choose (isFlat w) (maskOf (stateOf w) (masks m n) d .1) d
 
-unfoldable pub maskCall : LinkReceiving → ℕ → ℕ → List ℕ → LinkRead × List ℕ
-maskCall s m n d =
-    choose (isFlat s) (flatRead (maskOf (stateOf s) (m ∷ n ∷ []) d .0), maskOf (stateOf s) (m ∷ n ∷ []) d .1) (refusedRead s, d)
+-- a reply to an opening question is 0 or 1
+abbrev pub OpenedAs : LinkReading → List ℕ → List ℕ → ℕ → Read → Type 0
+OpenedAs r v w o k =
+    (r ≡ choose (both (leb o 1) (isFlat w)) (flatReading (k .reading) (k .nonce)) (bare 0 12))
+    × (stateOf v ≡ choose (both (leb o 1) (isFlat w)) (k .state) (stateOf w)) × (isFlat v ≡ isFlat w)
 
-unfoldable pub openedCall : LinkReceiving → ℕ → ℕ → List ℕ → LinkRead
-openedCall s opened n d =
-    choose (leb opened 1) (choose (isFlat s) (flatRead (openedOf (stateOf s) (openingOf opened n) d)) (refusedRead s)) (refusedRead s)
+-- what an opening makes of keys
+abbrev pub opens : Opened → RecvKeys → Marked
+opens o k = record { step = o .step; keys = choose (o .marks) (marked k (o .place) (o .number)) k }

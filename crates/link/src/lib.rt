@@ -1,88 +1,32 @@
-// The receive side of a link as C functions over flat structs: a static library for hosts. State goes in by value and comes back;
-// a refused call hands back what it was given. Whatever bytes a host hands in as state, a call ends with an answer.
+// The receive side of a link as C functions: a static library for hosts. The state is 89 words that the host keeps and lends; a call
+// changes them in place and copies none of them. Whatever stands in them, a call ends with an answer.
 ghost use mathlib.Core.Path.{_≡_};
+ghost use Prim.Native.Nat.{_+_, _≤_, _<_};
 ghost use lib.ListN.{length};
-ghost use Rattle.link.specs.Flat.{
-  entryOf,
-  flatEntry,
-  entriesOf,
-  flatEntries,
-  questionOf,
-  flatQuestion,
-  isQuestion,
-  isFlat,
-  stateOf,
-  flatState,
-  answerOf,
-  flatKept,
-  reasonOf,
-  bare,
-  flatReading,
-  flatRead,
-  openingOf,
-};
-ghost use Rattle.link.specs.Calls.{freshCall, keyCall, removeCall, encryptCall, releaseCall, beginCall, readCall, maskCall, openedCall, refusedKept, refusedRead};
+ghost use mathlib.Core.Bool.{true};
+ghost use Rattle.datagram.specs.Datagram.{isSound};
+ghost use Rattle.mask_reply.specs.Mask.{maskedBy, maskStep};
+ghost use Rattle.opening_reply.specs.Opening.{openedBy, openedStep, openedAt, cancelled};
+ghost use Rattle.receiving.specs.Receiving.{freshOf, keyOf, leaving, removeOf, encryptOf, releaseOf, beginOf, readOf, maskOf, openedOf};
+ghost use Rattle.record.specs.Record.{parsed};
+ghost use Rattle.records.specs.Records.{lockedStep, sealedStep, stepOf, askedAgain, asking, readStep};
+ghost use Rattle.recv_keys.specs.Keys.{find, resolve, isFull, left};
+ghost use Rattle.recv_keys.specs.declared.RecvKeys.{RecvKeys};
+ghost use Rattle.link_words.specs.Words.{keysOf, datagramOf, isFlat};
+ghost use Rattle.link.specs.Flat.{answerOf, reasonOf, bare, flatReading, openingOf};
+ghost use Rattle.link.specs.Calls.{stateOf, Kept-as, Stepped, Does, Reads, opens, masks, maskBytesOf, OpenedAs};
 use datagram::Ask;
 use datagram::Datagram;
 use datagram::Question;
 use datagram::Reading;
 use datagram::Reason;
+use datagram::Step;
+use opening_reply::Cancelled;
 use opening_reply::Opening;
 use receiving::Answer;
-use receiving::Kept;
-use receiving::Read;
-use receiving::Receiving;
-use recv_keys::RecvEpochEntry;
-use recv_keys::RecvKeys;
-use window::ReplayWindow;
-
-// An epoch keyed to receive: its number, its IV, the highest number received, and the marks of it and the 63 below it.
-#[repr(C)]
-pub struct LinkEpoch {
-    pub epoch: u16,
-    pub iv: [u8; 12],
-    pub max_seq: u64,
-    pub window: u64,
-}
-
-// The question that waits, by kind: 0 none, 1 the mask, 2 the opening. Fields that a kind does not use are zeros.
-#[repr(C)]
-pub struct LinkQuestion {
-    pub header_len: usize,
-    pub length: usize,
-    pub number: u64,
-    pub epoch: u16,
-    pub kind: u8,
-    pub s_flag: u8,
-}
-
-// The receive side: the epochs in order of keying, the least length of a protected part, the begun datagram's length, the cursor
-// and the readings made, the question that waits, the highest epoch ever keyed, and two flags, 0 or 1.
-#[repr(C)]
-pub struct LinkReceiving {
-    pub epochs: [LinkEpoch; 5],
-    pub count: usize,
-    pub min_protected: usize,
-    pub size: usize,
-    pub at: usize,
-    pub readings: usize,
-    pub question: LinkQuestion,
-    pub highest: u16,
-    pub peer_encryption: u8,
-    pub released: u8,
-}
-
-#[repr(C)]
-pub struct LinkIv {
-    pub bytes: [u8; 12],
-}
-
-// What a call that reads nothing answers: 0, or the number of its refusal.
-#[repr(C)]
-pub struct LinkKept {
-    pub answer: u8,
-    pub state: LinkReceiving,
-}
+use record::Ciphertext;
+use record::Parsed;
+use recv_keys::Found;
 
 // What a call says of the record at the cursor, by kind:
 //   0 refused by 12 or 15, and nothing has changed;
@@ -107,198 +51,370 @@ pub struct LinkReading {
     pub nonce: [u8; 12],
 }
 
-#[repr(C)]
-pub struct LinkRead {
-    pub reading: LinkReading,
-    pub state: LinkReceiving,
+// What a reply to an opening question leads to: a step, and whether a number is marked, at which entry.
+pub struct Opened {
+    pub step: Step,
+    pub marks: bool,
+    pub place: usize,
+    pub number: u64,
 }
 
-// ---- what the flat structs stand for
+// ---- the cut, over the words
 
-fn entry_of(e: LinkEpoch) -> RecvEpochEntry
-    ensures { λ r. ⌜ r ≡ entryOf e ⌝ }
+// A sealed record while the peer encrypts: its epoch is resolved, before its mask is asked for.
+fn locked_step(w: &[u64; 89], b: Datagram, c: Ciphertext) -> Step
+    requires { ⌜ (keysOf (now w) .count ≤ 5) × (b .at + c .«header_len» + c .length ≤ 16384) ⌝ }
+    ensures { λ t. ⌜ t ≡ lockedStep (resolve (keysOf (now (w .entry))) (c .«epoch_bits»)) (keysOf (now (w .entry))) b c ⌝ }
 {
-    let iv = e.iv;
-    RecvEpochEntry {
-        epoch: e.epoch,
-        iv: iv,
-        replay: ReplayWindow {
-            max_seq: e.max_seq,
-            window: e.window,
+    let next = b.at + c.header_len + c.length;
+    let length = c.length;
+    let f = link_words::resolve_epoch(w, c.epoch_bits);
+    match f {
+        Found::Nothing => datagram::pass(b, next, Reason::NoKeys),
+        Found::At(i) => {
+            if length < 16 {
+                return datagram::pass(b, next, Reason::TooShort);
+            }
+            if length < w[19] as usize {
+                return datagram::pass(b, next, Reason::TooShort);
+            }
+            records::ask_mask(b, link_words::epoch_at(w, i), c)
+        }
+    }
+}
+
+fn sealed_step(w: &[u64; 89], b: Datagram, c: Ciphertext) -> Step
+    requires { ⌜ (keysOf (now w) .count ≤ 5) × (b .at + c .«header_len» + c .length ≤ 16384) ⌝ }
+    ensures { λ t. ⌜ t ≡ sealedStep (keysOf (now (w .entry))) b c ⌝ }
+{
+    if w[17] == 1 {
+        return locked_step(w, b, c);
+    }
+    let start = b.at + c.header_len;
+    let next = start + c.length;
+    let bits = c.epoch_bits;
+    if bits < 2 {
+        return datagram::pass(b, next, Reason::EarlyBits);
+    }
+    datagram::count(
+        b,
+        next,
+        Reading::Unopened {
+            epoch_bits: bits,
+            number: c.sequence_number,
+            start: start,
+            length: c.length,
         },
+    )
+}
+
+// One record, at the start of the rest of a datagram.
+fn one_record(w: &[u64; 89], b: Datagram, d: &[u8]) -> Step
+    requires { ⌜ (keysOf (now w) .count ≤ 5) × (b .at + length (now d) ≤ 16384) ⌝ }
+    ensures { λ t. ⌜ t ≡ stepOf (parsed (now (d .entry))) (keysOf (now (w .entry))) b ⌝ }
+{
+    let p = record::parse(d);
+    let start = b.at + 13;
+    match p {
+        Parsed::End => datagram::end(b, Reading::End),
+        Parsed::Incomplete => datagram::end(b, Reading::Incomplete),
+        Parsed::Invalid(n) => datagram::pass(b, start + n, Reason::Invalid),
+        Parsed::Plaintext(r) => datagram::count(
+            b,
+            start + r.length,
+            Reading::Plaintext {
+                content_type: r.content_type,
+                number: r.sequence_number,
+                start: start,
+                length: r.length,
+            },
+        ),
+        Parsed::Ciphertext(c) => sealed_step(w, b, c),
     }
 }
 
-fn flat_entry(e: RecvEpochEntry) -> LinkEpoch
-    ensures { λ r. ⌜ r ≡ flatEntry e ⌝ }
+fn ask_again(w: &[u64; 89], b: Datagram, a: Ask, number: u64) -> Step
+    requires { ⌜ keysOf (now w) .count ≤ 5 ⌝ }
+    ensures { λ t. ⌜ t ≡ askedAgain (find (keysOf (now (w .entry)) .entries) (a .epoch) (keysOf (now (w .entry)) .count)) (keysOf (now (w .entry))) b a number ⌝ }
 {
-    let iv = e.iv;
-    let w = e.replay;
-    LinkEpoch {
-        epoch: e.epoch,
-        iv: iv,
-        max_seq: w.max_seq,
-        window: w.window,
+    let f = link_words::find_epoch(w, w[15] as usize, a.epoch);
+    match f {
+        Found::Nothing => datagram::tell(b, Reading::Setting),
+        Found::At(i) => records::ask_opening(link_words::entry_at(w, i), b, a, number),
     }
 }
 
-fn entries_of(l: [LinkEpoch; 5]) -> [RecvEpochEntry; 5]
-    ensures { λ r. ⌜ r ≡ entriesOf l ⌝ }
+// The record at the cursor, where no question waits.
+fn go_on(w: &[u64; 89], b: Datagram, d: &[u8]) -> Step
+    requires { ⌜ (keysOf (now w) .count ≤ 5) × (b .at ≤ length (now d)) × (length (now d) ≤ 16384) ⌝ }
+    ensures { λ t. ⌜ t ≡ asking Question.Nothing (keysOf (now (w .entry))) b (now (d .entry)) ⌝ }
 {
-    let a = entry_of(l[0]);
-    let b = entry_of(l[1]);
-    let c = entry_of(l[2]);
-    let d = entry_of(l[3]);
-    let e = entry_of(l[4]);
-    [a, b, c, d, e]
+    one_record(w, b, base::behind(d, b.at))
 }
 
-fn flat_entries(l: [RecvEpochEntry; 5]) -> [LinkEpoch; 5]
-    ensures { λ r. ⌜ r ≡ flatEntries l ⌝ }
+// One record of the datagram begun, or the question that waits again.
+fn read_step(w: &[u64; 89], b: Datagram, d: &[u8]) -> Step
+    ensures { λ t. ⌜ t ≡ readStep (keysOf (now (w .entry))) b (now (d .entry)) ⌝ }
 {
-    let a = flat_entry(l[0]);
-    let b = flat_entry(l[1]);
-    let c = flat_entry(l[2]);
-    let d = flat_entry(l[3]);
-    let e = flat_entry(l[4]);
-    [a, b, c, d, e]
-}
-
-fn question_of(q: LinkQuestion) -> Question
-    ensures { λ r. ⌜ r ≡ questionOf q ⌝ }
-{
-    let a = Ask {
-        epoch: q.epoch,
-        s_flag: q.s_flag == 1,
-        header_len: q.header_len,
-        length: q.length,
-    };
-    if q.kind == 1 {
-        return Question::Mask(a);
+    if link_words::is_sound(w, b) {
+        let size = b.size;
+        let at = b.at;
+        if d.len() == size {
+            let q = b.question;
+            return match q {
+                Question::Nothing => go_on(w, b, d),
+                Question::Mask(a) => datagram::tell(
+                    b,
+                    Reading::Mask {
+                        epoch: a.epoch,
+                        start: at + a.header_len,
+                    },
+                ),
+                Question::Opening(a, n) => ask_again(w, b, a, n),
+            };
+        }
+        return datagram::tell(b, Reading::Reply);
     }
-    if q.kind == 2 {
-        return Question::Opening(a, q.number);
-    }
-    Question::Nothing
+    datagram::tell(b, Reading::Setting)
 }
 
-fn flat_question(q: Question) -> LinkQuestion
-    ensures { λ r. ⌜ r ≡ flatQuestion q ⌝ }
+// ---- the replies
+
+fn mask_by(w: &[u64; 89], b: Datagram, a: Ask, mask: [u8; 2], d: &mut [u8]) -> Step
+    requires { ⌜ (isSound (keysOf (now w)) b ≡ true) × (b .question ≡ Question.Mask a) × (length (now d) ≡ b .size) ⌝ }
+    ensures { λ r. ⌜ (r ≡ maskedBy (find (keysOf (now (w .entry)) .entries) (a .epoch) (keysOf (now (w .entry)) .count)) (keysOf (now (w .entry))) b a mask (now (d .entry)) .0) × (now (d .exit) ≡ maskedBy (find (keysOf (now (w .entry)) .entries) (a .epoch) (keysOf (now (w .entry)) .count)) (keysOf (now (w .entry))) b a mask (now (d .entry)) .1) ⌝ }
 {
-    match q {
-        Question::Nothing => LinkQuestion {
-            header_len: 0,
-            length: 0,
-            number: 0,
-            epoch: 0,
-            kind: 0,
-            s_flag: 0,
-        },
-        Question::Mask(a) => LinkQuestion {
-            header_len: a.header_len,
-            length: a.length,
-            number: 0,
-            epoch: a.epoch,
-            kind: 1,
-            s_flag: a.s_flag as u8,
-        },
-        Question::Opening(a, n) => LinkQuestion {
-            header_len: a.header_len,
-            length: a.length,
-            number: n,
-            epoch: a.epoch,
-            kind: 2,
-            s_flag: a.s_flag as u8,
-        },
+    let f = link_words::find_epoch(w, w[15] as usize, a.epoch);
+    match f {
+        Found::Nothing => datagram::tell(b, Reading::Setting),
+        Found::At(i) => mask_reply::mask_at(link_words::entry_at(w, i), b, a, mask, d),
     }
 }
 
-// Whether a question is of a kind that there is, with zeros where its kind has nothing.
-fn is_question(q: LinkQuestion) -> bool
-    ensures { λ r. ⌜ r ≡ isQuestion q ⌝ }
+// The reply to a mask question.
+fn mask_step(w: &[u64; 89], b: Datagram, mask: [u8; 2], d: &mut [u8]) -> Step
+    ensures { λ r. ⌜ (r ≡ maskStep (keysOf (now (w .entry))) b mask (now (d .entry)) .0) × (now (d .exit) ≡ maskStep (keysOf (now (w .entry))) b mask (now (d .entry)) .1) ⌝ }
 {
-    if q.kind == 2 {
-        return q.s_flag <= 1;
+    if link_words::is_sound(w, b) {
+        let size = b.size;
+        if d.len() == size {
+            let q = b.question;
+            return match q {
+                Question::Nothing => datagram::tell(b, Reading::Reply),
+                Question::Mask(a) => mask_by(w, b, a, mask, d),
+                Question::Opening(_, _) => datagram::tell(b, Reading::Reply),
+            };
+        }
+        return datagram::tell(b, Reading::Reply);
     }
-    if q.number != 0 {
-        return false;
-    }
-    if q.kind == 1 {
-        return q.s_flag <= 1;
-    }
-    if q.kind != 0 {
-        return false;
-    }
-    if q.header_len != 0 {
-        return false;
-    }
-    if q.length != 0 {
-        return false;
-    }
-    if q.epoch != 0 {
-        return false;
-    }
-    q.s_flag == 0
+    datagram::tell(b, Reading::Setting)
 }
 
-// Whether a flat state stands for a state: its flags are 0 or 1, and so on; else a call answers 12.
-fn is_flat(s: LinkReceiving) -> bool
-    ensures { λ r. ⌜ r ≡ isFlat s ⌝ }
+// Nothing is marked.
+fn unmarked(t: Step) -> Opened
+    ensures { λ r. ⌜ (r .step ≡ t) × (r .marks ≡ mathlib.Core.Bool.false) × (r .place < 5) ⌝ }
 {
-    if 1 < s.peer_encryption {
-        return false;
-    }
-    if 1 < s.released {
-        return false;
-    }
-    is_question(s.question)
-}
-
-fn state_of(s: LinkReceiving) -> Receiving
-    ensures { λ r. ⌜ r ≡ stateOf s ⌝ }
-{
-    let l = s.epochs;
-    let entries = entries_of(l);
-    let question = question_of(s.question);
-    Receiving {
-        keys: RecvKeys {
-            entries: entries,
-            count: s.count,
-            highest: s.highest,
-            peer_encryption: s.peer_encryption == 1,
-            released: s.released == 1,
-            min_protected: s.min_protected,
-        },
-        datagram: Datagram {
-            size: s.size,
-            at: s.at,
-            readings: s.readings,
-            question: question,
-        },
+    Opened {
+        step: t,
+        marks: false,
+        place: 0,
+        number: 0,
     }
 }
 
-fn flat_state(s: Receiving) -> LinkReceiving
-    ensures { λ r. ⌜ r ≡ flatState s ⌝ }
+// Yes: the number is to be marked.
+fn open_yes(b: Datagram, a: Ask, number: u64, i: usize, len: usize, d: &[u8]) -> Opened
+    requires { ⌜ (i < 5) × (16 ≤ a .length) × (b .at + a .«header_len» + a .length ≤ 16384) ⌝ }
+    ensures { λ r. ⌜ ((k : RecvKeys) → opens r k ≡ openedAt i (Opening.Yes len) k b a number (now (d .entry))) × (r .place < 5) ⌝ }
 {
-    let k = s.keys;
-    let b = s.datagram;
-    let l = k.entries;
+    if len == a.length - 16 {
+        let start = b.at + a.header_len;
+        let inner = incoming::recover_inner_content_type(base::fragment(d, start, len));
+        return Opened {
+            step: opening_reply::type_step(b, a, number, inner),
+            marks: true,
+            place: i,
+            number: number,
+        };
+    }
+    unmarked(datagram::tell(b, Reading::Reply))
+}
+
+fn open_at(b: Datagram, a: Ask, number: u64, i: usize, o: Opening, d: &[u8]) -> Opened
+    requires { ⌜ (i < 5) × (16 ≤ a .length) × (b .at + a .«header_len» + a .length ≤ 16384) ⌝ }
+    ensures { λ r. ⌜ ((k : RecvKeys) → opens r k ≡ openedAt i o k b a number (now (d .entry))) × (r .place < 5) ⌝ }
+{
+    let next = b.at + a.header_len + a.length;
+    match o {
+        Opening::No => unmarked(datagram::pass(b, next, Reason::NotOpened)),
+        Opening::Yes(len) => open_yes(b, a, number, i, len, d),
+    }
+}
+
+fn open_by(w: &[u64; 89], b: Datagram, a: Ask, number: u64, o: Opening, d: &[u8]) -> Opened
+    requires { ⌜ (isSound (keysOf (now w)) b ≡ true) × (b .question ≡ Question.Opening a number) ⌝ }
+    ensures { λ r. ⌜ (opens r (keysOf (now (w .entry))) ≡ openedBy (find (keysOf (now (w .entry)) .entries) (a .epoch) (keysOf (now (w .entry)) .count)) o (keysOf (now (w .entry))) b a number (now (d .entry))) × (r .place < 5) ⌝ }
+{
+    let f = link_words::find_epoch(w, w[15] as usize, a.epoch);
+    match f {
+        Found::Nothing => unmarked(datagram::tell(b, Reading::Setting)),
+        Found::At(i) => open_at(b, a, number, i, o, d),
+    }
+}
+
+// The reply to an opening question.
+fn opened_step(w: &[u64; 89], b: Datagram, o: Opening, d: &[u8]) -> Opened
+    ensures { λ r. ⌜ (opens r (keysOf (now (w .entry))) ≡ openedStep (keysOf (now (w .entry))) b o (now (d .entry))) × (r .place < 5) ⌝ }
+{
+    if link_words::is_sound(w, b) {
+        let size = b.size;
+        if d.len() == size {
+            let q = b.question;
+            return match q {
+                Question::Nothing => unmarked(datagram::tell(b, Reading::Reply)),
+                Question::Mask(_) => unmarked(datagram::tell(b, Reading::Reply)),
+                Question::Opening(a, n) => open_by(w, b, a, n, o, d),
+            };
+        }
+        return unmarked(datagram::tell(b, Reading::Reply));
+    }
+    unmarked(datagram::tell(b, Reading::Setting))
+}
+
+// ---- keys and datagrams
+
+// Whether there is no place for one epoch more.
+fn is_full(w: &[u64; 89], epoch: u16) -> bool
+    requires { ⌜ keysOf (now w) .count ≤ 5 ⌝ }
+    ensures { λ r. ⌜ r ≡ isFull (keysOf (now (w .entry))) epoch ⌝ }
+{
+    let count = w[15] as usize;
+    if 5 <= count {
+        return true;
+    }
+    if 3 <= epoch {
+        return 4 <= link_words::count_apps(w, count);
+    }
+    false
+}
+
+fn key(w: &mut [u64; 89], epoch: u16, iv: [u8; 12]) -> Answer
+    ensures { λ r. ⌜ Kept-as r (now (w .exit)) (now (w .entry)) (keyOf (stateOf (now (w .entry))) epoch iv) ⌝ }
+{
+    let b = link_words::datagram_of(w);
+    if link_words::is_sound(w, b) {
+        if epoch < 2 {
+            return Answer::Unusable;
+        }
+        if epoch <= link_words::low(w[16]) {
+            return Answer::Unusable;
+        }
+        if is_full(w, epoch) {
+            return Answer::Full;
+        }
+        let count = w[15] as usize;
+        link_words::install(w, count, epoch, iv);
+        return Answer::Done;
+    }
+    Answer::Setting
+}
+
+// The question under an epoch goes, and the cut goes on behind its record.
+fn cancel(w: &[u64; 89], b: Datagram, epoch: u16) -> Cancelled
+    requires { ⌜ isSound (keysOf (now w)) b ≡ true ⌝ }
+    ensures { λ r. ⌜ r ≡ cancelled (b .question) b epoch ⌝ }
+{
     let q = b.question;
-    let epochs = flat_entries(l);
-    let question = flat_question(q);
-    LinkReceiving {
-        epochs: epochs,
-        count: k.count,
-        min_protected: k.min_protected,
-        size: b.size,
-        at: b.at,
-        readings: b.readings,
-        question: question,
-        highest: k.highest,
-        peer_encryption: k.peer_encryption as u8,
-        released: k.released as u8,
+    match q {
+        Question::Nothing => Cancelled {
+            dropped: false,
+            datagram: b,
+        },
+        Question::Mask(a) => opening_reply::cancel_ask(a, b, epoch),
+        Question::Opening(a, _) => opening_reply::cancel_ask(a, b, epoch),
     }
+}
+
+// The entry at i removed, with the question under its epoch.
+fn leave(w: &mut [u64; 89], b: Datagram, i: usize, epoch: u16) -> Answer
+    requires { ⌜ (isSound (keysOf (now w)) b ≡ true) × (0 < keysOf (now w) .count) × (isFlat (now w) ≡ true) ⌝ }
+    ensures { λ r. ⌜ Kept-as r (now (w .exit)) (now (w .entry)) (leaving (cancelled (b .question) b epoch) (left (keysOf (now (w .entry))) i)) ⌝ }
+{
+    let c = cancel(w, b, epoch);
+    let after = c.datagram;
+    link_words::uninstall(w, i);
+    link_words::sized(w);
+    link_words::put_datagram(w, after);
+    if c.dropped {
+        return Answer::Dropped;
+    }
+    Answer::Done
+}
+
+fn remove(w: &mut [u64; 89], epoch: u16) -> Answer
+    requires { ⌜ isFlat (now w) ≡ true ⌝ }
+    ensures { λ r. ⌜ Kept-as r (now (w .exit)) (now (w .entry)) (removeOf (stateOf (now (w .entry))) epoch) ⌝ }
+{
+    let b = link_words::datagram_of(w);
+    if link_words::is_sound(w, b) {
+        let count = w[15] as usize;
+        let f = link_words::find_epoch(w, count, epoch);
+        return match f {
+            Found::Nothing => Answer::Unusable,
+            Found::At(i) => leave(w, b, i, epoch),
+        };
+    }
+    Answer::Setting
+}
+
+fn encrypt(w: &mut [u64; 89]) -> Answer
+    requires { ⌜ isFlat (now w) ≡ true ⌝ }
+    ensures { λ r. ⌜ Kept-as r (now (w .exit)) (now (w .entry)) (encryptOf (stateOf (now (w .entry)))) ⌝ }
+{
+    link_words::sized(w);
+    let b = link_words::datagram_of(w);
+    if link_words::is_sound(w, b) {
+        w[17] = 1;
+        return Answer::Done;
+    }
+    Answer::Setting
+}
+
+fn release(w: &mut [u64; 89]) -> Answer
+    requires { ⌜ isFlat (now w) ≡ true ⌝ }
+    ensures { λ r. ⌜ Kept-as r (now (w .exit)) (now (w .entry)) (releaseOf (stateOf (now (w .entry)))) ⌝ }
+{
+    link_words::sized(w);
+    let b = link_words::datagram_of(w);
+    if link_words::is_sound(w, b) {
+        w[18] = 1;
+        return Answer::Done;
+    }
+    Answer::Setting
+}
+
+fn begin(w: &mut [u64; 89], n: usize) -> Answer
+    requires { ⌜ isFlat (now w) ≡ true ⌝ }
+    ensures { λ r. ⌜ Kept-as r (now (w .exit)) (now (w .entry)) (beginOf (stateOf (now (w .entry))) n) ⌝ }
+{
+    link_words::sized(w);
+    let b = link_words::datagram_of(w);
+    if link_words::is_sound(w, b) {
+        if 16384 < n {
+            return Answer::TooLong;
+        }
+        link_words::put_datagram(
+            w,
+            Datagram {
+                size: n,
+                at: 0,
+                readings: 0,
+                question: Question::Nothing,
+            },
+        );
+        return Answer::Done;
+    }
+    Answer::Setting
 }
 
 // ---- answers
@@ -314,18 +430,6 @@ fn answer_of(a: Answer) -> u8
         Answer::TooLong => 1,
         Answer::Unusable => 13,
         Answer::Full => 23,
-    }
-}
-
-fn flat_kept(k: Kept) -> LinkKept
-    ensures { λ r. ⌜ r ≡ flatKept k ⌝ }
-{
-    let a = k.answer;
-    let answer = answer_of(a);
-    let state = flat_state(k.state);
-    LinkKept {
-        answer: answer,
-        state: state,
     }
 }
 
@@ -450,38 +554,6 @@ fn flat_reading(r: Reading, nonce: [u8; 12]) -> LinkReading
     }
 }
 
-fn flat_read(r: Read) -> LinkRead
-    ensures { λ t. ⌜ t ≡ flatRead r ⌝ }
-{
-    let t = r.reading;
-    let nonce = r.nonce;
-    let reading = flat_reading(t, nonce);
-    let state = flat_state(r.state);
-    LinkRead {
-        reading: reading,
-        state: state,
-    }
-}
-
-fn refuse(s: LinkReceiving) -> LinkKept
-    ensures { λ r. ⌜ r ≡ refusedKept s ⌝ }
-{
-    LinkKept {
-        answer: 12,
-        state: s,
-    }
-}
-
-fn refuse_reading(s: LinkReceiving) -> LinkRead
-    ensures { λ r. ⌜ r ≡ refusedRead s ⌝ }
-{
-    let reading = told(0, 12);
-    LinkRead {
-        reading: reading,
-        state: s,
-    }
-}
-
 fn opening_of(opened: u8, length: usize) -> Opening
     ensures { λ r. ⌜ r ≡ openingOf opened length ⌝ }
 {
@@ -491,112 +563,144 @@ fn opening_of(opened: u8, length: usize) -> Opening
     Opening::No
 }
 
+// A step written, and what it says.
+fn settle(w: &mut [u64; 89], t: Step) -> LinkReading
+    requires { ⌜ isFlat (now w) ≡ true ⌝ }
+    ensures { λ r. ⌜ Stepped r (now (w .exit)) (now (w .entry)) t ⌝ }
+{
+    let b = t.datagram;
+    let r = t.reading;
+    let nonce = t.nonce;
+    link_words::sized(w);
+    link_words::put_datagram(w, b);
+    flat_reading(r, nonce)
+}
+
 // ---- the calls
 
-// A receive side with nothing keyed and no datagram begun. A protected part has at least min_protected bytes, 0 to 17.
+// A receive side with nothing keyed and no datagram begun, whatever stood in the words. A protected part has at least min_protected
+// bytes, 0 to 17.
 #[no_mangle]
-pub extern "C" fn link_receiving(min_protected: usize) -> LinkKept
-    ensures { λ r. ⌜ r ≡ freshCall «min_protected» ⌝ }
+pub extern "C" fn link_receiving(w: &mut [u64; 89], min_protected: usize) -> u8
+    ensures { λ r. ⌜ (r ≡ answerOf (freshOf «min_protected» .answer)) × (stateOf (now (w .exit)) ≡ freshOf «min_protected» .state) × (isFlat (now (w .exit)) ≡ true) ⌝ }
 {
-    flat_kept(Receiving::new(min_protected))
+    link_words::put_fresh(w, min_protected);
+    if 17 < min_protected {
+        return 12;
+    }
+    0
 }
 
 // Keys an epoch to receive, with its IV.
 #[no_mangle]
-pub extern "C" fn link_key_receive(s: LinkReceiving, epoch: u16, iv: LinkIv) -> LinkKept
-    ensures { λ r. ⌜ r ≡ keyCall s epoch (iv .bytes) ⌝ }
+pub extern "C" fn link_key_receive(w: &mut [u64; 89], epoch: u16, iv: &[u8; 12]) -> u8
+    ensures { λ r. ⌜ Does r (now (w .exit)) (now (w .entry)) (keyOf (stateOf (now (w .entry))) epoch (now (iv .entry))) ⌝ }
 {
-    if is_flat(s) {
-        let v = state_of(s);
-        let b = iv.bytes;
-        return flat_kept(v.key_receive(epoch, b));
+    if link_words::is_flat(w) {
+        let v = *iv;
+        return answer_of(key(w, epoch, v));
     }
-    refuse(s)
+    12
 }
 
-// Removes a receive epoch, and the question under it.
+// Removes a receive epoch, and the question under it: 6 where a record is dropped with it.
 #[no_mangle]
-pub extern "C" fn link_remove_receive(s: LinkReceiving, epoch: u16) -> LinkKept
-    ensures { λ r. ⌜ r ≡ removeCall s epoch ⌝ }
+pub extern "C" fn link_remove_receive(w: &mut [u64; 89], epoch: u16) -> u8
+    ensures { λ r. ⌜ Does r (now (w .exit)) (now (w .entry)) (removeOf (stateOf (now (w .entry))) epoch) ⌝ }
 {
-    if is_flat(s) {
-        let v = state_of(s);
-        return flat_kept(v.remove(epoch));
+    if link_words::is_flat(w) {
+        return answer_of(remove(w, epoch));
     }
-    refuse(s)
+    12
 }
 
 // Peer encryption on, from the next record read.
 #[no_mangle]
-pub extern "C" fn link_enable_peer_encryption(s: LinkReceiving) -> LinkKept
-    ensures { λ r. ⌜ r ≡ encryptCall s ⌝ }
+pub extern "C" fn link_enable_peer_encryption(w: &mut [u64; 89]) -> u8
+    ensures { λ r. ⌜ Does r (now (w .exit)) (now (w .entry)) (encryptOf (stateOf (now (w .entry)))) ⌝ }
 {
-    if is_flat(s) {
-        let v = state_of(s);
-        return flat_kept(v.enable_peer_encryption());
+    if link_words::is_flat(w) {
+        return answer_of(encrypt(w));
     }
-    refuse(s)
+    12
 }
 
 // Application data released.
 #[no_mangle]
-pub extern "C" fn link_release_application_data(s: LinkReceiving) -> LinkKept
-    ensures { λ r. ⌜ r ≡ releaseCall s ⌝ }
+pub extern "C" fn link_release_application_data(w: &mut [u64; 89]) -> u8
+    ensures { λ r. ⌜ Does r (now (w .exit)) (now (w .entry)) (releaseOf (stateOf (now (w .entry)))) ⌝ }
 {
-    if is_flat(s) {
-        let v = state_of(s);
-        return flat_kept(v.release_application_data());
+    if link_words::is_flat(w) {
+        return answer_of(release(w));
     }
-    refuse(s)
+    12
 }
 
-// Begins a datagram; a question that waits is cancelled.
+// Begins a datagram of n bytes; a question that waits is cancelled.
 #[no_mangle]
-pub extern "C" fn link_begin(s: LinkReceiving, d: &[u8]) -> LinkKept
-    ensures { λ r. ⌜ r ≡ beginCall s (length (now (d .entry))) ⌝ }
+pub extern "C" fn link_begin(w: &mut [u64; 89], n: usize) -> u8
+    ensures { λ r. ⌜ Does r (now (w .exit)) (now (w .entry)) (beginOf (stateOf (now (w .entry))) n) ⌝ }
 {
-    if is_flat(s) {
-        let v = state_of(s);
-        return flat_kept(v.begin(d));
+    if link_words::is_flat(w) {
+        return answer_of(begin(w, n));
     }
-    refuse(s)
+    12
 }
 
 // One record of the datagram begun, or the question that waits again.
 #[no_mangle]
-pub extern "C" fn link_read(s: LinkReceiving, d: &[u8]) -> LinkRead
-    ensures { λ r. ⌜ r ≡ readCall s (now (d .entry)) ⌝ }
+pub extern "C" fn link_read(w: &mut [u64; 89], d: &[u8]) -> LinkReading
+    ensures { λ r. ⌜ Reads r (now (w .exit)) (now (w .entry)) (readOf (stateOf (now (w .entry))) (now (d .entry))) ⌝ }
 {
-    if is_flat(s) {
-        let v = state_of(s);
-        return flat_read(v.read(d));
+    if link_words::is_flat(w) {
+        let b = link_words::datagram_of(w);
+        let t = read_step(w, b, d);
+        return settle(w, t);
     }
-    refuse_reading(s)
+    told(0, 12)
 }
 
 // The mask that was asked for; the number bytes are unmasked in the datagram.
 #[no_mangle]
-pub extern "C" fn link_mask(s: LinkReceiving, mask_0: u8, mask_1: u8, d: &mut [u8]) -> LinkRead
-    ensures { λ r. ⌜ (r ≡ maskCall s «mask_0» «mask_1» (now (d .entry)) .0) × (now (d .exit) ≡ maskCall s «mask_0» «mask_1» (now (d .entry)) .1) ⌝ }
+pub extern "C" fn link_mask(w: &mut [u64; 89], mask_0: u8, mask_1: u8, d: &mut [u8]) -> LinkReading
+    ensures { λ r. ⌜ Reads r (now (w .exit)) (now (w .entry)) (maskOf (stateOf (now (w .entry))) (masks «mask_0» «mask_1») (now (d .entry)) .0) ⌝ }
+    ensures { λ r. ⌜ now (d .exit) ≡ maskBytesOf (now (w .entry)) «mask_0» «mask_1» (now (d .entry)) ⌝ }
 {
-    if is_flat(s) {
-        let v = state_of(s);
-        return flat_read(v.mask([mask_0, mask_1], d));
+    if link_words::is_flat(w) {
+        let b = link_words::datagram_of(w);
+        let t = mask_step(w, b, [mask_0, mask_1], d);
+        return settle(w, t);
     }
-    refuse_reading(s)
+    told(0, 12)
+}
+
+// A number marked where the reply to an opening question says so.
+fn mark(w: &mut [u64; 89], o: Opened)
+    requires { ⌜ (o .place < 5) × (isFlat (now w) ≡ true) ⌝ }
+    ensures { λ _. ⌜ (keysOf (now (w .exit)) ≡ opens o (keysOf (now (w .entry))) .keys) × (isFlat (now (w .exit)) ≡ true) ⌝ }
+{
+    let i = o.place;
+    link_words::sized(w);
+    if o.marks {
+        let v = link_words::window_at(w, i);
+        link_words::put_window(w, i, v.update(o.number));
+    }
 }
 
 // Whether the record was opened, 0 or 1; its plaintext, of so many bytes, then stands at the start of the protected part.
 #[no_mangle]
-pub extern "C" fn link_opened(s: LinkReceiving, opened: u8, length: usize, d: &[u8]) -> LinkRead
-    ensures { λ r. ⌜ r ≡ openedCall s opened length (now (d .entry)) ⌝ }
+pub extern "C" fn link_opened(w: &mut [u64; 89], opened: u8, length: usize, d: &[u8]) -> LinkReading
+    ensures { λ r. ⌜ OpenedAs r (now (w .exit)) (now (w .entry)) opened (openedOf (stateOf (now (w .entry))) (openingOf opened length) (now (d .entry))) ⌝ }
 {
     if 1 < opened {
-        return refuse_reading(s);
+        return told(0, 12);
     }
-    if is_flat(s) {
-        let v = state_of(s);
-        return flat_read(v.opened(opening_of(opened, length), d));
+    if link_words::is_flat(w) {
+        let b = link_words::datagram_of(w);
+        let o = opened_step(w, b, opening_of(opened, length), d);
+        mark(w, o);
+        let t = o.step;
+        return settle(w, t);
     }
-    refuse_reading(s)
+    told(0, 12)
 }

@@ -74,13 +74,13 @@ ask-back x l =
 abbrev put : Question → ℕ → ℕ → ℕ → List ℕ → List ℕ
 put q s a r w = putQuestion q (set (set (set w 20 s) 21 a) 22 r)
 
-pub keys-put : (q : Question) (s a r : ℕ) (w : List ℕ) → length w ≡ 89 → keysOf (put q s a r w) ≡ keysOf w
+keys-put : (q : Question) (s a r : ℕ) (w : List ℕ) → length w ≡ 89 → keysOf (put q s a r w) ≡ keysOf w
 unfolding firstOf entriesOf ivAt
 keys-put question.Nothing s a r w h = by-words (λ (v : List ℕ). keysOf (put question.Nothing s a r v) ≡ keysOf v) w h refl
 keys-put (question.Mask x) s a r w h = by-words (λ (v : List ℕ). keysOf (put (question.Mask x) s a r v) ≡ keysOf v) w h refl
 keys-put (question.Opening x n) s a r w h = by-words (λ (v : List ℕ). keysOf (put (question.Opening x n) s a r v) ≡ keysOf v) w h refl
 
-pub keys-put-datagram : (b : Datagram) (w : List ℕ) → length w ≡ 89 → keysOf (putDatagram b w) ≡ keysOf w
+keys-put-datagram : (b : Datagram) (w : List ℕ) → length w ≡ 89 → keysOf (putDatagram b w) ≡ keysOf w
 keys-put-datagram b w h = keys-put (b .question) (b .size) (b .at) (b .readings) w h
 
 -- the words of a datagram read back
@@ -102,7 +102,7 @@ rest-put (question.Mask x) s a r w h =
 rest-put (question.Opening x n) s a r w h =
     by-words (λ (v : List ℕ). (getD (put (question.Opening x n) s a r v) 20 0 ≡ s) × (getD (put (question.Opening x n) s a r v) 21 0 ≡ a) × (getD (put (question.Opening x n) s a r v) 22 0 ≡ r)) w h (refl, refl, refl)
 
-pub datagram-put : (b : Datagram) (w : List ℕ) → length w ≡ 89 → Low b → datagramOf (putDatagram b w) ≡ b
+datagram-put : (b : Datagram) (w : List ℕ) → length w ≡ 89 → Low b → datagramOf (putDatagram b w) ≡ b
 datagram-put b w h l =
     let e = rest-put (b .question) (b .size) (b .at) (b .readings) w h in
     rw (e .0, e .1, e .2, question-put (b .question) (b .size) (b .at) (b .readings) w h l)
@@ -131,7 +131,7 @@ flat-of (question.Opening x n) s a r w h =
     by-words (λ (v : List ℕ). isFlat v ≡ true → isFlat (put (question.Opening x n) s a r v) ≡ true) w h
     (λ f. let t = flat-rest (firstOf 89 w) f in flat-by (t .0) (t .1) refl (low-bit (x .«s_flag»)))
 
-pub flat-put : (b : Datagram) (w : List ℕ) → length w ≡ 89 → isFlat w ≡ true → isFlat (putDatagram b w) ≡ true
+flat-put : (b : Datagram) (w : List ℕ) → length w ≡ 89 → isFlat w ≡ true → isFlat (putDatagram b w) ≡ true
 flat-put b w h f = flat-of (b .question) (b .size) (b .at) (b .readings) w h f
 
 -- ---- a window written
@@ -152,3 +152,19 @@ mark-put (suc (suc zero)) n w l h = by-words (Marks 2 n) w h (refl, refl)
 mark-put (suc (suc (suc zero))) n w l h = by-words (Marks 3 n) w h (refl, refl)
 mark-put (suc (suc (suc (suc zero)))) n w l h = by-words (Marks 4 n) w h (refl, refl)
 mark-put (suc (suc (suc (suc (suc i))))) n w l h = absurd (omega arith)
+
+-- ---- the datagram written, all told
+
+pub record Put (b : Datagram) (w v : List ℕ) : Type 0 where
+  pub is : v ≡ putDatagram b w
+  pub low : Low b
+
+module _ {b : Datagram} {w v : List ℕ} (p : Put b w v) (h : length w ≡ 89) where
+  pub put-keys : keysOf v ≡ keysOf w
+  put-keys = ap keysOf (p .is) ∙ keys-put-datagram b w h
+
+  pub put-datagram : datagramOf v ≡ b
+  put-datagram = ap datagramOf (p .is) ∙ datagram-put b w h (p .low)
+
+  pub put-flat : isFlat w ≡ true → isFlat v ≡ true
+  put-flat f = ap isFlat (p .is) ∙ flat-put b w h f

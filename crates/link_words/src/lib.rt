@@ -13,11 +13,10 @@ ghost use Rattle.link_words.specs.Words.{
   datagramOf,
   isFlat,
   putAsk,
-  putDatagram,
   putWindow,
   putIv,
 };
-ghost use Rattle.link_words.specs.Laws.{Low};
+ghost use Rattle.link_words.specs.Laws.{Put};
 ghost use Rattle.link_words.specs.Entries.{LowIv, Written, Beside};
 use datagram::Ask;
 use datagram::Datagram;
@@ -353,7 +352,7 @@ fn put_ask(w: &mut [u64; 89], kind: u64, a: Ask, number: u64)
 
 // The begun datagram written.
 pub fn put_datagram(w: &mut [u64; 89], b: Datagram)
-    ensures { λ _. ⌜ (now (w .exit) ≡ putDatagram b (now (w .entry))) × Low b ⌝ }
+    ensures { λ _. ⌜ Put b (now (w .entry)) (now (w .exit)) ⌝ }
 {
     let q = b.question;
     w[20] = b.size as u64;

@@ -1,49 +1,44 @@
 -- `link::link_mask` meets its contract. Assumes nothing.
+use Rattle.link.specs.Laws.{reads}
 use borrow.Author.Needs.{needs}
 use mathlib.Core.Path.{_≡_, refl, sym, ap, _∙_}
 use Rattle.base.specs.Choose.{if-true, if-false, both-true, both-false}
-use Rattle.link.specs.Flat.{flatRead}
-use Rattle.link.specs.Calls.{maskCall}
-use mathlib.Core.List.{List}
-use Rattle.link.specs.declared.LinkRead.{LinkRead}
 use Rattle.link.proofs.link_mask.Statement.{statement}
 use Rattle.link.proofs.link_mask.Tie as tie
 
 is-flat-requires : tie.Need-is-flat-requires
 is-flat-requires c κs = search needs
 
-state-of-requires : tie.Need-state-of-requires
-state-of-requires c κs = search needs
+datagram-of-requires : tie.Need-datagram-of-requires
+datagram-of-requires c κs = search needs
 
-mask-requires : tie.Need-mask-requires
-mask-requires c κs = search needs
+mask-step-requires : tie.Need-mask-step-requires
+mask-step-requires c κs = search needs
 
-flat-read-requires : tie.Need-flat-read-requires
-flat-read-requires c κs = search needs
+settle-requires : tie.Need-settle-requires
+settle-requires c κs = (sym (c .before .before .before .before .before .before .before .before .before .is-flat .ensures) ∙ c .before .before .before .before .before .before .before .before .if1 .taken)
 
 same-length : tie.Need-same-length
 same-length c = search needs
 
 returns : tie.Need-returns
-unfolding maskCall
-returns c = rw (if-true _ _ (sym (c .before .before .before .before .before .before .before .is-flat .ensures) ∙ c .before .before .before .before .before .before .if1 .taken)) (c .flat-read .ensures ∙ ap flatRead (rw (c .before .before .before .before .before .state-of .ensures) at (c .before .before .before .mask .ensures .0)), rw (c .before .before .before .before .before .state-of .ensures) at (c .before .before .before .mask .ensures .1))
+returns c = (reads _ _ _ _ _ _ _ (sym (c .before .before .before .before .before .before .before .before .before .before .is-flat .ensures) ∙ c .before .before .before .before .before .before .before .before .before .if1 .taken) (c .settle .ensures) refl (rw (c .before .before .before .before .before .before .before .datagram-of .ensures) at (c .before .before .before .before .mask-step .ensures .0)), rw (c .before .before .before .before .before .before .before .datagram-of .ensures) at (c .before .before .before .before .mask-step .ensures .1) ∙ sym (if-true _ _ (sym (c .before .before .before .before .before .before .before .before .before .before .is-flat .ensures) ∙ c .before .before .before .before .before .before .before .before .before .if1 .taken)))
 
-refuse-reading-requires : tie.Need-refuse-reading-requires
-refuse-reading-requires c κs = search needs
+told-requires : tie.Need-told-requires
+told-requires c κs = search needs
 
 returns-2 : tie.Need-returns-2
-unfolding maskCall
-returns-2 c = rw (if-false _ _ (sym (c .before .before .is-flat .ensures) ∙ c .before .if1 .left)) (c .refuse-reading .ensures, refl)
+returns-2 c = ((c .told .ensures ∙ sym (if-false _ _ (sym (c .before .before .is-flat .ensures) ∙ c .before .if1 .left)), sym (if-false _ _ (sym (c .before .before .is-flat .ensures) ∙ c .before .if1 .left)), refl), sym (if-false _ _ (sym (c .before .before .is-flat .ensures) ∙ c .before .if1 .left)))
 
 pub link-mask-spec : {M : Type 1} → statement M
 link-mask-spec =
     tie.close
     (tie.spec
     is-flat-requires
-    state-of-requires
-    mask-requires
-    flat-read-requires
+    datagram-of-requires
+    mask-step-requires
+    settle-requires
     same-length
     returns
-    refuse-reading-requires
+    told-requires
     returns-2)

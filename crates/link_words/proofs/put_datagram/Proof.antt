@@ -34,13 +34,13 @@ put-ask-requires-2 : tie.Need-put-ask-requires-2
 put-ask-requires-2 c κs = search needs
 
 returns : tie.Need-returns
-returns c = rw (c .enum-told .given .1) (refl, tt)
+returns c = rw (c .enum-told .given .1) (record { is = refl; low = tt })
 
 returns-2 : tie.Need-returns-2
-returns-2 c = rw (c .before .before .before .q .given .1) (c .put-ask .ensures)
+returns-2 c = rw (c .before .before .before .q .given .1) (record { is = c .put-ask .ensures .0; low = c .put-ask .ensures .1 })
 
 returns-3 : tie.Need-returns-3
-returns-3 c = rw (c .before .before .before .q2 .given .1) (c .put-ask2 .ensures)
+returns-3 c = rw (c .before .before .before .q2 .given .1) (record { is = c .put-ask2 .ensures .0; low = c .put-ask2 .ensures .1 })
 
 pub put-datagram-spec : {M : Type 1} → statement M
 put-datagram-spec =
