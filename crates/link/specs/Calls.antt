@@ -7,9 +7,6 @@ use Prim.Native.Nat.{ℕ}
 use lib.Dec.{leb}
 use Rattle.base.specs.Choose.{choose, both}
 use Rattle.datagram.specs.declared.Step.{Step}
-use Rattle.opening_reply.specs.declared.Marked.{Marked}
-use Rattle.recv_keys.specs.Keys.{marked}
-use Rattle.recv_keys.specs.declared.RecvKeys.{RecvKeys}
 use Rattle.receiving.specs.Receiving.{maskOf}
 use Rattle.receiving.specs.declared.Answer.{Answer}
 use Rattle.receiving.specs.declared.Kept.{Kept}
@@ -18,7 +15,6 @@ use Rattle.receiving.specs.declared.Receiving.{Receiving}
 use Rattle.link_words.specs.Words.{keysOf, datagramOf, isFlat}
 use Rattle.link.specs.Flat.{answerOf, bare, flatReading}
 use Rattle.link.specs.declared.LinkReading.{LinkReading}
-use Rattle.link.specs.declared.Opened.{Opened}
 
 -- the state that words stand for
 abbrev pub stateOf : List ℕ → Receiving
@@ -56,7 +52,3 @@ abbrev pub OpenedAs : LinkReading → List ℕ → List ℕ → ℕ → Read →
 OpenedAs r v w o k =
     (r ≡ choose (both (leb o 1) (isFlat w)) (flatReading (k .reading) (k .nonce)) (bare 0 12))
     × (stateOf v ≡ choose (both (leb o 1) (isFlat w)) (k .state) (stateOf w)) × (isFlat v ≡ isFlat w)
-
--- what an opening makes of keys
-abbrev pub opens : Opened → RecvKeys → Marked
-opens o k = record { step = o .step; keys = choose (o .marks) (marked k (o .place) (o .number)) k }

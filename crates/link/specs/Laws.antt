@@ -8,7 +8,6 @@ use lib.ListN.{length, getD}
 use Rattle.base.specs.Choose.{choose, both, if-true, if-false, both-true, both-false}
 use Rattle.datagram.specs.declared.Datagram.{Datagram}
 use Rattle.datagram.specs.declared.Step.{Step}
-use Rattle.opening_reply.specs.Opening.{still}
 use Rattle.recv_keys.specs.Keys.{noEntry, marked, fresh}
 use Rattle.datagram.specs.Datagram.{begun}
 use Rattle.link_words.specs.Entries.{freshWords, starts}
@@ -23,9 +22,8 @@ use Rattle.window.specs.declared.ReplayWindow.{ReplayWindow}
 use Rattle.link_words.specs.Words.{windowAt, entriesOf, keysOf, datagramOf, isFlat, putWindow}
 use Rattle.link_words.specs.Laws.{entry-at, mark-put}
 use Rattle.link.specs.Flat.{answerOf, bare, flatReading}
-use Rattle.link.specs.Calls.{stateOf, Does, Kept-as, Reads, Stepped, OpenedAs, opens}
+use Rattle.link.specs.Calls.{stateOf, Does, Kept-as, Reads, Stepped, OpenedAs}
 use Rattle.link.specs.declared.LinkReading.{LinkReading}
-use Rattle.link.specs.declared.Opened.{Opened}
 
 -- ---- calls that read nothing
 
@@ -64,12 +62,6 @@ opened r v u w o keys t s l f h p e = (
   state-by v (h .1 ∙ p) (h .2 ∙ ap (λ (x : Step). x .datagram) e) ∙ sym (if-true _ _ (both-true l ∙ f)),
   h .3 ∙ sym f,
 )
-
--- ---- what an opening makes of keys
-
-pub opens-still : (o : Opened) (k : RecvKeys) (t : Step) → o .step ≡ t → o .marks ≡ false → opens o k ≡ still k t
-opens-still o k t e f =
-    ap (λ (x : Step). record { step = x; keys = opens o k .keys }) e ∙ ap (λ (x : RecvKeys). record { step = t; keys = x }) (if-false _ _ f)
 
 -- a window that is marked
 pub marks-at : (i n : ℕ) (w : List ℕ) (u v : ReplayWindow) → i < 5 → length w ≡ 89 → u ≡ getD (entriesOf w) i noEntry .replay → v ≡ marking width u n

@@ -79,12 +79,13 @@ fn read_rust(n: usize, count: u32) -> f64 {
 }
 
 fn receiving() -> LinkReceiving {
-    let iv = LinkIv { bytes: IV };
-    let mut s = link_receiving(16).state;
-    s = link_key_receive(s, 2, iv).state;
-    s = link_key_receive(s, 3, iv).state;
-    s = link_enable_peer_encryption(s).state;
-    link_release_application_data(s).state
+    let mut s = [0; 89];
+    link_receiving(&mut s, 16);
+    link_key_receive(&mut s, 2, &IV);
+    link_key_receive(&mut s, 3, &IV);
+    link_enable_peer_encryption(&mut s);
+    link_release_application_data(&mut s);
+    s
 }
 
 fn read_rattle(n: usize, count: u32) -> f64 {
@@ -94,14 +95,13 @@ fn read_rattle(n: usize, count: u32) -> f64 {
     time(count, |i| unsafe {
         number(&mut record, i);
         let d = black_box(&mut record).as_mut_ptr();
-        let kept = link_begin(s, d, len);
-        let asked = link_read(kept.state, d, len);
-        let opening = link_mask(asked.state, 0, 0, d, len);
-        let opened = link_opened(opening.state, 1, opening.reading.length - 16, d, len);
-        let r = opened.reading;
+        link_begin(&mut s, len);
+        let asked = link_read(&mut s, d, len);
+        assert!(asked.kind == 6);
+        let opening = link_mask(&mut s, 0, 0, d, len);
+        let r = link_opened(&mut s, 1, opening.length - 16, d, len);
         assert!(r.kind == 5 && r.length == n && r.number == i as u64);
         black_box(&record[r.start..r.start + r.length]);
-        s = opened.state;
     })
 }
 
