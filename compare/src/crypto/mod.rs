@@ -5,6 +5,7 @@ pub mod dtls_aead;
 #[path = "../../target/dimpl/crypto/provider.rs"]
 pub mod provider;
 
+pub mod null;
 pub mod prf_hkdf;
 pub mod script;
 pub mod stub;

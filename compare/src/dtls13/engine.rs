@@ -165,6 +165,39 @@ pub mod probe {
                 .map(|datagram| datagram.len())
                 .collect(),
             saved: saved.collect(),
+
+    /// Epochs 2 and 3 keyed in both directions with the cipher that does nothing; the peer encrypts
+    /// and application data is released.
+    pub fn key_null(engine: &mut Engine, iv: [u8; 12]) {
+        let keys = || {
+            let mut sn_key = Buf::new();
+            sn_key.extend_from_slice(&[7; 16]);
+            EpochKeys {
+                cipher: crate::crypto::null::cipher(),
+                iv,
+                traffic_secret: Buf::new(),
+                sn_key,
+            }
+        };
+        engine.hs_send_keys = Some(keys());
+        engine.hs_recv_keys = Some(keys());
+        engine.app_send_keys = Some(keys());
+        engine.app_send_epoch = 3;
+        engine.app_recv_keys.push(RecvEpochEntry {
+            epoch: 3,
+            keys: keys(),
+            expected_recv_seq: 0,
+            replay: ReplayWindow::new(),
+        });
+        engine.enable_peer_encryption().unwrap();
+        engine.release_application_data_retaining_handshake_keys();
+    }
+
+    /// The front datagram's length, copied to the start of a buffer.
+    pub fn take(engine: &mut Engine, buffer: &mut [u8]) -> Option<usize> {
+        match engine.poll_packet_tx(buffer) {
+            PollOutput::Data(bytes) => Some(bytes.len()),
+            _ => None,
         }
     }
 }

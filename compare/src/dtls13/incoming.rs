@@ -17,4 +17,9 @@ pub mod probe {
     ) -> Result<(ContentType, usize), InternalError> {
         super::recover_inner_content_type(decrypted)
     }
+
+    /// The buffer that a record was copied to.
+    pub fn into_buffer(record: Record) -> Buf {
+        record.into_buffer()
+    }
 }

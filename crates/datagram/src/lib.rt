@@ -105,7 +105,7 @@ pub struct Step {
 
 // ---- ranges
 
-fn ask_sound(a: Ask, room: usize) -> bool
+pub fn ask_sound(a: Ask, room: usize) -> bool
     ensures { λ r. ⌜ r ≡ askSound a room ⌝ }
 {
     let head = a.header_len;

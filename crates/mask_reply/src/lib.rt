@@ -58,7 +58,7 @@ fn judge(e: RecvEpochEntry, b: Datagram, a: Ask, number: u64) -> Step
 }
 
 // The mask of a record of an epoch's entry.
-fn mask_at(e: RecvEpochEntry, b: Datagram, a: Ask, mask: [u8; 2], d: &mut [u8]) -> Step
+pub fn mask_at(e: RecvEpochEntry, b: Datagram, a: Ask, mask: [u8; 2], d: &mut [u8]) -> Step
     requires { ⌜ (e .replay .«max_seq» ≤ 281474976710655) × (b .at + a .«header_len» + a .length ≤ length (now d)) × (length (now d) ≤ 16384) × (16 ≤ a .length) ⌝ }
     ensures { λ r. ⌜ (r ≡ maskedAt e b a mask (now (d .entry)) .0) × (now (d .exit) ≡ maskedAt e b a mask (now (d .entry)) .1) ⌝ }
 {

@@ -53,7 +53,7 @@ fn keep(k: RecvKeys, t: Step) -> Marked
 }
 
 // What an opened record holds.
-fn type_step(b: Datagram, a: Ask, number: u64, inner: Inner) -> Step
+pub fn type_step(b: Datagram, a: Ask, number: u64, inner: Inner) -> Step
     requires { ⌜ b .at + a .«header_len» + a .length ≤ 16384 ⌝ }
     ensures { λ r. ⌜ r ≡ typed b a number inner ⌝ }
 {
@@ -138,7 +138,7 @@ pub fn opened_step(k: RecvKeys, b: Datagram, o: Opening, d: &[u8]) -> Marked
 
 // ---- the epoch of a question removed
 
-fn cancel_ask(a: Ask, b: Datagram, epoch: u16) -> Cancelled
+pub fn cancel_ask(a: Ask, b: Datagram, epoch: u16) -> Cancelled
     requires { ⌜ b .at + a .«header_len» + a .length ≤ 16384 ⌝ }
     ensures { λ r. ⌜ r ≡ cancelledAsk a b epoch ⌝ }
 {

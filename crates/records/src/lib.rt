@@ -27,7 +27,7 @@ use recv_keys::Found;
 use recv_keys::RecvEpochEntry;
 use recv_keys::RecvKeys;
 
-fn ask_mask(b: Datagram, epoch: u16, c: Ciphertext) -> Step
+pub fn ask_mask(b: Datagram, epoch: u16, c: Ciphertext) -> Step
     requires { ⌜ b .at + c .«header_len» ≤ 16384 ⌝ }
     ensures { λ t. ⌜ t ≡ maskAsked b epoch c ⌝ }
 {

@@ -52,7 +52,7 @@ pub enum Found {
 // ---- which epoch
 
 // An application epoch with these low bits.
-fn fits_bits(epoch: u16, bits: u8) -> bool
+pub fn fits_bits(epoch: u16, bits: u8) -> bool
     ensures { λ r. ⌜ r ≡ fits epoch bits ⌝ }
 {
     if 3 <= epoch {
@@ -96,7 +96,7 @@ pub fn find_epoch(entries: [RecvEpochEntry; 5], count: usize, epoch: u16) -> Fou
     Found::Nothing
 }
 
-fn or_else(a: Found, b: Found) -> Found
+pub fn or_else(a: Found, b: Found) -> Found
     ensures { λ r. ⌜ r ≡ orElse a b ⌝ }
 {
     match a {
@@ -172,7 +172,7 @@ pub fn replay_update(k: RecvKeys, i: usize, number: u64) -> RecvKeys
 
 // ---- ranges
 
-fn app_one(epoch: u16) -> usize
+pub fn app_one(epoch: u16) -> usize
     ensures { λ r. ⌜ (r ≡ appOne epoch) × (r ≤ 1) ⌝ }
 {
     if 3 <= epoch {

@@ -1,0 +1,33 @@
+//! The C interface of the Rattle library, as far as it is timed.
+
+pub type LinkReceiving = [u64; 89];
+
+#[repr(C)]
+pub struct LinkReading {
+    pub kind: u8,
+    pub refusal: u8,
+    pub content_type: u8,
+    pub epoch: u16,
+    pub number: u64,
+    pub start: usize,
+    pub header_len: usize,
+    pub length: usize,
+    pub nonce: [u8; 12],
+}
+
+unsafe extern "C" {
+    pub safe fn link_receiving(s: &mut LinkReceiving, min_protected: usize) -> u8;
+    pub safe fn link_key_receive(s: &mut LinkReceiving, epoch: u16, iv: &[u8; 12]) -> u8;
+    pub safe fn link_enable_peer_encryption(s: &mut LinkReceiving) -> u8;
+    pub safe fn link_release_application_data(s: &mut LinkReceiving) -> u8;
+    pub safe fn link_begin(s: &mut LinkReceiving, n: usize) -> u8;
+    pub fn link_read(s: &mut LinkReceiving, d: *const u8, n: usize) -> LinkReading;
+    pub fn link_mask(s: &mut LinkReceiving, m0: u8, m1: u8, d: *mut u8, n: usize) -> LinkReading;
+    pub fn link_opened(
+        s: &mut LinkReceiving,
+        opened: u8,
+        length: usize,
+        d: *const u8,
+        n: usize,
+    ) -> LinkReading;
+}
