@@ -4,14 +4,13 @@ use mathlib.Core.List.{List}
 use mathlib.Core.Path.{_≡_, refl, sym, ap, subst, _∙_}
 use Prim.Native.Nat.{ℕ, zero, suc, _+_, _*_, _≤_, _<_}
 use native.Mathlib.Omega.{arith}
-use lib.Dec.{ltb, leb, eqb}
+use lib.Dec.{leb, eqb}
 use lib.ListN.{length}
 use borrow.Author.Tests.{ltb-false, leb-true, eqb-true, eqb-false, eq-eqb, ne-eqb}
 use Rattle.base.specs.Choose.{choose, both, by-test, test-cases, if-true, if-false, both-left, both-right, either-false}
 use Rattle.queue.specs.declared.Tail.{Tail}
 use Rattle.queue.specs.declared.Place.{Place}
-use Rattle.queue.specs.Queue.{tailOf, placeOf, grown, joins, Ready, ready}
-use Rattle.queue.specs.Laid.{recordLen}
+use Rattle.queue.specs.Queue.{tailOf, placeOf, grown, Ready, ready}
 use Rattle.send_keys.specs.declared.SendKeys.{SendKeys}
 use Rattle.send_keys.specs.Keys.{isUsable, isKeyed, nextOf, used, used-next}
 use Rattle.outgoing.specs.declared.Sending.{Sending}
@@ -20,7 +19,7 @@ use Rattle.flight.specs.declared.Entry.{Entry}
 use Rattle.flight.specs.declared.Flight.{Flight}
 use Rattle.flight.specs.Flight.{isKept, entryAt}
 use Rattle.resend.specs.declared.ResendAnswer.{ResendAnswer}
-use Rattle.resend.specs.Tests.{isDone, hasRoom, passes, allPass, joined, tailAfter, countAfter, isOver, isSpent, anySpent, closedState, fitAnswer, resendAnswer, pass-at, tail-next, count-next}
+use Rattle.resend.specs.Tests.{isDone, hasRoom, passes, joined, tailAfter, countAfter, isOver, isSpent, anySpent, closedState, fitAnswer, resendAnswer, pass-at, tail-next, count-next}
 
 -- ---- what the tests found
 

@@ -1,20 +1,19 @@
 -- One record of a flight sent again after the other: each that is not marked is sent, and what that leaves. Assumes nothing.
-use mathlib.Core.Bool.{true, false, false≢true}
+use mathlib.Core.Bool.{true, false}
 use mathlib.Core.List.{List}
 use mathlib.Core.Path.{_≡_, refl, sym, ap, subst, _∙_}
 use Prim.Native.Nat.{ℕ, zero, suc, _+_, _*_, _≤_, _<_}
 use native.Mathlib.Nat.{mul-le-mul-right}
 use native.Mathlib.Omega.{arith}
 use lib.Dec.{eqb}
-use lib.ListN.{length, getD, set, length-set}
-use lib.Seq.{getD-set-same, getD-set-other}
+use lib.ListN.{length, set, length-set}
+use lib.Seq.{getD-set-other}
 use borrow.Author.Tests.{lt-leb}
 use Rattle.base.specs.Choose.{choose, by-test, test-cases, if-true, if-false}
 use Rattle.base.specs.Parts.{part, length-part, length-splice}
 use Rattle.queue.specs.declared.Tail.{Tail}
 use Rattle.queue.specs.declared.Place.{Place}
-use Rattle.queue.specs.declared.Queue.{Queue}
-use Rattle.queue.specs.Queue.{tailOf, placeOf, grown, laid, startOf, InRange, Ready, Fits, ready-again, laid-range, tail-laid, placed, spot}
+use Rattle.queue.specs.Queue.{tailOf, placeOf, grown, laid, startOf, Ready, Fits, ready-again, laid-range, tail-laid, placed, spot}
 use Rattle.queue.specs.Laid.{recordLen, recordBytes, length-record, len-over}
 use Rattle.send_keys.specs.Keys.{isUsable, isKeyed, nextOf, used}
 use Rattle.outgoing.specs.declared.Sending.{Sending}
@@ -26,7 +25,7 @@ use Rattle.flight.specs.declared.Entry.{Entry}
 use Rattle.flight.specs.declared.Flight.{Flight}
 use Rattle.flight.specs.Flight.{entryAt, noEntry}
 use Rattle.resend.specs.Tests.{joined, tailAfter, countAfter, closedState, closed-range, tail-next, count-next}
-use Rattle.resend.specs.Resend.{withNumber, canRemember, renewed, renewedIf, Laying, contentAt, sentAgain, againAnswer, againAt, againAfter, again-next}
+use Rattle.resend.specs.Resend.{renewed, renewedIf, Laying, contentAt, sentAgain, againAnswer, againAt, againAfter}
 use Rattle.resent.specs.Plan.{Able, tail-grows, count-grows, oneIn, one-marked, one-own, none-spent, used-usable, used-keyed, used-count}
 
 -- ---- one record

@@ -10,7 +10,6 @@ use lib.ListN.{length, getD}
 use lib.Seq.{getD-set-same, getD-set-other}
 use borrow.Author.Tests.{ltb-true, eqb-true, eqb-false}
 use Rattle.base.specs.Choose.{choose, by-test, test-cases, if-true, if-false, both-true, both-false}
-use Rattle.base.specs.Parts.{length-part}
 use Rattle.queue.specs.Queue.{tailOf, laid}
 use Rattle.send_keys.specs.Keys.{isUsable, nextOf}
 use Rattle.outgoing.specs.declared.Sending.{Sending}
@@ -22,9 +21,9 @@ use Rattle.flight.specs.Flight.{entryAt, noEntry}
 use Rattle.resend.specs.declared.Resent.{Resent}
 use Rattle.resend.specs.declared.ResendAnswer.{ResendAnswer}
 use Rattle.resend.specs.Tests.{isDone, remembers, hasRoom, tailAfter, countAfter, closedState, resendAnswer, count-next}
-use Rattle.resend.specs.Resend.{withNumber, canRemember, renewed, Laying, againAnswer, againAt, againAfter, resendState, resendQueue, again-next}
+use Rattle.resend.specs.Resend.{withNumber, canRemember, renewed, Laying, contentAt, againAnswer, againAfter, resendState, resendQueue, again-next}
 use Rattle.resent.specs.Plan.{Able, able, count-grows, one-own}
-use Rattle.resent.specs.Steps.{Tables, Reached, beginning, reached, keptContent, numberAgain, again-skips, again-done, again-behind, kept-long, renewed-other, reaches}
+use Rattle.resent.specs.Steps.{Tables, Reached, beginning, reached, keptContent, numberAgain, again-skips, content-kept, again-done, again-behind, kept-long, renewed-other, reaches}
 
 -- ---- the call
 
@@ -50,6 +49,8 @@ pub record Whole (s : Sending) (f : Flight) (kept q : List ℕ) : Type 0 where
   pub queue : leftQueue s f kept q ≡ reached s f kept q (f .saved) .queue
   -- each record that is not marked is sent, in its turn, under the then next number of its epoch, with its own epoch, type and content
   pub sent : (i : ℕ) → i < f .saved → entryAt f i .marked ≡ false → againAnswer kept i (reached s f kept q i) ≡ send.Done
+  pub still : (i : ℕ) → i < f .saved → entryAt (reached s f kept q i .flight) i ≡ entryAt f i
+  pub content : (i : ℕ) → i < f .saved → entryAt f i .marked ≡ false → contentAt kept i (reached s f kept q i) ≡ keptContent (s .queue .mtu) f kept i
   pub number : (i : ℕ) → i < f .saved → entryAt f i .marked ≡ false → nextOf (reached s f kept q i .state .keys) (entryAt f i .epoch) ≡ numberAgain s f i
   pub long : (i : ℕ) → i < f .saved → entryAt f i .marked ≡ false → length (keptContent (s .queue .mtu) f kept i) ≡ entryAt f i .length
   pub laid-state : (i : ℕ) → i < f .saved → entryAt f i .marked ≡ false
@@ -283,6 +284,8 @@ module _ (s : Sending) (f : Flight) (kept q : List ℕ) (t : Tables s f) (d : is
     flight = flight-is;
     queue = queue-is;
     sent = λ i h m. again-done s f kept q a i h m (reached s f kept q i) (reaches s f kept q a t i (omega arith));
+    still = still s f kept q a t;
+    content = λ i h m. content-kept s f kept q a i h m (reached s f kept q i) (reaches s f kept q a t i (omega arith));
     number = λ i h m. reaches s f kept q a t i (omega arith) .next (entryAt f i .epoch) (a .usable i h m);
     long = λ i h m. kept-long s f kept q a i h m (reached s f kept q i) (reaches s f kept q a t i (omega arith));
     laid-state = λ i h m. ap (λ (l : Laying). l .state) (behind-sent s f kept q a t i h m);
