@@ -15,6 +15,12 @@ use Rattle.flight.specs.declared.Flight.{Flight}
 use Rattle.flight.specs.Flight.{freshFlight, begun}
 use Rattle.flight.specs.Save.{saveAnswer, saveState, saveQueue, saveKept}
 use Rattle.messages.specs.Message.{beginning, messageAnswer, messageState, messageQueue, messageKept}
+use Rattle.process_ack.specs.Ack.{acked}
+use Rattle.acks.specs.declared.Notes.{Notes}
+use Rattle.acks.specs.Acks.{sentAck, ackMemory}
+use Rattle.resend.specs.declared.ResendAnswer.{ResendAnswer}
+use Rattle.resend.specs.Tests.{resendAnswer}
+use Rattle.resend.specs.Resend.{resendState, resendQueue}
 use Rattle.sealing.specs.Sealing.{isPut, putMemory, sealAnswer, sealedState, sealedMemory}
 use Rattle.taking.specs.Take.{takeAnswer, takeState}
 use Rattle.waiting.specs.Queued.{Queued, flat, Holds}
@@ -25,6 +31,7 @@ use Rattle.waiting.specs.Seals.{afterPut, afterReply, put-holds, seal-ho
 use Rattle.waiting.specs.Takes.{afterTaken, taken-settled, take-holds}
 use Rattle.waiting.specs.Keying.{keying-holds}
 use Rattle.waiting.specs.Pieces.{allSent, afterMessage, message-holds, Behind, behind-send, behind-all}
+use Rattle.waiting.specs.Resends.{afterResend, resend-holds, behind-resend, afterAck, ack-holds, behind-ack}
 use Rattle.waiting.specs.Effects.{Effect, stays, adds, writes, seals, takes}
 
 -- what the host keeps: the state, the queue's memory, the flight and its memory
@@ -34,7 +41,8 @@ pub record End : Type 0 where
   pub flight : Flight
   pub kept : List ℕ
 
--- the calls that send, with what the host gives them; `put` is the host writing into the part that is lent
+-- the calls that send, with what the host gives them; `put` is the host writing into the part that is lent, `act` acting on an ACK's content,
+-- `ack` sending the ACK with these notes
 pub data Call : Type 0 where
   key : (e : ℕ) (iv : List ℕ) → Call
   send : (e t : ℕ) (x : List ℕ) → Call
@@ -44,6 +52,9 @@ pub data Call : Type 0 where
   put : (v : List ℕ) → Call
   reply : (n : ℕ) (m : List ℕ) → Call
   take : (have : ℕ) → Call
+  resend : Call
+  act : (d : List ℕ) → Call
+  ack : (n : Notes) → Call
 
 abbrev pub does : End → Call → End
 does w (key e iv) = record { state = keyingState (w .state) e iv .state; queue = w .queue; flight = w .flight; kept = w .kept }
@@ -74,6 +85,14 @@ does w (reply n m) = record {
   kept = w .kept;
 }
 does w (take have) = record { state = takeState (takeAnswer (w .state) (length (w .queue)) have) (w .state) .state; queue = w .queue; flight = w .flight; kept = w .kept }
+does w resend = record {
+  state = resendState (resendAnswer (w .state) (w .flight) (length (w .queue)) (length (w .kept))) (w .state) (w .flight) (w .kept) (w .queue) .state;
+  queue = resendQueue (resendAnswer (w .state) (w .flight) (length (w .queue)) (length (w .kept))) (w .state) (w .flight) (w .kept) (w .queue);
+  flight = resendState (resendAnswer (w .state) (w .flight) (length (w .queue)) (length (w .kept))) (w .state) (w .flight) (w .kept) (w .queue) .flight;
+  kept = w .kept;
+}
+does w (act d) = record { state = w .state; queue = w .queue; flight = acked (w .flight) d .flight; kept = w .kept }
+does w (ack n) = record { state = sentAck (w .state) n (length (w .queue)) .state; queue = ackMemory (w .state) n (w .queue); flight = w .flight; kept = w .kept }
 
 -- what the queue means behind a call
 abbrev pub after : End → Call → List (List Queued) → List (List Queued)
@@ -86,8 +105,11 @@ after w begin ds = ds
 after w (put v) ds = afterPut (isPut (w .state) (length v) (length (w .queue))) v ds
 after w (reply n m) ds = afterReply (sealAnswer (w .state) (length (w .queue)) n) m ds
 after w (take have) ds = afterTaken (takeAnswer (w .state) (length (w .queue)) have) ds
+after w resend ds = afterResend (resendAnswer (w .state) (w .flight) (length (w .queue)) (length (w .kept))) (w .state) (w .flight) (w .kept) (w .queue) ds
+after w (act d) ds = ds
+after w (ack n) ds = afterAck (w .state) n (w .queue) ds
 
--- an epoch is one of 16 bits
+-- an epoch is one of 16 bits; at most 32 records are noted (`noted-few`)
 abbrev pub Narrow : Call → Type 0
 Narrow (key e iv) = e < 65536
 Narrow (send e t x) = Unit {0}
@@ -97,6 +119,9 @@ Narrow begin = Unit {0}
 Narrow (put v) = Unit {0}
 Narrow (reply n m) = Unit {0}
 Narrow (take have) = Unit {0}
+Narrow resend = Unit {0}
+Narrow (act d) = Unit {0}
+Narrow (ack n) = n .count ≤ 32
 
 -- ---- one call
 
@@ -110,6 +135,9 @@ call-holds w begin ds l h = h
 call-holds w (put v) ds l h = put-holds (w .state) (w .queue) ds h v
 call-holds w (reply n m) ds l h = seal-holds (w .state) (w .queue) ds h n m
 call-holds w (take have) ds l h = take-holds (w .state) (w .queue) ds h have
+call-holds w resend ds l h = resend-holds (resendAnswer (w .state) (w .flight) (length (w .queue)) (length (w .kept))) (w .state) (w .flight) (w .kept) (w .queue) ds h
+call-holds w (act d) ds l h = h
+call-holds w (ack n) ds l h = ack-holds (w .state) n (w .queue) ds h
 
 effect-behind : (rs us : List Queued) → Behind rs us → Effect rs us
 effect-behind rs us b = adds (b .more) (b .laid) (b .all)
@@ -132,6 +160,11 @@ call-effect w (reply n m) ds h = by-test (λ (us : List (List Queued)). Effect (
 call-effect w (take have) [] h = stays refl
 call-effect w (take have) (d ∷ ds) h =
     by-test (λ (us : List (List Queued)). Effect (flat (d ∷ ds)) (flat us)) (λ t. takes d (taken-settled (w .state) (w .queue) d ds h have t) refl) (λ t. stays refl)
+call-effect w resend ds h =
+    let a : ResendAnswer = resendAnswer (w .state) (w .flight) (length (w .queue)) (length (w .kept)) in
+    effect-behind (flat ds) (flat (afterResend a (w .state) (w .flight) (w .kept) (w .queue) ds)) (behind-resend a (w .state) (w .flight) (w .kept) (w .queue) ds)
+call-effect w (act d) ds h = stays refl
+call-effect w (ack n) ds h = effect-behind (flat ds) (flat (afterAck (w .state) n (w .queue) ds)) (behind-ack (w .state) n (w .queue) ds)
 
 -- ---- any list of calls
 

@@ -14,6 +14,7 @@ pub mod Takes
 pub mod Keying
 pub mod Pieces
 pub mod Example
+pub mod Resends
 pub mod Facts
 pub mod Effects
 pub mod Calls

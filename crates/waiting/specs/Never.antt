@@ -5,7 +5,7 @@ use mathlib.Core.Path.{_≡_, refl, sym, subst, _∙_}
 use Prim.Native.Nat.{ℕ, zero, suc, _+_, _-_, _*_, _≤_}
 use native.Mathlib.Omega.{arith}
 use lib.ListN.{length}
-use borrow.Author.Tests.{le-leb}
+use borrow.Author.Tests.{le-leb, le-ltb, ltb-true}
 use Rattle.base.specs.Choose.{choose, by-test, test-cases, if-true, if-false, both-true}
 use Rattle.base.specs.Parts.{length-splice}
 use Rattle.queue.specs.Queue.{isSetting, isReady, lastLen, laid}
@@ -13,6 +13,7 @@ use Rattle.send_keys.specs.declared.KeyAnswer.{KeyAnswer}
 use Rattle.send_keys.specs.Keys as keys
 use Rattle.outgoing.specs.declared.Sending.{Sending}
 use Rattle.outgoing.specs.declared.SendAnswer.{SendAnswer}
+use Rattle.outgoing.specs.declared.SendAnswer.the-variants.{Done}
 use Rattle.outgoing.specs.State as sends
 use Rattle.outgoing.specs.State.{isDone, freshSending, keyingState}
 use Rattle.outgoing.specs.Send.{laidState, sendAnswer, sendState}
@@ -29,11 +30,23 @@ use Rattle.sealing.specs.Sealing as seals
 use Rattle.sealing.specs.Sealing.{sealAnswer, sealedState}
 use Rattle.taking.specs.Take as takes
 use Rattle.taking.specs.Take.{takeAnswer, takeState}
+use Rattle.process_ack.specs.declared.Acked.{Acked}
+use Rattle.process_ack.specs.Ack.{pairsIn, marksAfter, emptied, acked, marks-saved}
+use Rattle.acks.specs.declared.Notes.{Notes}
+use Rattle.acks.specs.declared.Noting.{Noting}
+use Rattle.acks.specs.declared.AckSent.{AckSent}
+use Rattle.acks.specs.Acks.{freshNotes, noted, forgotten, ackEpoch, ackLen, noticeState, ackAnswer, ackSent, sentAck}
+use Rattle.resend.specs.declared.Resent.{Resent}
+use Rattle.resend.specs.declared.ResendAnswer.{ResendAnswer}
+use Rattle.resend.specs.Tests as resends
+use Rattle.resend.specs.Tests.{closedState, fitAnswer, resendAnswer}
+use Rattle.resend.specs.Resend.{renewed, renewedIf, Laying, againAt, sentAgain, againAfter, resendState}
+use Rattle.resent.specs.Steps as again
 use Rattle.waiting.specs.Queued.{Queued, Holds}
 use Rattle.waiting.specs.Seals.{ready-always, seal-told}
 use Rattle.waiting.specs.Takes.{takeTold, take-told}
 use Rattle.waiting.specs.Keying.{keying-told}
-use Rattle.waiting.specs.Calls.{End, Call, key, send, save, message, begin, put, reply, take, does, AllNarrow, run, meant, fresh, always-holds}
+use Rattle.waiting.specs.Calls.{End, Call, key, send, save, message, begin, put, reply, take, resend, act, ack, does, Narrow, AllNarrow, run, meant, fresh, always-holds}
 
 -- the number that a call answers; 0 where it is done, and where the host writes
 abbrev pub numberOf : End → Call → ℕ
@@ -45,6 +58,9 @@ numberOf w begin = sends.refusal (begun (w .flight) .answer)
 numberOf w (put v) = 0
 numberOf w (reply n m) = seals.refusal (sealAnswer (w .state) (length (w .queue)) n)
 numberOf w (take have) = takes.refusal (takeAnswer (w .state) (length (w .queue)) have)
+numberOf w resend = resends.refusal (resendAnswer (w .state) (w .flight) (length (w .queue)) (length (w .kept)))
+numberOf w (act d) = sends.refusal (acked (w .flight) d .answer)
+numberOf w (ack n) = sends.refusal (sentAck (w .state) n (length (w .queue)) .answer)
 
 -- ---- the flight
 
@@ -105,6 +121,55 @@ message-keeps a s f q m kind body h =
     subst (λ (k : List ℕ). Saves (messageState a s f q m kind body .flight) (messageState a s f q m kind body .state .queue .mtu) (length k)) (sym (if-false (l .kept) m d))
     (subst (λ (u : Saved). Saves (u .flight) (u .state .queue .mtu) (length m)) (sym (if-false _ _ d)) h))
 
+-- a resend saves and forgets no record
+again-same : (kept : List ℕ) (i : ℕ) (l : Laying) → (againAt kept i l .flight .saved ≡ l .flight .saved) × (againAt kept i l .state .queue .mtu ≡ l .state .queue .mtu)
+unfolding againAt sentAgain renewedIf renewed sendState laidState laid
+again-same kept i l =
+    by-test (λ (u : Laying). (u .flight .saved ≡ l .flight .saved) × (u .state .queue .mtu ≡ l .state .queue .mtu)) (λ m. (refl, refl))
+    (λ m. (
+      by-test (λ (g : Flight). g .saved ≡ l .flight .saved) (λ d. by-test (λ (g : Flight). g .saved ≡ l .flight .saved) (λ c. refl) (λ c. refl)) (λ d. refl),
+      by-test (λ (u : Sending). u .queue .mtu ≡ l .state .queue .mtu) (λ d. refl) (λ d. refl),
+    ))
+
+again-all-same : (kept : List ℕ) (l : Laying) (n : ℕ) → (againAfter kept l n .flight .saved ≡ l .flight .saved) × (againAfter kept l n .state .queue .mtu ≡ l .state .queue .mtu)
+unfolding againAfter
+again-all-same kept l zero = (refl, refl)
+again-all-same kept l (suc n) =
+    let one = again-same kept n (againAfter kept l n) in
+    let all = again-all-same kept l n in
+    (one .0 ∙ all .0, one .1 ∙ all .1)
+
+resend-keeps : (a : ResendAnswer) (s : Sending) (f : Flight) (q m : List ℕ) → Saves f (s .queue .mtu) (length m)
+    → Saves (resendState a s f m q .flight) (resendState a s f m q .state .queue .mtu) (length m)
+unfolding resendState closedState
+resend-keeps a s f q m h =
+    by-test (λ (r : Resent). Saves (r .flight) (r .state .queue .mtu) (length m))
+    (λ d.
+    let all = again-all-same m (again.beginning s f q) (f .saved) in
+    record { few = omega (arith, all .0, h .few); space = subst (λ (k : ℕ). 12 * k ≤ length m) (sym (all .1)) (h .space) })
+    (λ d. h)
+
+-- acting on an ACK saves no record
+emptied-few : (f : Flight) → emptied f .saved ≤ f .saved
+unfolding emptied
+emptied-few f =
+    by-test (λ (g : Flight). g .saved ≤ f .saved) (λ y. by-test (λ (g : Flight). g .saved ≤ f .saved) (λ z. omega arith) (λ z. omega arith)) (λ y. omega arith)
+
+act-few : (f : Flight) (d : List ℕ) → acked f d .flight .saved ≤ f .saved
+unfolding acked
+act-few f d =
+    by-test (λ (a : Acked). a .flight .saved ≤ f .saved) (λ l. omega arith)
+    (λ l. by-test (λ (g : Flight). g .saved ≤ f .saved)
+    (λ y. omega (arith, emptied-few (marksAfter d (pairsIn d) f (f .saved)), marks-saved d (pairsIn d) f (f .saved))) (λ y. omega arith))
+
+ack-mtu : (s : Sending) (n : Notes) (room : ℕ) → sentAck s n room .state .queue .mtu ≡ s .queue .mtu
+unfolding sentAck ackSent noticeState sendState laidState laid
+ack-mtu s n room =
+    by-test (λ (r : AckSent). r .state .queue .mtu ≡ s .queue .mtu)
+    (λ d. by-test (λ (r : AckSent). r .state .queue .mtu ≡ s .queue .mtu) (λ z. refl)
+    (λ z. by-test (λ (u : Sending). u .queue .mtu ≡ s .queue .mtu) (λ y. refl) (λ y. refl)))
+    (λ d. refl)
+
 -- every call does
 abbrev pub Stores : End → Type 0
 Stores w = Saves (w .flight) (w .state .queue .mtu) (length (w .kept))
@@ -124,6 +189,9 @@ call-keeps w begin h =
 call-keeps w (put v) h = h
 call-keeps w (reply n m) h = same-mtu (by-test (λ (u : Sending). u .queue .mtu ≡ w .state .queue .mtu) (λ d. refl) (λ d. refl)) h
 call-keeps w (take have) h = same-mtu (by-test (λ (u : Sending). u .queue .mtu ≡ w .state .queue .mtu) (λ d. refl) (λ d. refl)) h
+call-keeps w resend h = resend-keeps (resendAnswer (w .state) (w .flight) (length (w .queue)) (length (w .kept))) (w .state) (w .flight) (w .queue) (w .kept) h
+call-keeps w (act d) h = record { few = omega (arith, act-few (w .flight) d, h .few); space = h .space }
+call-keeps w (ack n) h = same-mtu (ack-mtu (w .state) n (length (w .queue))) h
 
 -- ---- no call is refused by 12
 
@@ -176,17 +244,65 @@ told-not (d ∷ ds) have =
     let P : TakeAnswer → Type 0 = λ a. takes.refusal a ≡ 12 → ⊥ in
     by-test P (λ a z. omega arith) (λ a. by-test P (λ b z. omega arith) (λ b z. omega arith))
 
-pub call-not : (w : End) (c : Call) (ds : List (List Queued)) → Holds (w .state) (w .queue) ds → Stores w → numberOf w c ≡ 12 → ⊥
-call-not w (key e iv) ds h s z = key-not (w .state) (w .queue) ds h e iv z
-call-not w (send e t x) ds h s z = send-not (w .state) (length (w .queue)) e t (length x) (ready-always (w .state) (w .queue) ds h) z
-call-not w (save e t x) ds h s z =
+fit-not : (s : Sending) (f : Flight) → resends.refusal (fitAnswer s f) ≡ 12 → ⊥
+unfolding fitAnswer
+fit-not s f =
+    let P : ResendAnswer → Type 0 = λ a. resends.refusal a ≡ 12 → ⊥ in by-test P (λ u z. omega arith) (λ u. by-test P (λ v z. omega arith) (λ v z. omega arith))
+
+resend-not : (s : Sending) (f : Flight) (room kept : ℕ) → isReady (s .queue) room ≡ true → isKept f (s .queue .mtu) kept ≡ true → resends.refusal (resendAnswer s f room kept) ≡ 12 → ⊥
+unfolding resendAnswer
+resend-not s f room kept r k =
+    let P : ResendAnswer → Type 0 = λ a. resends.refusal a ≡ 12 → ⊥ in
+    subst P (sym (if-true _ _ r ∙ if-true _ _ k))
+    (by-test P (λ a. by-test P (λ b. by-test P (λ c. by-test P (λ d. fit-not (closedState s) f) (λ d z. omega arith)) (λ c z. omega arith)) (λ b z. omega arith)) (λ a z. omega arith))
+
+act-not : (f : Flight) (d : List ℕ) → f .saved ≤ 12 → sends.refusal (acked f d .answer) ≡ 12 → ⊥
+unfolding acked
+act-not f d h = subst (λ (a : Acked). sends.refusal (a .answer) ≡ 12 → ⊥) (sym (if-false _ _ (le-ltb 12 (f .saved) h))) (λ z. omega arith)
+
+ack-done : (s : Sending) (n : Notes) (room : ℕ) → isReady (s .queue) room ≡ true → n .count ≤ 32 → ackAnswer s n room ≡ Done
+unfolding ackAnswer
+ack-done s n room r h = if-false _ _ (le-ltb 32 (n .count) h) ∙ if-true _ _ r
+
+ack-not : (s : Sending) (n : Notes) (room : ℕ) → isReady (s .queue) room ≡ true → n .count ≤ 32 → sends.refusal (sentAck s n room .answer) ≡ 12 → ⊥
+unfolding sentAck ackSent noticeState sendState
+ack-not s n room r h =
+    let P : AckSent → Type 0 = λ a. sends.refusal (a .answer) ≡ 12 → ⊥ in
+    let done : ackAnswer s n room ≡ Done = ack-done s n room r h in
+    let none : sends.refusal (ackAnswer s n room) ≡ 12 → ⊥ = subst (λ (a : SendAnswer). sends.refusal a ≡ 12 → ⊥) (sym done) (λ z. omega arith) in
+    by-test P (λ d. by-test P (λ z. none) (λ z. send-not s room (ackEpoch (s .keys)) 26 (ackLen n) r)) (λ d. none)
+
+-- notes are at most 32: fresh, behind noting, and behind sending the ACK
+pub fresh-notes-few : freshNotes .count ≤ 32
+unfolding freshNotes
+fresh-notes-few = omega arith
+
+pub noted-few : (n : Notes) (e k : ℕ) → n .count ≤ 32 → noted n e k .notes .count ≤ 32
+unfolding noted
+noted-few n e k h =
+    by-test (λ (r : Noting). r .notes .count ≤ 32) (λ l. h)
+    (λ l. by-test (λ (r : Noting). r .notes .count ≤ 32) (λ m. omega (arith, ltb-true (n .count) 32 m)) (λ m. h))
+
+pub sent-notes-few : (s : Sending) (n : Notes) (room : ℕ) → n .count ≤ 32 → sentAck s n room .notes .count ≤ 32
+unfolding sentAck ackSent forgotten
+sent-notes-few s n room h =
+    by-test (λ (r : AckSent). r .notes .count ≤ 32)
+    (λ d. by-test (λ (r : AckSent). r .notes .count ≤ 32) (λ z. h) (λ z. by-test (λ (m : Notes). m .count ≤ 32) (λ y. omega arith) (λ y. h))) (λ d. h)
+
+pub call-not : (w : End) (c : Call) (ds : List (List Queued)) → Narrow c → Holds (w .state) (w .queue) ds → Stores w → numberOf w c ≡ 12 → ⊥
+call-not w (key e iv) ds l h s z = key-not (w .state) (w .queue) ds h e iv z
+call-not w (send e t x) ds l h s z = send-not (w .state) (length (w .queue)) e t (length x) (ready-always (w .state) (w .queue) ds h) z
+call-not w (save e t x) ds l h s z =
     save-not (w .state) (w .flight) (length (w .queue)) (length (w .kept)) e t (length x) (ready-always (w .state) (w .queue) ds h) (saves-kept s) z
-call-not w (message kind body) ds h s z =
+call-not w (message kind body) ds l h s z =
     message-not (w .state) (w .flight) (length (w .queue)) (length (w .kept)) kind (length body) (ready-always (w .state) (w .queue) ds h) (saves-kept s) z
-call-not w begin ds h s z = begin-not (w .flight) (s .few) z
-call-not w (put v) ds h s z = omega arith
-call-not w (reply n m) ds h s z = reply-not (w .state) (w .queue) ds h n z
-call-not w (take have) ds h s z = told-not ds have (subst (λ (a : TakeAnswer). takes.refusal a ≡ 12) (take-told (w .state) (w .queue) ds h have) z)
+call-not w begin ds l h s z = begin-not (w .flight) (s .few) z
+call-not w (put v) ds l h s z = omega arith
+call-not w (reply n m) ds l h s z = reply-not (w .state) (w .queue) ds h n z
+call-not w (take have) ds l h s z = told-not ds have (subst (λ (a : TakeAnswer). takes.refusal a ≡ 12) (take-told (w .state) (w .queue) ds h have) z)
+call-not w resend ds l h s z = resend-not (w .state) (w .flight) (length (w .queue)) (length (w .kept)) (ready-always (w .state) (w .queue) ds h) (saves-kept s) z
+call-not w (act d) ds l h s z = act-not (w .flight) d (s .few) z
+call-not w (ack n) ds l h s z = ack-not (w .state) n (length (w .queue)) (ready-always (w .state) (w .queue) ds h) l z
 
 -- ---- any list of calls
 
@@ -195,9 +311,9 @@ run-stores w [] s = s
 run-stores w (c ∷ cs) s = run-stores (does w c) cs (call-keeps w c s)
 
 -- a call behind any list of calls on a fresh state is never refused by 12
-pub never-twelve : (mtu limit : ℕ) (queue kept : List ℕ) → isSetting mtu limit ≡ true → limit * mtu ≤ length queue → 12 * mtu ≤ length kept → (cs : List Call) → AllNarrow cs → (c : Call)
+pub never-twelve : (mtu limit : ℕ) (queue kept : List ℕ) → isSetting mtu limit ≡ true → limit * mtu ≤ length queue → 12 * mtu ≤ length kept → (cs : List Call) → AllNarrow cs → (c : Call) → Narrow c
     → numberOf (run (fresh mtu limit queue kept) cs) c ≡ 12 → ⊥
 unfolding freshFlight freshSending
-never-twelve mtu limit queue kept s l k cs n c =
-    call-not (run (fresh mtu limit queue kept) cs) c (meant (fresh mtu limit queue kept) cs []) (always-holds mtu limit queue kept s l cs n)
+never-twelve mtu limit queue kept s l k cs n c i =
+    call-not (run (fresh mtu limit queue kept) cs) c (meant (fresh mtu limit queue kept) cs []) i (always-holds mtu limit queue kept s l cs n)
     (run-stores (fresh mtu limit queue kept) cs (record { few = omega arith; space = k }))

@@ -1,0 +1,1 @@
+// A flight is sent again wholly or not at all: laws alone.
