@@ -165,6 +165,8 @@ pub mod probe {
                 .map(|datagram| datagram.len())
                 .collect(),
             saved: saved.collect(),
+        }
+    }
 
     /// Epochs 2 and 3 keyed in both directions with the cipher that does nothing; the peer encrypts
     /// and application data is released.
@@ -191,13 +193,5 @@ pub mod probe {
         });
         engine.enable_peer_encryption().unwrap();
         engine.release_application_data_retaining_handshake_keys();
-    }
-
-    /// The front datagram's length, copied to the start of a buffer.
-    pub fn take(engine: &mut Engine, buffer: &mut [u8]) -> Option<usize> {
-        match engine.poll_packet_tx(buffer) {
-            PollOutput::Data(bytes) => Some(bytes.len()),
-            _ => None,
-        }
     }
 }
