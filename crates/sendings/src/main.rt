@@ -1,6 +1,5 @@
 // Replays histories of sending: one line of input, a letter and hex bytes, is one step and gives one line of output. What is
 // expected stands in the file stdout, written from the Rust's answers (compare/README.md says how, and what each letter means).
-ghost use Prim.Native.Nat.{_<_, _≤_};
 use flight::Entry;
 use flight::Flight;
 use flight::Saved;
@@ -18,79 +17,23 @@ use send_keys::KeyAnswer;
 use send_keys::SendEpoch;
 use send_keys::SendKeys;
 
-// Bytes written one behind the other into a lent buffer; where it is full they are left out.
-fn push(out: &mut [u8], at: usize, b: u8) -> usize {
-    if at < out.len() {
-        out[at] = b;
-        return at + 1;
-    }
-    at
-}
-
-fn push_all(out: &mut [u8], at: usize, d: &[u8]) -> usize {
-    let mut n = at;
-    let mut i = 0;
-    while i < d.len() {
-        n = push(out, n, d[i]);
-        i += 1;
-    }
-    n
-}
-
-// Numbers read out of a step; bytes beyond its end count as 0.
-fn get1(d: &[u8], i: usize) -> u8 {
-    if i < d.len() {
-        return d[i];
-    }
-    0
-}
-
-fn get2(d: &[u8], i: usize) -> u16 {
-    if i < 65536 {
-        return (get1(d, i) as u16) * 256 + get1(d, i + 1) as u16;
-    }
-    0
-}
-
-fn get4(d: &[u8], i: usize) -> u32 {
-    if i < 65536 {
-        return (get2(d, i) as u32) * 65536 + get2(d, i + 2) as u32;
-    }
-    0
-}
-
-fn get8(d: &[u8], i: usize) -> u64 {
-    if i < 65536 {
-        return (get4(d, i) as u64) * 0x1_0000_0000 + get4(d, i + 4) as u64;
-    }
-    0
-}
-
-// Byte k of a number, the lowest being byte 0.
-fn byte(v: u64, k: u64) -> u8 {
-    if k < 8 {
-        return ((v >> (8 * k)) % 256) as u8;
-    }
-    0
-}
-
 fn push2(out: &mut [u8], at: usize, v: u64) -> usize {
-    let d = [byte(v, 1), byte(v, 0)];
-    push_all(out, at, &d)
+    let d = [lines::byte(v, 1), lines::byte(v, 0)];
+    lines::push_all(out, at, &d)
 }
 
 fn push8(out: &mut [u8], at: usize, v: u64) -> usize {
     let d = [
-        byte(v, 7),
-        byte(v, 6),
-        byte(v, 5),
-        byte(v, 4),
-        byte(v, 3),
-        byte(v, 2),
-        byte(v, 1),
-        byte(v, 0),
+        lines::byte(v, 7),
+        lines::byte(v, 6),
+        lines::byte(v, 5),
+        lines::byte(v, 4),
+        lines::byte(v, 3),
+        lines::byte(v, 2),
+        lines::byte(v, 1),
+        lines::byte(v, 0),
     ];
-    push_all(out, at, &d)
+    lines::push_all(out, at, &d)
 }
 
 // ---- the state
@@ -142,31 +85,31 @@ fn numbers(t: Told) -> [u8; 16] {
     [
         t.refusal,
         t.kind,
-        byte(t.epoch as u64, 1),
-        byte(t.epoch as u64, 0),
-        byte(t.number, 7),
-        byte(t.number, 6),
-        byte(t.number, 5),
-        byte(t.number, 4),
-        byte(t.number, 3),
-        byte(t.number, 2),
-        byte(t.number, 1),
-        byte(t.number, 0),
-        byte(t.start, 1),
-        byte(t.start, 0),
-        byte(t.length, 1),
-        byte(t.length, 0),
+        lines::byte(t.epoch as u64, 1),
+        lines::byte(t.epoch as u64, 0),
+        lines::byte(t.number, 7),
+        lines::byte(t.number, 6),
+        lines::byte(t.number, 5),
+        lines::byte(t.number, 4),
+        lines::byte(t.number, 3),
+        lines::byte(t.number, 2),
+        lines::byte(t.number, 1),
+        lines::byte(t.number, 0),
+        lines::byte(t.start, 1),
+        lines::byte(t.start, 0),
+        lines::byte(t.length, 1),
+        lines::byte(t.length, 0),
     ]
 }
 
 // The 35 bytes before the bytes shown, of which the last two are their number, then these.
 fn lay(t: Told, nonce: [u8; 12], header: [u8; 5], shown: &[u8], out: &mut [u8]) -> usize {
     let head = numbers(t);
-    push_all(out, 0, &head);
-    push_all(out, 16, &nonce);
-    push_all(out, 28, &header);
+    lines::push_all(out, 0, &head);
+    lines::push_all(out, 16, &nonce);
+    lines::push_all(out, 28, &header);
     push2(out, 33, shown.len() as u64);
-    push_all(out, 35, shown)
+    lines::push_all(out, 35, shown)
 }
 
 // An answer on standard output.
@@ -174,7 +117,7 @@ fn say(letter: u8, t: Told, nonce: [u8; 12], header: [u8; 5], shown: &[u8]) {
     let mut found = [0u8; 2048];
     let mut text = [0u8; 4352];
     let n = lay(t, nonce, header, shown, &mut found);
-    let m = encode(letter, base::fragment(&found, 0, n), &mut text);
+    let m = lines::encode(letter, base::fragment(&found, 0, n), &mut text);
     io::write_all(1, base::fragment(&text, 0, m));
 }
 
@@ -247,37 +190,23 @@ fn told_question(q: SealQuestion) -> Told {
 // ---- steps without memory
 
 fn fresh(input: &[u8]) -> End {
-    let r = Sending::fresh(get2(input, 0) as usize, get1(input, 2) as usize);
+    let r = Sending::fresh(
+        lines::get2(input, 0) as usize,
+        lines::get1(input, 2) as usize,
+    );
     let a = r.answer;
     say_number(b'f', send_number(a));
     let s = r.state;
     End {
         sending: s,
         flight: flight::fresh(),
-        room: get2(input, 3) as usize,
-        kept: get2(input, 5) as usize,
+        room: lines::get2(input, 3) as usize,
+        kept: lines::get2(input, 5) as usize,
     }
 }
 
-fn iv(d: &[u8]) -> [u8; 12] {
-    [
-        get1(d, 2),
-        get1(d, 3),
-        get1(d, 4),
-        get1(d, 5),
-        get1(d, 6),
-        get1(d, 7),
-        get1(d, 8),
-        get1(d, 9),
-        get1(d, 10),
-        get1(d, 11),
-        get1(d, 12),
-        get1(d, 13),
-    ]
-}
-
 fn key(s: Sending, input: &[u8]) -> Sending {
-    let r = s.key_send(get2(input, 0), iv(input));
+    let r = s.key_send(lines::get2(input, 0), lines::get12(input, 2));
     let a = r.answer;
     say_number(b'k', key_number(a));
     let t = r.state;
@@ -309,7 +238,7 @@ fn numbered(k: SendKeys, epoch: u16, number: u64) -> SendKeys {
 // The next number of an epoch, as if the ones before had been used.
 fn set_number(s: Sending, input: &[u8]) -> Sending {
     let mut t = s;
-    t.keys = numbered(s.keys, get2(input, 0), get8(input, 2));
+    t.keys = numbered(s.keys, lines::get2(input, 0), lines::get8(input, 2));
     say_number(b'u', 0);
     t
 }
@@ -317,7 +246,7 @@ fn set_number(s: Sending, input: &[u8]) -> Sending {
 // The next message number, as if the ones before had been used.
 fn set_message(s: Sending, input: &[u8]) -> Sending {
     let mut t = s;
-    t.message_seq = get2(input, 0);
+    t.message_seq = lines::get2(input, 0);
     say_number(b'g', 0);
     t
 }
@@ -358,8 +287,8 @@ fn host_step(e: End, letter: u8, input: &[u8]) -> End {
 
 fn send(s: Sending, input: &[u8], memory: &mut [u8]) -> Sending {
     let r = s.send(
-        get2(input, 0),
-        get1(input, 2),
+        lines::get2(input, 0),
+        lines::get1(input, 2),
         base::behind(input, 5),
         memory,
     );
@@ -372,12 +301,12 @@ fn send(s: Sending, input: &[u8], memory: &mut [u8]) -> Sending {
 // Sealed bytes written to the part that the host is lent.
 fn write_part(s: Sending, d: &[u8], memory: &mut [u8]) {
     let part = sealing::sealing_part(s, memory);
-    push_all(part, 0, d);
+    lines::push_all(part, 0, d);
 }
 
 fn reply(s: Sending, input: &[u8], memory: &mut [u8]) -> Sending {
-    let mask = [get1(input, 0), get1(input, 1)];
-    let length = get2(input, 2) as usize;
+    let mask = [lines::get1(input, 0), lines::get1(input, 1)];
+    let length = lines::get2(input, 2) as usize;
     write_part(s, base::behind(input, 4), memory);
     let r = sealing::sealed(s, length, mask, memory);
     let a = r.answer;
@@ -401,7 +330,7 @@ fn save(e: End, letter: u8, input: &[u8], memory: &mut [u8], kept: &mut [u8]) ->
         return messages::create_handshake(
             s,
             f,
-            get1(input, 0),
+            lines::get1(input, 0),
             base::behind(input, 3),
             memory,
             kept,
@@ -410,8 +339,8 @@ fn save(e: End, letter: u8, input: &[u8], memory: &mut [u8], kept: &mut [u8]) ->
     flight::send_saved(
         s,
         f,
-        get2(input, 0),
-        get1(input, 2),
+        lines::get2(input, 0),
+        lines::get1(input, 2),
         base::behind(input, 5),
         memory,
         kept,
@@ -457,7 +386,7 @@ fn take_part(s: Sending, buffer: &mut [u8], n: usize, memory: &[u8]) -> Take {
 
 fn take(s: Sending, input: &[u8], memory: &[u8]) -> Sending {
     let mut buffer = [0xEEu8; 1600];
-    let n = get2(input, 0) as usize;
+    let n = lines::get2(input, 0) as usize;
     let r = take_part(s, &mut buffer, n, memory);
     let a = r.answer;
     say(
@@ -576,7 +505,7 @@ fn lay_entry(f: Flight, i: usize, d: Entry, content: &[u8], out: &mut [u8]) -> u
     let a = push2(out, 0, d.marked as u64);
     let n = push2(out, a, d.remembered as u64);
     let m = lay_remembered(f, i, d, out, n);
-    push_all(out, m, content)
+    lines::push_all(out, m, content)
 }
 
 // Where a saved record's content begins.
@@ -624,7 +553,7 @@ fn shown(e: End, letter: u8, input: &[u8], memory: &[u8], kept: &[u8]) -> End {
     match letter {
         b'q' => question(s, memory),
         b'v' => view(e),
-        _ => entry(e, get1(input, 0) as usize, kept),
+        _ => entry(e, lines::get1(input, 0) as usize, kept),
     }
     e
 }
@@ -671,7 +600,7 @@ fn pattern_at(d: &[u8], i: usize) -> u8 {
     if d.len() == 0 {
         return 0;
     }
-    get1(d, i % d.len())
+    lines::get1(d, i % d.len())
 }
 
 // A pattern repeated up to a length.
@@ -679,7 +608,7 @@ fn repeat(pattern: &[u8], n: usize, out: &mut [u8], at: usize) -> usize {
     let mut m = at;
     let mut i = 0;
     while i < n {
-        m = push(out, m, pattern_at(pattern, i));
+        m = lines::push(out, m, pattern_at(pattern, i));
         i += 1;
     }
     m
@@ -687,96 +616,37 @@ fn repeat(pattern: &[u8], n: usize, out: &mut [u8], at: usize) -> usize {
 
 // The bytes before a content, the last two of which are its length; then the content, of which a pattern is given.
 fn fill(input: &[u8], head: usize, n: usize, out: &mut [u8]) -> usize {
-    let m = push_all(out, 0, base::fragment(input, 0, head));
+    let m = lines::push_all(out, 0, base::fragment(input, 0, head));
     repeat(base::behind(input, head), n, out, m)
 }
 
 fn expand(letter: u8, input: &[u8], out: &mut [u8]) -> usize {
     match letter {
-        b'd' | b'p' => fill(input, 5, get2(input, 3) as usize, out),
-        b'h' => fill(input, 3, get2(input, 1) as usize, out),
-        b's' => fill(input, 4, get2(input, 2) as usize, out),
-        _ => push_all(out, 0, input),
+        b'd' | b'p' => fill(input, 5, lines::get2(input, 3) as usize, out),
+        b'h' => fill(input, 3, lines::get2(input, 1) as usize, out),
+        b's' => fill(input, 4, lines::get2(input, 2) as usize, out),
+        _ => lines::push_all(out, 0, input),
     }
-}
-
-fn digit(b: u8) -> u8 {
-    if b < b'a' {
-        return b % 16;
-    }
-    (b % 16 + 9) % 16
-}
-
-// The bytes that hex digits make.
-fn decode(digits: &[u8], out: &mut [u8]) -> usize {
-    let mut n = 0;
-    let mut i = 0;
-    while 2 <= digits.len() - i {
-        let high = digit(get1(digits, i));
-        let low = digit(get1(digits, i + 1));
-        n = push(out, n, high % 16 * 16 + low % 16);
-        i += 2;
-    }
-    n
-}
-
-fn hex(v: u8) -> u8 {
-    let d = v % 16;
-    if d < 10 {
-        return b'0' + d;
-    }
-    b'a' - 10 + d
-}
-
-// A line: the letter, a space, the bytes in hex.
-fn encode(letter: u8, d: &[u8], out: &mut [u8]) -> usize {
-    let a = push(out, 0, letter);
-    let mut n = push(out, a, b' ');
-    let mut i = 0;
-    while i < d.len() {
-        let b = d[i];
-        let m = push(out, n, hex(b / 16));
-        n = push(out, m, hex(b));
-        i += 1;
-    }
-    push(out, n, b'\n')
-}
-
-// The length of the first line, without its newline.
-fn line_len(text: &[u8]) -> usize {
-    let mut i = 0;
-    while i < text.len() {
-        if text[i] == b'\n' {
-            return i;
-        }
-        i += 1;
-    }
-    i
 }
 
 // A line's bytes with its content whole.
 fn read_line(line: &[u8], out: &mut [u8]) -> usize {
     let mut input = [0u8; 16640];
-    let n = decode(base::behind(line, 2), &mut input);
-    expand(get1(line, 0), base::fragment(&input, 0, n), out)
+    let n = lines::decode(base::behind(line, 2), &mut input);
+    expand(lines::get1(line, 0), base::fragment(&input, 0, n), out)
 }
 
 // One line of input.
 fn replay_line(e: End, line: &[u8], memory: &mut [u8], kept: &mut [u8]) -> End {
     let mut input = [0u8; 16640];
     let n = read_line(line, &mut input);
-    lend(e, get1(line, 0), base::fragment(&input, 0, n), memory, kept)
-}
-
-// Where the next line begins: behind the newline, and no further than the end.
-fn next_line(i: usize, n: usize, end: usize) -> usize
-    requires { ⌜ i < end ⌝ }
-    ensures { λ r. ⌜ (i < r) × (r ≤ end) ⌝ }
-{
-    if n < end - i {
-        return i + n + 1;
-    }
-    end
+    lend(
+        e,
+        lines::get1(line, 0),
+        base::fragment(&input, 0, n),
+        memory,
+        kept,
+    )
 }
 
 fn nothing() -> End {
@@ -794,9 +664,9 @@ fn replay_lines(text: &[u8], memory: &mut [u8], kept: &mut [u8]) {
     let mut e = nothing();
     let mut i = 0;
     while i < text.len() {
-        let n = line_len(base::behind(text, i));
+        let n = lines::line_len(base::behind(text, i));
         e = replay_line(e, base::fragment(text, i, n), memory, kept);
-        i = next_line(i, n, text.len());
+        i = lines::next_line(i, n, text.len());
     }
 }
 
