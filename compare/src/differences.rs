@@ -11,7 +11,7 @@ use crate::dtls13::engine::Engine;
 use crate::dtls13::engine::probe::{self, Sending};
 use crate::histories;
 use crate::leaves::hex;
-use crate::sendings::limits::{key, saved, send};
+use crate::sendings::limits::{key, send};
 use crate::sendings::reference::World;
 use crate::sendings::{Bytes, History, Settings, Step, generate, reference};
 use crate::types::Dtls13CipherSuite;
@@ -41,8 +41,17 @@ fn changed(before: &Sending, after: &Sending, sealings: usize) -> Vec<&'static s
     if before.lengths != after.lengths {
         changed.push("records sent");
     }
-    if before.saved != after.saved {
+    if before.saved.len() < after.saved.len() {
         changed.push("records saved");
+    }
+    if after.saved.len() < before.saved.len() {
+        changed.push("the flight lost");
+    }
+    if after.noted < before.noted {
+        changed.push("noted records lost");
+    }
+    if !before.closed && after.closed {
+        changed.push("the datagram closed");
     }
     if before.message != after.message {
         changed.push("message number moved");
@@ -59,6 +68,7 @@ pub fn named(outcome: &str) -> String {
         ("SendKeysNotAvailable", "keys absent"),
         ("SequenceNumberExhausted", "numbers spent"),
         ("TransmitQueueFull", "queue full"),
+        ("TransmitHistoryFull", "history full"),
     ];
     let found = names.iter().find(|(error, _)| outcome.contains(error));
     found.map_or(outcome, |(_, name)| name).to_string()
@@ -87,7 +97,9 @@ fn kind(history: &History) -> Option<Kind> {
             },
             Step::Send { save: false, .. } => "record",
             Step::Send { save: true, .. } => "record to save",
-            _ => "message",
+            Step::Message { .. } => "message",
+            Step::Resend => "resend",
+            _ => "ACK",
         },
         outcome,
         changed: changed(&before, &world.sending(), sealings),
@@ -208,6 +220,9 @@ fn describe(history: &History) -> String {
             format!("send({epoch}, {content_type}, {n} bytes{saved})")
         }
         Step::Message { kind, body } => format!("message({kind}, {} bytes)", body.length),
+        Step::Ack(content) => format!("act on the ACK {}", hex(content)),
+        Step::Note { epoch, number } => format!("note ({epoch}, {number})"),
+        Step::SendAck => "send the ACK".to_string(),
         step => format!("{step:?}").to_lowercase(),
     }));
     words.join("; ")
@@ -287,65 +302,6 @@ pub fn sealed_twice() -> Found {
         rust: format!("{outcome}, then {second}: nonces {nonces:?}, texts {texts:?}"),
         here: "19, no sealing asked; the second is number 1".to_string(),
     }
-}
-
-/// Resends and ACKs, which have no program here yet.
-pub fn resending() -> Vec<Found> {
-    let mut found = Vec::new();
-    let mut add = |input: &str, rust: String| {
-        found.push(Found {
-            input: input.to_string(),
-            rust,
-            here: String::new(),
-        })
-    };
-    let mut world = World::new(Settings::new(576, 1));
-    world.step(&saved(0, 21, 0));
-    let outcome = world.engine_mut().flight_resend("");
-    let after = world.sending();
-    add(
-        "MTU 576, limit 1; send(0, 21, 0 bytes, saved); resend",
-        format!(
-            "{outcome:?}; {} saved, closed {}",
-            after.saved.len(),
-            after.closed
-        ),
-    );
-    let mut world = World::new(Settings::new(576, 2));
-    world.step(&saved(0, 21, 0));
-    world.step(&Step::Number {
-        epoch: 0,
-        number: (1 << 48) - 1,
-    });
-    let outcome = world.engine_mut().flight_resend("");
-    add(
-        "MTU 576, limit 2; send(0, 21, 0 bytes, saved); next number 2^48 - 1; resend",
-        format!("{outcome:?}; {} saved", world.sending().saved.len()),
-    );
-    let mut world = World::new(Settings::new(576, 2));
-    let noted = probe::note(world.engine_mut(), 2, 0);
-    let outcome = world.engine_mut().send_ack();
-    let left = probe::noted(world.engine_mut());
-    add(
-        "note (2, 0); send the ACK, nothing keyed",
-        format!("{noted} noted; {outcome:?}; {left} noted"),
-    );
-    let mut world = World::new(Settings::new(576, 2));
-    for step in [key(3), saved(3, 22, 0), Step::Reply(0), key(4)] {
-        world.step(&step);
-    }
-    script::take_sealings();
-    let outcome = world.engine_mut().flight_resend("");
-    let asked = script::take_sealings();
-    add(
-        "key 3; send(3, 22, 0 bytes, saved), sealed; key 4; resend",
-        format!(
-            "{outcome:?}; sealed with the keys of {}, header {}",
-            hex(&asked[0].key),
-            hex(&asked[0].header)
-        ),
-    );
-    found
 }
 
 // ---- receiving

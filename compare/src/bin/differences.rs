@@ -12,9 +12,7 @@ fn print(title: &str, found: &[Found]) {
     for Found { input, rust, here } in found {
         println!("  input   {input}");
         println!("  Rust    {rust}");
-        if !here.is_empty() {
-            println!("  Rattle  {here}");
-        }
+        println!("  Rattle  {here}");
         println!();
     }
 }
@@ -23,7 +21,6 @@ fn all(readings: &str, sendings: &str, count: u64, seed: u64) -> io::Result<()> 
     print("receiving", &differences::receiving(readings)?);
     print("sending", &differences::sending(sendings, count, seed)?);
     print("a number sealed twice", &[differences::sealed_twice()]);
-    print("resending and ACKs", &differences::resending());
     Ok(())
 }
 

@@ -6,7 +6,7 @@ use borrow.Author.Tests.{le-ltb}
 use lib.Bits.{bitXor}
 use lib.ListN.{length, getD, drop}
 use lib.Seq.{getD-drop, ext-getD}
-use mathlib.Core.Bool.{Bool, true}
+use mathlib.Core.Bool.{Bool, true, false}
 use mathlib.Core.List.{List, [], _∷_, _++_}
 use mathlib.Core.Logic.{_⊎_, inl, inr, ⊎-elim}
 use mathlib.Core.Path.{_≡_, refl, sym, ap, _∙_}
@@ -28,6 +28,7 @@ use Rattle.recv_keys.specs.declared.Found.{Found}
 use Rattle.recv_keys.specs.declared.RecvEpochEntry.{RecvEpochEntry}
 use Rattle.recv_keys.specs.declared.RecvKeys.{RecvKeys}
 use Rattle.sequence.specs.Laws.{near}
+use Rattle.sequence.specs.Sequence.{blockOf}
 use Rattle.window.specs.Window.{width, isFresh}
 use Rattle.window.specs.declared.ReplayWindow.{ReplayWindow}
 use Rattle.mask_reply.specs.Leads.{mask-asks}
@@ -62,6 +63,17 @@ module _ (d m : List ℕ) (at n : ℕ) (room : at + 2 < length d)
     where
       pair : beAt 2 (drop at (unmasked d at true m)) 1 ≡ n % 65536
       pair = omega (arith, first-byte, second-byte)
+
+-- a number of one byte: the low 8 bits
+pub number-byte : (d m : List ℕ) (at n : ℕ) → at + 1 < length d → getD d (at + 1) 0 ≡ bitXor (n % 256) (getD m 0 0)
+    → partialOf (drop at (unmasked d at false m)) false ≡ n % 256
+unfolding partialOf unmasked
+number-byte d m at n room low =
+    let v : List ℕ = xors d (at + 1) (maskBytes false m) in
+    let e : at + 1 ≡ at + 1 + 0 = omega arith in
+    if-false _ _ refl ∙ getD-drop at (unmasked d at false m) 1 0 ∙ ap (λ (i : ℕ). getD (unmasked d at false m) i 0) e
+    ∙ sym (part-at (at + 1) 1 (unmasked d at false m) 0 (omega arith)) ∙ ap (λ (l : List ℕ). getD l 0 0) (splice-here (at + 1) v d (omega arith))
+    ∙ ap (λ (x : ℕ). bitXor x (getD m 0 0)) low ∙ xor-twice (n % 256) (getD m 0 0)
 
 -- the header, unmasked, is the one that was sealed: the number in it is not masked
 module _ (d m : List ℕ) (at e n len : ℕ) (room : at + 5 ≤ length d)
@@ -109,11 +121,15 @@ module _ (d m : List ℕ) (at e n len : ℕ) (room : at + 5 ≤ length d)
 abbrev withFlag : RecvEpochEntry → Datagram → Ask → List ℕ → List ℕ → Bool → Step × List ℕ
 withFlag e b a m d s = (judged e b a (rebuilt (e .replay) (partialOf (drop (b .at) (unmasked d (b .at) s m)) s) s), unmasked d (b .at) s m)
 
--- bits of a number within reach stand for it
-pub rebuilt-near : (w : ReplayWindow) (p n : ℕ) → p ≡ n % 65536 → n ≤ 0xFFFF_FFFF_FFFF → n < expected w + 32768 → expected w < n + 32768
-    → rebuilt w p true ≡ n
+same-bits : (s : Bool) (p n : ℕ) → p ≡ n % blockOf s → n % blockOf s ≡ p % blockOf s
+same-bits true p n e = omega arith
+same-bits false p n e = omega arith
+
+-- bits of a number within reach stand for it: half a block around the expected one, 32,768 for two bytes and 128 for one
+pub rebuilt-near : (w : ReplayWindow) (s : Bool) (p n : ℕ) → p ≡ n % blockOf s → n ≤ 0xFFFF_FFFF_FFFF
+    → n < expected w + blockOf s / 2 → expected w < n + blockOf s / 2 → rebuilt w p s ≡ n
 unfolding rebuilt
-rebuilt-near w p n e small above below = near true p (expected w) n (omega arith) (omega arith) above below
+rebuilt-near w s p n e small above below = near s p (expected w) n (omega arith) (same-bits s p n e) above below
 
 judged-opens : (e : RecvEpochEntry) (b : Datagram) (a : Ask) (n : ℕ) → n ≤ 0xFFFF_FFFF_FFFF → isFresh width (e .replay) n ≡ true
     → judged e b a n ≡ openingAsked e b a n
@@ -121,21 +137,37 @@ unfolding judged
 judged-opens e b a n small fresh = if-false _ _ (le-ltb 0xFFFF_FFFF_FFFF n small) ∙ if-true _ _ fresh
 
 module _ (k : RecvKeys) (b : Datagram) (a : Ask) (i n : ℕ) (m d : List ℕ) where
+  -- number bytes of either width
+  opens : (s : Bool) → isSound k b ≡ true → length d ≡ b .size → b .question ≡ question.Mask a → find (k .entries) (a .epoch) (k .count) ≡ found.At i
+      → a .«s_flag» ≡ s → partialOf (drop (b .at) (unmasked d (b .at) s m)) s ≡ n % blockOf s → n ≤ 0xFFFF_FFFF_FFFF
+      → n < expected (entryAt k i .replay) + blockOf s / 2 → expected (entryAt k i .replay) < n + blockOf s / 2
+      → isFresh width (entryAt k i .replay) n ≡ true
+      → maskStep k b m d ≡ (openingAsked (entryAt k i) b a n, unmasked d (b .at) s m)
+  unfolding masking maskedBy maskedAt
+  opens s t l q f flag bits small above below fresh =
+      mask-asks k b m d (question.Mask a) t l q ∙ ap (λ (x : Found). maskedBy x k b a m d) f ∙ ap (withFlag (entryAt k i) b a m d) flag
+      ∙ ap (λ (x : ℕ). withNumber x) (rebuilt-near (entryAt k i .replay) s _ n bits small above below)
+      ∙ ap (λ (x : Step). withStep x) (judged-opens (entryAt k i) b a n small fresh)
+    where
+      withNumber : ℕ → Step × List ℕ
+      withNumber x = (judged (entryAt k i) b a x, unmasked d (b .at) s m)
+
+      withStep : Step → Step × List ℕ
+      withStep x = (x, unmasked d (b .at) s m)
+
+  -- two number bytes
   pub mask-opens : isSound k b ≡ true → length d ≡ b .size → b .question ≡ question.Mask a → find (k .entries) (a .epoch) (k .count) ≡ found.At i
       → a .«s_flag» ≡ true → b .at + 2 < length d
       → getD d (b .at + 1) 0 ≡ bitXor (n / 256 % 256) (getD m 0 0) → getD d (b .at + 2) 0 ≡ bitXor (n % 256) (getD m 1 0)
       → n ≤ 0xFFFF_FFFF_FFFF → n < expected (entryAt k i .replay) + 32768 → expected (entryAt k i .replay) < n + 32768
       → isFresh width (entryAt k i .replay) n ≡ true
       → maskStep k b m d ≡ (openingAsked (entryAt k i) b a n, unmasked d (b .at) true m)
-  unfolding masking maskedBy maskedAt
-  mask-opens t l q f s room high low small above below fresh =
-      let bits = number-bytes d m (b .at) n room high low in
-      mask-asks k b m d (question.Mask a) t l q ∙ ap (λ (x : Found). maskedBy x k b a m d) f ∙ ap (withFlag (entryAt k i) b a m d) s
-      ∙ ap (λ (x : ℕ). withNumber x) (rebuilt-near (entryAt k i .replay) _ n bits small above below)
-      ∙ ap (λ (x : Step). withStep x) (judged-opens (entryAt k i) b a n small fresh)
-    where
-      withNumber : ℕ → Step × List ℕ
-      withNumber x = (judged (entryAt k i) b a x, unmasked d (b .at) true m)
+  mask-opens t l q f s room high low = opens true t l q f s (number-bytes d m (b .at) n room high low)
 
-      withStep : Step → Step × List ℕ
-      withStep x = (x, unmasked d (b .at) true m)
+  -- one number byte
+  pub mask-opens-short : isSound k b ≡ true → length d ≡ b .size → b .question ≡ question.Mask a → find (k .entries) (a .epoch) (k .count) ≡ found.At i
+      → a .«s_flag» ≡ false → b .at + 1 < length d → getD d (b .at + 1) 0 ≡ bitXor (n % 256) (getD m 0 0)
+      → n ≤ 0xFFFF_FFFF_FFFF → n < expected (entryAt k i .replay) + 128 → expected (entryAt k i .replay) < n + 128
+      → isFresh width (entryAt k i .replay) n ≡ true
+      → maskStep k b m d ≡ (openingAsked (entryAt k i) b a n, unmasked d (b .at) false m)
+  mask-opens-short t l q f s room low = opens false t l q f s (number-byte d m (b .at) n room low)

@@ -7,7 +7,8 @@ use lib.Dec.{ltb, eqb}
 use lib.ListN.{length}
 use borrow.Author.Tests.{eq-eqb, ne-eqb, eqb-true}
 use Rattle.base.specs.Choose.{choose, either, by-test, if-true, if-false}
-use Rattle.queue.specs.Queue.{placeOf, grown, placed, Tailed}
+use Rattle.queue.specs.declared.Queue.{Queue}
+use Rattle.queue.specs.Queue.{tailOf, placeOf, grown, placed, Tailed}
 use Rattle.queue.specs.Laid.{recordLen}
 use Rattle.messages.specs.declared.Cut.{Cut}
 
@@ -33,6 +34,10 @@ cutNext mtu over c = record {
   tail = grown (placeOf mtu (c .tail) (sizeIn mtu over c + over)) (sizeIn mtu over c + over);
   rest = c .rest - sizeIn mtu over c;
 }
+
+-- where the cutting of a body of n bytes begins
+abbrev pub cutBehind : Queue → ℕ → Cut
+cutBehind q n = record { tail = tailOf q; rest = n }
 
 -- the sizes of at most k pieces; an empty body gives one
 unfoldable pub pieces : ℕ → ℕ → ℕ → Cut → List ℕ

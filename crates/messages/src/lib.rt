@@ -4,13 +4,14 @@ ghost use Prim.Native.Nat.{_+_, _-_, _≤_, _<_};
 ghost use lib.ListN.{length};
 ghost use lib.Dec as tests;
 ghost use Rattle.queue.specs.Queue.{InRange, Tailed};
-ghost use Rattle.messages.specs.Cut.{epochOf, pieceSize, cutNext, planCount, planReach, Sound};
+ghost use Rattle.messages.specs.Cut.{epochOf, overhead, pieceSize, cutBehind, cutNext, planCount, planReach, Sound};
 use flight::Flight;
 use flight::Saved;
 use handshake::Header;
-ghost use Rattle.messages.specs.Message.{contentOf, pieceOf, beginning, sendAll, messageAnswer, messageState, messageQueue, messageKept};
+ghost use Rattle.messages.specs.Message.{contentOf, pieceOf, beginning, sendAll, planAnswer, messageAnswer, messageState, messageQueue, messageKept};
 use outgoing::SendAnswer;
 use outgoing::Sending;
+use queue::Queue;
 use queue::Tail;
 
 // What is left to cut: the queue's end, and the bytes of the body that are left.
@@ -207,6 +208,46 @@ fn send_all(
     r
 }
 
+// Whether so many numbers from one on would use 2^48 - 1.
+fn is_over(next: u64, count: usize) -> bool
+    requires { ⌜ count ≤ 13 ⌝ }
+    ensures { λ r. ⌜ r ≡ tests.ltb 281474976710655 (next + count) ⌝ }
+{
+    if 281474976710655 < next {
+        return true;
+    }
+    281474976710655 < next + count as u64
+}
+
+// The dry run over a body of n bytes, behind the queue's end.
+fn plan_of(q: Queue, epoch: u16, n: usize) -> Plan
+    requires { ⌜ InRange q ⌝ }
+    ensures { λ r. ⌜ (r .count ≡ planCount 13 (q .mtu) (overhead epoch) (cutBehind q n)) × (r .reach ≡ planReach 13 (q .mtu) (overhead epoch) (cutBehind q n)) × (r .count ≤ 13) ⌝ }
+{
+    let c = Cut {
+        tail: queue::tail_of(q),
+        rest: n,
+    };
+    survey(q.mtu, queue::record_len(epoch, 12), c)
+}
+
+// Whether flight, queue and numbers have room for what was planned.
+fn plan_answer(saved: usize, limit: usize, next: u64, p: Plan) -> SendAnswer
+    requires { ⌜ (saved ≤ 12) × (p .count ≤ 13) ⌝ }
+    ensures { λ r. ⌜ r ≡ planAnswer saved limit next (p .count) (p .reach) ⌝ }
+{
+    if 12 < saved + p.count {
+        return SendAnswer::FlightFull;
+    }
+    if limit < p.reach {
+        return SendAnswer::QueueFull;
+    }
+    if is_over(next, p.count) {
+        return SendAnswer::NumbersSpent;
+    }
+    SendAnswer::Done
+}
+
 // Whether a message can be sent, or why not.
 fn message_answer(s: Sending, f: Flight, room: usize, kept: usize, kind: u8, n: usize) -> SendAnswer
     ensures { λ r. ⌜ r ≡ messageAnswer s f room kept kind n ⌝ }
@@ -229,34 +270,12 @@ fn message_answer(s: Sending, f: Flight, room: usize, kept: usize, kind: u8, n: 
     if 65535 <= s.message_seq {
         return SendAnswer::MessagesSpent;
     }
-    let c = Cut {
-        tail: queue::tail_of(q),
-        rest: n,
-    };
-    let p = survey(q.mtu, queue::record_len(epoch, 12), c);
-    let saved = f.saved;
-    let next = send_keys::next_of(k, epoch);
-    if 12 < saved + p.count {
-        return SendAnswer::FlightFull;
-    }
-    if q.limit < p.reach {
-        return SendAnswer::QueueFull;
-    }
-    if is_over(next, p.count) {
-        return SendAnswer::NumbersSpent;
-    }
-    SendAnswer::Done
-}
-
-// Whether so many numbers from one on would use 2^48 - 1.
-fn is_over(next: u64, count: usize) -> bool
-    requires { ⌜ count ≤ 13 ⌝ }
-    ensures { λ r. ⌜ r ≡ tests.ltb 281474976710655 (next + count) ⌝ }
-{
-    if 281474976710655 < next {
-        return true;
-    }
-    281474976710655 < next + count as u64
+    plan_answer(
+        f.saved,
+        q.limit,
+        send_keys::next_of(k, epoch),
+        plan_of(q, epoch, n),
+    )
 }
 
 // A handshake message sent and saved, wholly or not at all.

@@ -1,4 +1,4 @@
--- Laws of the sealing and of taking: what the host writes stays in its part, refused means unchanged. Assumes nothing.
+-- Laws of the sealing: what the host writes stays in its part, refused means unchanged. Assumes nothing.
 use mathlib.Core.Bool.{true, false}
 use mathlib.Core.List.{List}
 use mathlib.Core.Path.{_≡_, ap, _∙_}
@@ -10,9 +10,7 @@ use Rattle.base.specs.Choose.{both-left, both-right, if-true, if-false}
 use Rattle.base.specs.Parts.{part, splice, splice-here, splice-before, splice-after}
 use Rattle.outgoing.specs.declared.Sending.{Sending}
 use Rattle.sealing.specs.declared.SealAnswer.{SealAnswer}
-use Rattle.sealing.specs.declared.TakeAnswer.{TakeAnswer}
 use Rattle.sealing.specs.Sealing.{isAsked, isPut, partStart, putMemory, maskedHeader, isSealed, sealAnswer, sealedState, sealedMemory, asked-held, sealed-held, part-fits, length-masked}
-use Rattle.sealing.specs.Take.{isTaken, takeState, takeBuffer}
 
 -- sealed bytes are found where they were written; the queue's bytes in front of them and behind them stay as they were
 module _ (s : Sending) (v q : List ℕ) (h : isPut s (length v) (length q) ≡ true) where
@@ -68,12 +66,3 @@ module _ (a : SealAnswer) (h : isSealed a ≡ false) (s : Sending) (q : List ℕ
   pub refused-memory : (mask : List ℕ) → sealedMemory a s mask q ≡ q
   unfolding sealedMemory
   refused-memory mask = if-false _ _ h
-
-module _ (a : TakeAnswer) (h : isTaken a ≡ false) (s : Sending) where
-  pub kept-state : takeState a s .state ≡ s
-  unfolding takeState
-  kept-state = if-false _ _ h
-
-  pub kept-buffer : (q b : List ℕ) → takeBuffer a s q b ≡ b
-  unfolding takeBuffer
-  kept-buffer q b = if-false _ _ h

@@ -1,4 +1,3 @@
 pub mod Seek
 pub mod Sealing
-pub mod Take
 pub mod Laws

@@ -1,5 +1,7 @@
 // Replays histories of sending: one line of input, a letter and hex bytes, is one step and gives one line of output. What is
 // expected stands in the file stdout, written from the Rust's answers (compare/README.md says how, and what each letter means).
+use acks::NoteAnswer;
+use acks::Notes;
 use flight::Entry;
 use flight::Flight;
 use flight::Saved;
@@ -7,15 +9,17 @@ use outgoing::SendAnswer;
 use outgoing::Sending;
 use outgoing::Sent;
 use queue::Queue;
+use resend::ResendAnswer;
+use resend::Resent;
 use sealing::Question;
 use sealing::Reply;
 use sealing::SealAnswer;
 use sealing::SealQuestion;
-use sealing::Take;
-use sealing::TakeAnswer;
 use send_keys::KeyAnswer;
 use send_keys::SendEpoch;
 use send_keys::SendKeys;
+use taking::Take;
+use taking::TakeAnswer;
 
 fn push2(out: &mut [u8], at: usize, v: u64) -> usize {
     let d = [lines::byte(v, 1), lines::byte(v, 0)];
@@ -42,6 +46,7 @@ fn push8(out: &mut [u8], at: usize, v: u64) -> usize {
 struct End {
     sending: Sending,
     flight: Flight,
+    notes: Notes,
     room: usize,
     kept: usize,
 }
@@ -55,6 +60,12 @@ fn with_sending(e: End, s: Sending) -> End {
 fn with_flight(e: End, f: Flight) -> End {
     let mut t = e;
     t.flight = f;
+    t
+}
+
+fn with_notes(e: End, n: Notes) -> End {
+    let mut t = e;
+    t.notes = n;
     t
 }
 
@@ -121,8 +132,12 @@ fn say(letter: u8, t: Told, nonce: [u8; 12], header: [u8; 5], shown: &[u8]) {
     io::write_all(1, base::fragment(&text, 0, m));
 }
 
+fn say_told(letter: u8, t: Told) {
+    say(letter, t, [0u8; 12], [0u8; 5], b"");
+}
+
 fn say_number(letter: u8, refusal: u8) {
-    say(letter, bare(refusal, 0, 0), [0u8; 12], [0u8; 5], b"");
+    say_told(letter, bare(refusal, 0, 0));
 }
 
 fn send_number(a: SendAnswer) -> u8 {
@@ -136,6 +151,19 @@ fn send_number(a: SendAnswer) -> u8 {
         SendAnswer::FlightFull => 18,
         SendAnswer::QueueFull => 19,
         SendAnswer::NumbersSpent => 20,
+    }
+}
+
+fn resend_number(a: ResendAnswer) -> u8 {
+    match a {
+        ResendAnswer::Done => 0,
+        ResendAnswer::OutOfRange => 12,
+        ResendAnswer::BadEpoch => 13,
+        ResendAnswer::BadRecord => 14,
+        ResendAnswer::KeysAbsent => 17,
+        ResendAnswer::HistoryFull => 22,
+        ResendAnswer::QueueFull => 19,
+        ResendAnswer::NumbersSpent => 20,
     }
 }
 
@@ -157,6 +185,25 @@ fn seal_number(a: SealAnswer) -> u8 {
 }
 
 // Kinds: 1 none, 2 a datagram, 3 a question.
+fn told_note(a: NoteAnswer) -> Told {
+    match a {
+        NoteAnswer::Noted => bare(0, 0, 0),
+        NoteAnswer::Full => bare(0, 1, 0),
+        NoteAnswer::OutOfRange => bare(12, 0, 0),
+    }
+}
+
+fn told_ack(a: SendAnswer, sent: bool) -> Told {
+    if sent {
+        return bare(send_number(a), 0, 0);
+    }
+    let n = send_number(a);
+    if n == 0 {
+        return bare(0, 1, 0);
+    }
+    bare(n, 0, 0)
+}
+
 fn told_take(a: TakeAnswer) -> Told {
     match a {
         TakeAnswer::Taken(n) => bare(0, 2, n),
@@ -200,6 +247,7 @@ fn fresh(input: &[u8]) -> End {
     End {
         sending: s,
         flight: flight::fresh(),
+        notes: acks::fresh(),
         room: lines::get2(input, 3) as usize,
         kept: lines::get2(input, 5) as usize,
     }
@@ -251,22 +299,28 @@ fn set_message(s: Sending, input: &[u8]) -> Sending {
     t
 }
 
-// The last datagram closed, as a resend does.
-fn close(s: Sending) -> Sending {
-    let mut q = s.queue;
-    q.closed = true;
-    let mut t = s;
-    t.queue = q;
-    say_number(b'x', 0);
-    t
-}
-
 fn begin(f: Flight) -> Flight {
     let r = flight::begin_flight(f);
     let a = r.answer;
     say_number(b'b', send_number(a));
     let g = r.flight;
     g
+}
+
+fn acknowledge(f: Flight, content: &[u8]) -> Flight {
+    let r = process_ack::process_ack(f, content);
+    let a = r.answer;
+    say_number(b'a', send_number(a));
+    let g = r.flight;
+    g
+}
+
+fn note(n: Notes, input: &[u8]) -> Notes {
+    let r = acks::note(n, lines::get8(input, 0), lines::get8(input, 8));
+    let a = r.answer;
+    say_told(b'n', told_note(a));
+    let m = r.notes;
+    m
 }
 
 // A letter that names no call changes nothing.
@@ -277,8 +331,9 @@ fn host_step(e: End, letter: u8, input: &[u8]) -> End {
         b'k' => with_sending(e, key(s, input)),
         b'u' => with_sending(e, set_number(s, input)),
         b'g' => with_sending(e, set_message(s, input)),
-        b'x' => with_sending(e, close(s)),
         b'b' => with_flight(e, begin(e.flight)),
+        b'a' => with_flight(e, acknowledge(e.flight, input)),
+        b'n' => with_notes(e, note(e.notes, input)),
         _ => e,
     }
 }
@@ -315,10 +370,22 @@ fn reply(s: Sending, input: &[u8], memory: &mut [u8]) -> Sending {
     t
 }
 
+fn send_ack(e: End, memory: &mut [u8]) -> End {
+    let r = acks::send_ack(e.sending, e.notes, memory);
+    let a = r.answer;
+    say_told(b'c', told_ack(a, r.sent));
+    let s = r.state;
+    let n = r.notes;
+    with_notes(with_sending(e, s), n)
+}
+
 fn answer_queue(e: End, letter: u8, input: &[u8], memory: &mut [u8]) -> End {
     let s = e.sending;
     if letter == b's' {
         return with_sending(e, reply(s, input, memory));
+    }
+    if letter == b'c' {
+        return send_ack(e, memory);
     }
     with_sending(e, send(s, input, memory))
 }
@@ -360,6 +427,20 @@ fn answer_saved(e: End, letter: u8, input: &[u8], memory: &mut [u8], kept: &mut 
     saved(e, r, letter)
 }
 
+fn resent(e: End, r: Resent) -> End {
+    let a = r.answer;
+    say_number(b'r', resend_number(a));
+    let s = r.state;
+    let f = r.flight;
+    with_flight(with_sending(e, s), f)
+}
+
+fn answer_resend(e: End, memory: &mut [u8], kept: &[u8]) -> End {
+    let s = e.sending;
+    let f = e.flight;
+    resent(e, resend::flight_resend(s, f, kept, memory))
+}
+
 // ---- steps that read
 
 fn question(s: Sending, memory: &[u8]) {
@@ -379,9 +460,9 @@ fn question(s: Sending, memory: &[u8]) {
 
 fn take_part(s: Sending, buffer: &mut [u8], n: usize, memory: &[u8]) -> Take {
     if n < buffer.len() {
-        return sealing::poll_packet_tx(s, &mut buffer[..n], memory);
+        return taking::poll_packet_tx(s, &mut buffer[..n], memory);
     }
-    sealing::poll_packet_tx(s, buffer, memory)
+    taking::poll_packet_tx(s, buffer, memory)
 }
 
 fn take(s: Sending, input: &[u8], memory: &[u8]) -> Sending {
@@ -440,11 +521,15 @@ fn lay_lengths(q: Queue, out: &mut [u8], at: usize) -> usize {
     n
 }
 
-fn lay_queue(q: Queue, saved: usize, out: &mut [u8], at: usize) -> usize {
+fn lay_queue(q: Queue, out: &mut [u8], at: usize) -> usize {
     let n = push2(out, at, q.count as u64);
     let m = push2(out, n, q.closed as u64);
-    let k = lay_lengths(q, out, m);
-    push2(out, k, saved as u64)
+    lay_lengths(q, out, m)
+}
+
+fn lay_counts(saved: usize, noted: usize, out: &mut [u8], at: usize) -> usize {
+    let n = push2(out, at, saved as u64);
+    push2(out, n, noted as u64)
 }
 
 fn lay_keys(k: SendKeys, message: u16, out: &mut [u8]) -> usize {
@@ -457,19 +542,21 @@ fn lay_keys(k: SendKeys, message: u16, out: &mut [u8]) -> usize {
     push2(out, 26, message as u64)
 }
 
-// The next numbers, the queue's lengths, how many records are saved.
+// The next numbers, the queue's lengths, how many records are saved and noted.
 fn view(e: End) {
     let mut out = [0u8; 128];
     let s = e.sending;
     let f = e.flight;
     let n = lay_keys(s.keys, s.message_seq, &mut out);
-    let m = lay_queue(s.queue, f.saved, &mut out, n);
+    let noted = e.notes;
+    let m = lay_queue(s.queue, &mut out, n);
+    let k = lay_counts(f.saved, noted.count, &mut out, m);
     say(
         b'v',
         bare(0, 0, 0),
         [0u8; 12],
         [0u8; 5],
-        base::fragment(&out, 0, m),
+        base::fragment(&out, 0, k),
     );
 }
 
@@ -571,7 +658,8 @@ fn answer(e: End, letter: u8, input: &[u8], memory: &[u8], kept: &[u8]) -> End {
 fn step(e: End, letter: u8, input: &[u8], memory: &mut [u8], kept: &mut [u8]) -> End {
     match letter {
         b'p' | b'h' => answer_saved(e, letter, input, memory, kept),
-        b'd' | b's' => answer_queue(e, letter, input, memory),
+        b'd' | b's' | b'c' => answer_queue(e, letter, input, memory),
+        b'r' => answer_resend(e, memory, kept),
         _ => answer(e, letter, input, memory, kept),
     }
 }
@@ -655,6 +743,7 @@ fn nothing() -> End {
     End {
         sending: s,
         flight: flight::fresh(),
+        notes: acks::fresh(),
         room: 0,
         kept: 0,
     }
