@@ -9,7 +9,7 @@ use std::{env, io, panic};
 
 use dimpl::beside::{self, Batch};
 use dimpl::dice::Dice;
-use dimpl::differences::{named, shrink};
+use dimpl::differences::sending::{named, shrink};
 use dimpl::sendings::generate::random;
 use dimpl::sendings::{History, Tally, limits, reference};
 

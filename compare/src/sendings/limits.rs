@@ -308,7 +308,7 @@ fn epochs(all: &mut Vec<History>) {
     all.push(history(576, 4, steps));
 }
 
-/// Sealings and takes.
+/// Sealings asked for and replied to.
 fn sealings(all: &mut Vec<History>) {
     // No question, wrong lengths, the right one, no question any more.
     all.push(history(
@@ -365,6 +365,10 @@ fn sealings(all: &mut Vec<History>) {
     steps.extend(seal());
     steps.push(Step::Take(0));
     all.push(history(576, 3, steps));
+}
+
+/// Datagrams taken.
+fn takes(all: &mut Vec<History>) {
     // The ring goes round, with sealings on both sides of its end.
     let mut steps = vec![key(3)];
     for length in [500, 501, 502, 503, 504, 505] {
@@ -497,6 +501,10 @@ fn resends(all: &mut Vec<History>) {
             Step::Resend,
         ],
     ));
+}
+
+/// Flights that cannot be sent again.
+fn resends_refused(all: &mut Vec<History>) {
     // 32 resends pass, the next is 22 until the message is acknowledged.
     let mut steps = vec![key(2), message(20, 1), saved(2, 21, 1)];
     passed(&mut steps, 2);
@@ -675,8 +683,10 @@ pub fn all() -> Vec<History> {
     packing(&mut all);
     epochs(&mut all);
     sealings(&mut all);
+    takes(&mut all);
     flights(&mut all);
     resends(&mut all);
+    resends_refused(&mut all);
     acks(&mut all);
     all
 }

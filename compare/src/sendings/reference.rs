@@ -252,29 +252,8 @@ impl World {
 
     pub fn step(&mut self, step: &Step) {
         match step {
-            Step::Key { epoch, iv } => {
-                let sending = self.sending();
-                let waits = self.waits_under(sending.application);
-                let refusal = rules::key(&self.settings, &sending, *epoch, waits);
-                if refusal.is_none() {
-                    probe::key_send(&mut self.engine, *epoch, *iv);
-                    self.ivs.insert(*epoch, *iv);
-                }
-                let mut input = epoch.to_be_bytes().to_vec();
-                input.extend_from_slice(iv);
-                self.run
-                    .say('k', &input, Answer::refused(refusal.unwrap_or(0)));
-            }
-            Step::Number { epoch, number } => {
-                let known = *epoch == 0 || self.ivs.contains_key(epoch);
-                let latest = *epoch < 3 || *epoch == self.sending().application;
-                if known && latest && !self.waits_under(*epoch) {
-                    probe::set_number(&mut self.engine, *epoch, *number);
-                    let mut input = epoch.to_be_bytes().to_vec();
-                    input.extend_from_slice(&number.to_be_bytes());
-                    self.run.say('u', &input, Answer::default());
-                }
-            }
+            Step::Key { epoch, iv } => self.key(*epoch, *iv),
+            Step::Number { epoch, number } => self.set_number(*epoch, *number),
             Step::MessageNumber(number) => {
                 probe::set_message(&mut self.engine, *number);
                 self.run.say('g', &number.to_be_bytes(), Answer::default());
@@ -307,6 +286,32 @@ impl World {
             Step::Reply(more) => self.reply(*more),
             Step::Take(more) => self.take(*more),
             Step::View => self.view(),
+        }
+    }
+
+    fn key(&mut self, epoch: u16, iv: [u8; 12]) {
+        let sending = self.sending();
+        let waits = self.waits_under(sending.application);
+        let refusal = rules::key(&self.settings, &sending, epoch, waits);
+        if refusal.is_none() {
+            probe::key_send(&mut self.engine, epoch, iv);
+            self.ivs.insert(epoch, iv);
+        }
+        let mut input = epoch.to_be_bytes().to_vec();
+        input.extend_from_slice(&iv);
+        let answer = Answer::refused(refusal.unwrap_or(0));
+        self.run.say('k', &input, answer);
+    }
+
+    /// Only of an epoch that is sent in and under which nothing waits.
+    fn set_number(&mut self, epoch: u16, number: u64) {
+        let known = epoch == 0 || self.ivs.contains_key(&epoch);
+        let latest = epoch < 3 || epoch == self.sending().application;
+        if known && latest && !self.waits_under(epoch) {
+            probe::set_number(&mut self.engine, epoch, number);
+            let mut input = epoch.to_be_bytes().to_vec();
+            input.extend_from_slice(&number.to_be_bytes());
+            self.run.say('u', &input, Answer::default());
         }
     }
 

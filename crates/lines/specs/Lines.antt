@@ -2,15 +2,15 @@
 use mathlib.Core.List.{List, [], _∷_, _++_}
 use mathlib.Core.Logic.{_⊎_, inl, inr}
 use mathlib.Core.Path.{_≡_, refl, sym, ap, subst, _∙_}
-use Prim.Native.Nat.{ℕ, zero, suc, _+_, _-_, _*_, _/_, _%_, _≤_, _<_, min, max}
+use Prim.Native.Nat.{ℕ, suc, _+_, _-_, _*_, _/_, _%_, _≤_, _<_, min, max}
 use native.Mathlib.Numerals.{add-one}
 use native.Mathlib.Omega.{arith}
-use borrow.Author.Tests.{eq-eqb, ne-eqb}
+use borrow.Author.Tests.{eq-eqb, ne-eqb, lt-ltb, le-ltb}
 use lib.Dec.{ltb, eqb}
 use lib.ListN.{length, getD, drop, set, length-set, length-drop, drop-of-length-le}
 use lib.Seq.{sets, set-out, drop-cons}
-use Rattle.base.specs.Bytes.{beAt}
-use Rattle.base.specs.Choose.{choose, if-true, if-false, lt-or-ge}
+use Rattle.base.specs.Bytes.{beAt, Bytes}
+use Rattle.base.specs.Choose.{choose, if-true, if-false, by-less, lt-or-ge}
 
 -- the twelve bytes from place i on; 0 for those beyond the end
 abbrev pub twelveAt : List ℕ → ℕ → List ℕ
@@ -150,3 +150,19 @@ beAt-eight d i =
     let z : i + 1 + 1 + 1 + 1 ≡ i + 4 = omega arith in
     let y : beAt 4 d (i + 1 + 1 + 1 + 1) ≡ beAt 4 d (i + 4) = ap (beAt 4 d) z in
     omega arith
+
+-- what is written in digits reads back
+pub digit-back : (v : ℕ) → v < 16 → digitOf (hexDigit v) ≡ v
+unfolding digitOf hexDigit
+digit-back v h =
+    by-less (λ (x : ℕ). choose (ltb x 97) (x % 16) ((x % 16 + 9) % 16) ≡ v) v 10
+    (λ l. if-true _ _ (lt-ltb (48 + v) 97 (omega arith)) ∙ omega arith)
+    (λ g. if-false _ _ (le-ltb (87 + v) 97 (omega arith)) ∙ omega arith)
+
+pub hex-back : (d : List ℕ) → Bytes d → bytesOf (hexOf d) ≡ d
+hex-back [] h = refl
+hex-back (b ∷ d) h =
+    let high = digit-back (b / 16 % 16) (omega arith) in
+    let low = digit-back (b % 16) (omega arith) in
+    let e : digitOf (hexDigit (b / 16 % 16)) * 16 + digitOf (hexDigit (b % 16)) ≡ b = rw (high, low) (omega (arith, h 0)) in
+    ap (λ (x : ℕ). x ∷ bytesOf (hexOf d)) e ∙ ap (λ (l : List ℕ). b ∷ l) (hex-back d (λ i. h (suc i)))

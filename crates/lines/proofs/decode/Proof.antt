@@ -1,8 +1,7 @@
 -- `lines::decode` meets its contract: what is passed is written. Assumes nothing.
-use Prim.Native.Nat.{ℕ, _≤_, _-_, _+_, _*_, _/_, _%_}
-use lib.ListN.{length, drop, getD, drop-of-length-le}
-use mathlib.Core.List.{List, [], _∷_, _++_}
-use mathlib.Core.Path.{_≡_, refl, sym, ap, subst, _∙_}
+use Prim.Native.Nat.{_≤_, _-_, _+_}
+use lib.ListN.{length, drop, getD}
+use mathlib.Core.Path.{_≡_, ap, _∙_}
 use native.Mathlib.Omega.{arith}
 use Rattle.lines.specs.Lines.{Wrote, wrote-none, wrote-next, wrote-as, wrote-all, digitOf, bytesOf, bytes-next, bytes-end}
 use borrow.Author.Needs.{needs}

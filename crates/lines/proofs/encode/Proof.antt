@@ -2,7 +2,7 @@
 use Prim.Native.Nat.{ℕ, _≤_, _-_, _+_}
 use lib.ListN.{length, drop, drop-of-length-le}
 use mathlib.Core.List.{List, [], _∷_, _++_}
-use mathlib.Core.Path.{_≡_, refl, sym, ap, _∙_}
+use mathlib.Core.Path.{refl, ap}
 use native.Mathlib.Omega.{arith}
 use Rattle.lines.specs.Lines.{Wrote, wrote-none, wrote-next, wrote-as, wrote-then, wrote-all, hexOf, lineOf, hex-next}
 use borrow.Author.Needs.{needs}

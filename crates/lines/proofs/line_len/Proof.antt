@@ -1,8 +1,7 @@
 -- `lines::line_len` meets its contract: no newline was passed. Assumes nothing.
-use Prim.Native.Nat.{ℕ, _≤_, _-_, _+_}
-use lib.ListN.{length, drop, drop-of-length-le}
-use mathlib.Core.List.{List, [], _∷_, _++_}
-use mathlib.Core.Path.{_≡_, refl, sym, ap, _∙_}
+use Prim.Native.Nat.{_≤_, _-_, _+_}
+use lib.ListN.{length, drop}
+use mathlib.Core.Path.{_≡_}
 use native.Mathlib.Omega.{arith}
 use Rattle.lines.specs.Lines.{lineLen, line-here, line-on, line-end}
 use borrow.Author.Needs.{needs}
