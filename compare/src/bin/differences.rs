@@ -5,25 +5,22 @@
 use std::process::ExitCode;
 use std::{env, io, panic};
 
-use dimpl::differences::{self, Found};
+use dimpl::differences::{Found, receiving, sending};
 
 fn print(title: &str, found: &[Found]) {
     println!("{title}");
     for Found { input, rust, here } in found {
         println!("  input   {input}");
         println!("  Rust    {rust}");
-        if !here.is_empty() {
-            println!("  Rattle  {here}");
-        }
+        println!("  Rattle  {here}");
         println!();
     }
 }
 
 fn all(readings: &str, sendings: &str, count: u64, seed: u64) -> io::Result<()> {
-    print("receiving", &differences::receiving(readings)?);
-    print("sending", &differences::sending(sendings, count, seed)?);
-    print("a number sealed twice", &[differences::sealed_twice()]);
-    print("resending and ACKs", &differences::resending());
+    print("receiving", &receiving::all(readings)?);
+    print("sending", &sending::all(sendings, count, seed)?);
+    print("a number sealed twice", &[sending::sealed_twice()]);
     Ok(())
 }
 

@@ -24,7 +24,7 @@ const MOST: usize = 100;
 
 /// Histories at the limits, then random ones up to about so many bytes of script.
 const RECEIVING: usize = 36_000;
-const SENDING: usize = 18_000;
+const SENDING: usize = 27_000;
 
 fn main() -> Result<(), Box<dyn Error>> {
     let folders: Vec<String> = env::args().skip(1).collect();

@@ -9,7 +9,7 @@ use std::{env, io, panic};
 
 use dimpl::beside::{self, Batch};
 use dimpl::dice::Dice;
-use dimpl::differences::{named, shrink};
+use dimpl::differences::sending::{named, shrink};
 use dimpl::sendings::generate::random;
 use dimpl::sendings::{History, Tally, limits, reference};
 
@@ -17,7 +17,7 @@ fn fails(program: &str, history: &History) -> io::Result<bool> {
     beside::fails(program, &reference::run(history).lines)
 }
 
-/// What the Rust does where 01 refuses: it must not go on by 17, 18, 19 and 20.
+/// What the Rust does where 01 refuses: it must not go on by 17, 18, 19, 20 and 22.
 fn refused(history: &History, met: &mut BTreeMap<(u8, String), u64>) {
     if let Some((refusal, outcome)) = reference::first_refused(history) {
         let stops = outcome != "done";
@@ -67,6 +67,12 @@ fn compare(program: &str, count: u64, seed: u64) -> io::Result<bool> {
         ("messages", tally.messages),
         ("pieces", tally.pieces),
         ("saved records", tally.saved),
+        ("resends", tally.resends),
+        ("records resent", tally.resent),
+        ("ACKs acted on", tally.acks),
+        ("records marked", tally.marked),
+        ("records noted", tally.noted),
+        ("ACKs sent", tally.acks_sent),
         ("sealings", tally.sealings),
         ("datagrams taken", tally.datagrams),
     ];

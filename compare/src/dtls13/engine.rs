@@ -80,19 +80,13 @@ pub mod probe {
         engine.next_handshake_seq_no = number;
     }
 
-    /// Closes the last datagram, as `flight_resend` does.
-    pub fn close(engine: &mut Engine) {
-        engine.seal_current_datagram();
-    }
-
-    /// A record noted for the ACK; how many are.
-    pub fn note(engine: &mut Engine, epoch: u64, number: u64) -> usize {
+    /// Notes a record for the ACK, as the reading of handshake messages does.
+    pub fn note(engine: &mut Engine, epoch: u64, number: u64) {
         _ = engine.received_record_numbers.try_push((epoch, number));
-        noted(engine)
     }
 
-    pub fn noted(engine: &Engine) -> usize {
-        engine.received_record_numbers.len()
+    pub fn process_ack(engine: &mut Engine, content: &[u8]) -> Result<(), Error> {
+        engine.process_ack(content)
     }
 
     /// What a buffer was handed: a datagram's length, or the length that it lacks.
@@ -134,6 +128,7 @@ pub mod probe {
         pub closed: bool,
         pub lengths: Vec<usize>,
         pub saved: Vec<Saved>,
+        pub noted: usize,
     }
 
     pub fn sending(engine: &Engine) -> Sending {
@@ -165,6 +160,7 @@ pub mod probe {
                 .map(|datagram| datagram.len())
                 .collect(),
             saved: saved.collect(),
+            noted: engine.received_record_numbers.len(),
         }
     }
 

@@ -4,6 +4,7 @@ use super::reference::World;
 use super::rules::{LAST_NUMBER, LONGEST};
 use super::*;
 use crate::dice::Dice;
+use crate::dtls13::engine::probe::Sending;
 
 /// A number near a limit, or one below `most`.
 fn near(dice: &mut Dice, limits: &[usize], most: usize) -> usize {
@@ -126,6 +127,58 @@ fn number(dice: &mut Dice, application: u16) -> Step {
     }
 }
 
+/// A record as an ACK names it: one that was sent, or another.
+fn named(dice: &mut Dice, sending: &Sending) -> (u64, u64) {
+    if sending.saved.is_empty() || dice.once_in(6) {
+        let epoch = dice.of(&[0, 2, 3, 6, 1 << 16, (1 << 16) + 2]);
+        return (epoch, dice.below(6) as u64);
+    }
+    let saved = &sending.saved[dice.below(sending.saved.len())];
+    let mut numbers = saved.remembered.clone();
+    numbers.push(saved.number);
+    (saved.epoch as u64, dice.of(&numbers))
+}
+
+/// The content of an ACK, once in a while malformed.
+fn ack(dice: &mut Dice, sending: &Sending) -> Step {
+    let mut pairs = Vec::new();
+    let whole = dice.once_in(6);
+    for saved in &sending.saved {
+        if whole && saved.epoch == 2 {
+            pairs.push((2, saved.number));
+        }
+    }
+    for _ in 0..dice.below(4) {
+        pairs.push(named(dice, sending));
+    }
+    let mut bytes: Vec<u8> = Vec::new();
+    for (epoch, number) in pairs {
+        bytes.extend_from_slice(&epoch.to_be_bytes());
+        bytes.extend_from_slice(&number.to_be_bytes());
+    }
+    if dice.once_in(8) {
+        let cut = dice.below(bytes.len() + 1);
+        bytes.truncate(cut);
+    }
+    let mut length = bytes.len();
+    if dice.once_in(8) {
+        length = dice.of(&[0, 1, 8, 15, 16, 17, length + 16, 65_535]);
+    }
+    let mut content = (length as u16).to_be_bytes().to_vec();
+    content.extend_from_slice(&bytes);
+    if dice.once_in(20) {
+        content.truncate(dice.below(3));
+    }
+    Step::Ack(content)
+}
+
+fn note(dice: &mut Dice) -> Step {
+    Step::Note {
+        epoch: dice.of(&[0, 2, 3, 4, u64::MAX]),
+        number: dice.of(&[0, 1, 2, 300, 1 << 32, u64::MAX]),
+    }
+}
+
 pub fn random(dice: &mut Dice) -> History {
     let settings = settings(dice);
     let mut world = World::new(settings);
@@ -147,7 +200,7 @@ pub fn random(dice: &mut Dice) -> History {
         let sending = world.sending();
         let used = sending.lengths.last().copied().unwrap_or(0);
         let application = sending.application;
-        let step = match dice.below(24 + 2 * eager) {
+        let step = match dice.below(32 + 2 * eager) {
             0 => key(dice, application),
             1 => number(dice, application),
             2 => {
@@ -155,12 +208,26 @@ pub fn random(dice: &mut Dice) -> History {
                 Step::MessageNumber(limit.wrapping_sub(dice.below(3) as u16))
             }
             3 => Step::BeginFlight,
-            4 => Step::Close,
+            4 => Step::Resend,
             5 => Step::View,
             6 => Step::Reply(dice.of(&[-1, 1, -17, 16, 500])),
             7 => Step::Take(dice.of(&[-1, -1, -600, 1, 100])),
             8..17 => send(dice, &settings, used, application),
             17..24 => message(dice, &settings, used),
+            24..27 => Step::Resend,
+            27..29 => ack(dice, &sending),
+            29 => note(dice),
+            30 => {
+                let limits = dice.once_in(6);
+                let count = dice.of(if limits { &[30, 31, 32] } else { &[0, 1, 2] });
+                for _ in 0..count {
+                    let note = note(dice);
+                    world.step(&note);
+                    steps.push(note);
+                }
+                note(dice)
+            }
+            31 => Step::SendAck,
             n if n % 2 == 0 => {
                 if dice.once_in(2) {
                     let ask = Step::Ask;
@@ -173,6 +240,16 @@ pub fn random(dice: &mut Dice) -> History {
         };
         world.step(&step);
         steps.push(step);
+    }
+    // The same flight again and again, up to what a record remembers.
+    let again = if dice.once_in(30) { 34 } else { 0 };
+    for _ in 0..again {
+        let mut passed = vec![Step::Resend];
+        world.step(&Step::Resend);
+        passed.extend((0..world.waits()).map(|_| Step::Reply(0)));
+        passed.extend(world.sending().lengths.iter().map(|_| Step::Take(0)));
+        passed[1..].iter().for_each(|step| world.step(step));
+        steps.extend(passed);
     }
     History { settings, steps }
 }

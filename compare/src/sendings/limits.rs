@@ -147,14 +147,14 @@ fn rows(all: &mut Vec<History>) {
 
 /// Packing: what joins, what opens a datagram, how a message is cut.
 fn packing(all: &mut Vec<History>) {
-    // A closed datagram: pieces of 42 and 58, the first cut for what the closed one has left.
+    // A datagram closed by a resend: pieces of 42 and 58, the first cut for what it has left.
     all.push(history(
         576,
         4,
         vec![
             key(2),
             send(2, 23, 478),
-            Step::Close,
+            Step::Resend,
             Step::View,
             message(11, 100),
         ],
@@ -172,10 +172,10 @@ fn packing(all: &mut Vec<History>) {
         576,
         4,
         vec![
-            Step::Close,
+            Step::Resend,
             send(0, 21, 2),
             send(0, 21, 2),
-            Step::Close,
+            Step::Resend,
             Step::Take(0),
             Step::View,
             message(1, 600),
@@ -308,7 +308,7 @@ fn epochs(all: &mut Vec<History>) {
     all.push(history(576, 4, steps));
 }
 
-/// Sealings and takes.
+/// Sealings asked for and replied to.
 fn sealings(all: &mut Vec<History>) {
     // No question, wrong lengths, the right one, no question any more.
     all.push(history(
@@ -365,6 +365,10 @@ fn sealings(all: &mut Vec<History>) {
     steps.extend(seal());
     steps.push(Step::Take(0));
     all.push(history(576, 3, steps));
+}
+
+/// Datagrams taken.
+fn takes(all: &mut Vec<History>) {
     // The ring goes round, with sealings on both sides of its end.
     let mut steps = vec![key(3)];
     for length in [500, 501, 502, 503, 504, 505] {
@@ -433,6 +437,245 @@ fn flights(all: &mut Vec<History>) {
     all.push(history(576, 1, saving));
 }
 
+fn ack(pairs: &[(u64, u64)]) -> Step {
+    let mut content = (16 * pairs.len() as u16).to_be_bytes().to_vec();
+    for (epoch, number) in pairs {
+        content.extend_from_slice(&epoch.to_be_bytes());
+        content.extend_from_slice(&number.to_be_bytes());
+    }
+    Step::Ack(content)
+}
+
+fn note(epoch: u64, number: u64) -> Step {
+    Step::Note { epoch, number }
+}
+
+/// The oldest sealing made and the front datagram taken, so that the queue does not fill.
+fn passed(steps: &mut Vec<Step>, sealings: usize) {
+    steps.extend(times(sealings, Step::Reply(0)));
+    steps.push(Step::Take(0));
+}
+
+/// Flights sent again.
+fn resends(all: &mut Vec<History>) {
+    // Nothing saved: only the datagram is closed.
+    all.push(history(576, 2, vec![Step::Resend, Step::View]));
+    // A record remembers its numbers; an ACK that names an old one marks it, and the flight empties.
+    all.push(history(
+        576,
+        4,
+        vec![
+            key(2),
+            message(20, 4),
+            Step::Resend,
+            Step::View,
+            Step::Resend,
+            Step::View,
+            ack(&[(2, 0)]),
+            Step::View,
+            Step::Resend,
+        ],
+    ));
+    // An alert remembers nothing.
+    all.push(history(
+        576,
+        4,
+        vec![
+            key(2),
+            saved(2, 21, 2),
+            Step::Resend,
+            ack(&[(2, 0)]),
+            Step::View,
+            ack(&[(2, 1)]),
+        ],
+    ));
+    // Records are packed anew, in the order in which they were saved.
+    all.push(history(
+        576,
+        4,
+        vec![
+            key(2),
+            message(2, 10),
+            message(8, 5),
+            message(20, 600),
+            Step::Resend,
+        ],
+    ));
+}
+
+/// Flights that cannot be sent again.
+fn resends_refused(all: &mut Vec<History>) {
+    // 32 resends pass, the next is 22 until the message is acknowledged.
+    let mut steps = vec![key(2), message(20, 1), saved(2, 21, 1)];
+    passed(&mut steps, 2);
+    for _ in 0..33 {
+        steps.push(Step::Resend);
+        passed(&mut steps, 2);
+    }
+    steps.extend([Step::View, ack(&[(2, 0)]), Step::Resend]);
+    all.push(history(576, 1, steps));
+    // In epoch 0 there is no such limit.
+    let mut steps = vec![message(1, 1)];
+    for _ in 0..35 {
+        passed(&mut steps, 0);
+        steps.push(Step::Resend);
+    }
+    all.push(history(576, 1, steps));
+    // A replaced application epoch: 13 while its record is not marked.
+    all.push(history(
+        576,
+        4,
+        vec![
+            key(2),
+            key(3),
+            saved(3, 22, 1),
+            saved(2, 22, 1),
+            Step::Reply(0),
+            Step::Reply(0),
+            key(4),
+            Step::Resend,
+            ack(&[(3, 0)]),
+            Step::Resend,
+        ],
+    ));
+    // The queue is full, or the numbers are spent, for one of two records.
+    all.push(history(
+        576,
+        3,
+        vec![
+            saved(0, 22, 500),
+            saved(0, 22, 500),
+            Step::Resend,
+            Step::Take(0),
+            Step::Resend,
+        ],
+    ));
+    all.push(history(
+        576,
+        8,
+        vec![
+            key(2),
+            saved(2, 22, 1),
+            saved(0, 22, 1),
+            saved(2, 22, 1),
+            Step::Reply(0),
+            Step::Reply(0),
+            number(2, LAST_NUMBER - 1),
+            Step::Resend,
+            number(2, LAST_NUMBER - 2),
+            Step::Resend,
+            number(0, LAST_NUMBER),
+            Step::Resend,
+        ],
+    ));
+    // Lent memory of the flight too short.
+    all.push(History {
+        settings: Settings {
+            mtu: 576,
+            limit: 1,
+            room: 576,
+            kept: 6911,
+        },
+        steps: vec![Step::Resend, note(2, 0), Step::SendAck, ack(&[(2, 0)])],
+    });
+}
+
+/// ACKs acted on, noted and sent.
+fn acks(all: &mut Vec<History>) {
+    let flight = || vec![key(2), message(2, 1), message(8, 1), message(20, 1)];
+    // Malformed ones change nothing; one that names nothing is well formed.
+    let mut steps = flight();
+    let Step::Ack(whole) = ack(&[(2, 0)]) else {
+        unreachable!()
+    };
+    let mut longer = whole.clone();
+    longer.push(0);
+    for content in [
+        &[][..],
+        &[0],
+        &[0, 0],
+        &[0, 8, 0, 0, 0, 0, 0, 0, 0, 2],
+        &longer,
+    ] {
+        steps.push(Step::Ack(content.to_vec()));
+    }
+    steps.push(Step::Ack(whole[..17].to_vec()));
+    steps.push(Step::View);
+    all.push(history(576, 2, steps));
+    // Records of epoch 0 and 2; the third goes again, its old number is named.
+    let mut steps = flight();
+    steps.extend([
+        ack(&[(0, 0)]),
+        Step::View,
+        ack(&[(2, 0)]),
+        Step::Resend,
+        Step::View,
+        ack(&[(65_538, 1), (3, 1)]),
+        Step::View,
+        ack(&[(2, 1)]),
+        Step::View,
+    ]);
+    all.push(history(576, 2, steps));
+    // All of epoch 2 marked: the flight empties, whatever else is in it.
+    all.push(history(
+        576,
+        2,
+        vec![
+            key(2),
+            key(3),
+            saved(0, 22, 1),
+            saved(3, 22, 1),
+            saved(2, 22, 1),
+            ack(&[(2, 0)]),
+            Step::View,
+            saved(3, 22, 1),
+            ack(&[(3, 1)]),
+            Step::View,
+            Step::Resend,
+        ],
+    ));
+    // Noted in order, twice too; sent in epoch 2, then in the application epoch; forgotten.
+    all.push(history(
+        576,
+        2,
+        vec![
+            Step::SendAck,
+            note(2, 7),
+            Step::SendAck,
+            key(2),
+            note(2, 5),
+            note(2, 7),
+            Step::SendAck,
+            Step::SendAck,
+            key(3),
+            note(u64::MAX, u64::MAX),
+            Step::SendAck,
+        ],
+    ));
+    // The 33rd is not noted.
+    let mut steps = vec![key(3)];
+    steps.extend((0..33).map(|n| note(3, n)));
+    steps.extend([Step::View, Step::SendAck, Step::View]);
+    all.push(history(576, 1, steps));
+    // Refused, they stay noted: keys absent, queue full, numbers spent.
+    all.push(history(
+        576,
+        1,
+        vec![
+            note(2, 1),
+            Step::SendAck,
+            key(2),
+            send(0, 22, 563),
+            Step::SendAck,
+            Step::Take(0),
+            number(2, LAST_NUMBER),
+            Step::SendAck,
+            number(2, LAST_NUMBER - 1),
+            Step::SendAck,
+        ],
+    ));
+}
+
 pub fn all() -> Vec<History> {
     let mut all = Vec::new();
     settings(&mut all);
@@ -440,7 +683,11 @@ pub fn all() -> Vec<History> {
     packing(&mut all);
     epochs(&mut all);
     sealings(&mut all);
+    takes(&mut all);
     flights(&mut all);
+    resends(&mut all);
+    resends_refused(&mut all);
+    acks(&mut all);
     all
 }
 

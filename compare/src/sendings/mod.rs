@@ -54,8 +54,14 @@ pub enum Step {
         body: Bytes,
     },
     BeginFlight,
-    /// The last datagram closed, as by a resend of nothing.
-    Close,
+    Resend,
+    /// The content of an ACK that arrived.
+    Ack(Vec<u8>),
+    Note {
+        epoch: u64,
+        number: u64,
+    },
+    SendAck,
     /// The sealing question.
     Ask,
     /// Its reply, that so many bytes more or fewer than asked for were sealed.
@@ -147,6 +153,12 @@ pub struct Tally {
     pub messages: u64,
     pub pieces: u64,
     pub saved: u64,
+    pub resends: u64,
+    pub resent: u64,
+    pub acks: u64,
+    pub marked: u64,
+    pub noted: u64,
+    pub acks_sent: u64,
     pub sealings: u64,
     pub datagrams: u64,
     pub refusals: [u64; 24],
@@ -158,6 +170,12 @@ impl Tally {
         self.messages += other.messages;
         self.pieces += other.pieces;
         self.saved += other.saved;
+        self.resends += other.resends;
+        self.resent += other.resent;
+        self.acks += other.acks;
+        self.marked += other.marked;
+        self.noted += other.noted;
+        self.acks_sent += other.acks_sent;
         self.sealings += other.sealings;
         self.datagrams += other.datagrams;
         for (sum, n) in self.refusals.iter_mut().zip(other.refusals) {

@@ -1,5 +1,5 @@
-//! The Rust's answers: `create_plaintext_record`, `create_ciphertext_record`, `create_handshake` and
-//! `poll_packet_tx` of the real `Engine`.
+//! The Rust's answers: `create_plaintext_record`, `create_ciphertext_record`, `create_handshake`,
+//! `flight_resend`, `process_ack`, `send_ack` and `poll_packet_tx` of the real `Engine`.
 //!
 //! The Rust seals at once; here the sealing is asked for later. What its cipher was asked is kept
 //! in order, and each step `Ask` expects the next of these questions. A call that 01 refuses
@@ -82,14 +82,12 @@ impl World {
         world
     }
 
-    pub fn engine_mut(&mut self) -> &mut Engine {
-        &mut self.engine
-    }
-
-    /// The refusal of a record or a message.
+    /// The refusal of a step that sends.
     pub fn refusal(&self, step: &Step) -> Option<u8> {
         match step {
-            Step::Send { .. } | Step::Message { .. } => self.places(step).err(),
+            Step::Send { .. } | Step::Message { .. } | Step::Resend | Step::SendAck => {
+                self.places(step).err()
+            }
             _ => None,
         }
     }
@@ -98,11 +96,16 @@ impl World {
         probe::sending(&self.engine)
     }
 
+    /// How many sealings wait.
+    pub fn waits(&self) -> usize {
+        self.waiting.len()
+    }
+
     fn waits_under(&self, epoch: u16) -> bool {
         self.waiting.iter().any(|waiting| waiting.epoch == epoch)
     }
 
-    /// The refusal of a record or a message, or where the pieces go.
+    /// Where what a step sends goes, or the refusal.
     fn places(&self, step: &Step) -> Result<Vec<Place>, u8> {
         let sending = self.sending();
         match step {
@@ -123,11 +126,13 @@ impl World {
             Step::Message { kind, body } => {
                 rules::message(&self.settings, &sending, *kind, body.length)
             }
-            _ => unreachable!("records and messages have places"),
+            Step::Resend => rules::resend(&self.settings, &sending),
+            Step::SendAck => rules::send_ack(&self.settings, &sending),
+            _ => unreachable!("the step sends nothing"),
         }
     }
 
-    /// Asks the Rust for a record or a message.
+    /// Asks the Rust to send.
     fn create(&mut self, step: &Step) -> Result<(), Error> {
         match step {
             Step::Send {
@@ -158,84 +163,97 @@ impl World {
                         Ok(())
                     })
             }
-            _ => unreachable!("records and messages are created"),
+            Step::Resend => self.engine.flight_resend("step"),
+            Step::SendAck => self.engine.send_ack(),
+            _ => unreachable!("the step sends nothing"),
         }
     }
 
-    /// A record or a message that 01 does not refuse.
+    /// A step that sends and that 01 does not refuse.
     fn lay(&mut self, step: &Step, places: &[Place]) {
-        let opened = self.taken;
         let before = self.sending();
         self.create(step).expect("refused by the Rust alone");
         let after = self.sending();
         let mut lengths = before.lengths.clone();
-        for place in places {
+        let mut sealed = Vec::new();
+        for (i, place) in places.iter().enumerate() {
             if place.datagram == lengths.len() {
                 lengths.push(0);
             }
             assert_eq!(lengths[place.datagram], place.offset);
             lengths[place.datagram] += place.length;
+            if self.epoch_of(step, &before, i) != 0 {
+                sealed.push(place);
+            }
         }
         assert_eq!(after.lengths, lengths, "the Rust packs otherwise");
         let sealings = script::take_sealings();
-        let plain = before.plaintext_next != after.plaintext_next;
-        assert_eq!(sealings.len(), if plain { 0 } else { places.len() });
-        for (asked, place) in sealings.into_iter().zip(places) {
-            let epoch = u16::from_be_bytes(asked.key[..].try_into().unwrap());
-            let iv = self.ivs[&epoch];
-            let number = std::array::from_fn(|i| asked.nonce[i + 4] ^ iv[i + 4]);
-            let number = u64::from_be_bytes(number);
-            let sealed = repeated(&asked.pattern, asked.plaintext.len() + 16);
-            let sampled = asked.sampled.as_ref().unwrap();
-            assert_eq!(sampled.key, asked.key);
-            assert_eq!(sampled.sample, sealed[..16]);
-            // Until it is sealed, the tag's place has epoch and number.
-            let mut part = asked.plaintext.clone();
-            part.extend_from_slice(&epoch.to_be_bytes());
-            part.extend_from_slice(&number.to_be_bytes()[2..]);
-            part.extend_from_slice(&[0; 8]);
-            self.waiting.push_back(Waiting {
-                epoch,
-                number,
-                datagram: opened + place.datagram,
-                offset: place.offset,
-                part,
-                asked,
-            });
+        assert_eq!(sealings.len(), sealed.len());
+        for (asked, place) in sealings.into_iter().zip(sealed) {
+            self.wait(asked, place);
         }
-        self.run.tally.saved += (after.saved.len() - before.saved.len()) as u64;
-        self.run.tally.pieces += places.len() as u64;
+        self.count(step, places.len(), &before, &after);
+    }
+
+    /// The epoch of the nth record that a step sends.
+    fn epoch_of(&self, step: &Step, before: &Sending, nth: usize) -> u16 {
         match step {
-            Step::Send { .. } => self.run.tally.records += 1,
-            _ => self.run.tally.messages += 1,
+            Step::Send { epoch, .. } => *epoch,
+            Step::Message { kind, .. } => rules::message_epoch(*kind),
+            Step::Resend => {
+                let mut again = before.saved.iter().filter(|saved| !saved.marked);
+                again.nth(nth).unwrap().epoch
+            }
+            _ => 2,
+        }
+    }
+
+    /// What the Rust's cipher was asked, to be asked here later.
+    fn wait(&mut self, asked: SealingAsked, place: &Place) {
+        let epoch = u16::from_be_bytes(asked.key[..].try_into().unwrap());
+        let iv = self.ivs[&epoch];
+        let number = std::array::from_fn(|i| asked.nonce[i + 4] ^ iv[i + 4]);
+        let number = u64::from_be_bytes(number);
+        let sealed = repeated(&asked.pattern, asked.plaintext.len() + 16);
+        let sampled = asked.sampled.as_ref().unwrap();
+        assert_eq!(sampled.key, asked.key);
+        assert_eq!(sampled.sample, sealed[..16]);
+        // Until it is sealed, the tag's place has epoch and number.
+        let mut part = asked.plaintext.clone();
+        part.extend_from_slice(&epoch.to_be_bytes());
+        part.extend_from_slice(&number.to_be_bytes()[2..]);
+        part.extend_from_slice(&[0; 8]);
+        self.waiting.push_back(Waiting {
+            epoch,
+            number,
+            datagram: self.taken + place.datagram,
+            offset: place.offset,
+            part,
+            asked,
+        });
+    }
+
+    fn count(&mut self, step: &Step, records: usize, before: &Sending, after: &Sending) {
+        let tally = &mut self.run.tally;
+        tally.saved += (after.saved.len() - before.saved.len()) as u64;
+        match step {
+            Step::Send { .. } => tally.records += 1,
+            Step::Message { .. } => {
+                tally.messages += 1;
+                tally.pieces += records as u64;
+            }
+            Step::Resend => {
+                tally.resends += 1;
+                tally.resent += records as u64;
+            }
+            _ => tally.acks_sent += records as u64,
         }
     }
 
     pub fn step(&mut self, step: &Step) {
         match step {
-            Step::Key { epoch, iv } => {
-                let sending = self.sending();
-                let waits = self.waits_under(sending.application);
-                let refusal = rules::key(&self.settings, &sending, *epoch, waits);
-                if refusal.is_none() {
-                    probe::key_send(&mut self.engine, *epoch, *iv);
-                    self.ivs.insert(*epoch, *iv);
-                }
-                let mut input = epoch.to_be_bytes().to_vec();
-                input.extend_from_slice(iv);
-                self.run
-                    .say('k', &input, Answer::refused(refusal.unwrap_or(0)));
-            }
-            Step::Number { epoch, number } => {
-                let known = *epoch == 0 || self.ivs.contains_key(epoch);
-                let latest = *epoch < 3 || *epoch == self.sending().application;
-                if known && latest && !self.waits_under(*epoch) {
-                    probe::set_number(&mut self.engine, *epoch, *number);
-                    let mut input = epoch.to_be_bytes().to_vec();
-                    input.extend_from_slice(&number.to_be_bytes());
-                    self.run.say('u', &input, Answer::default());
-                }
-            }
+            Step::Key { epoch, iv } => self.key(*epoch, *iv),
+            Step::Number { epoch, number } => self.set_number(*epoch, *number),
             Step::MessageNumber(number) => {
                 probe::set_message(&mut self.engine, *number);
                 self.run.say('g', &number.to_be_bytes(), Answer::default());
@@ -260,10 +278,10 @@ impl World {
                 self.engine.flight_begin(1);
                 self.run.say('b', &[], Answer::default());
             }
-            Step::Close => {
-                probe::close(&mut self.engine);
-                self.run.say('x', &[], Answer::default());
-            }
+            Step::Resend => self.created(step, 'r', &[]),
+            Step::Ack(content) => self.acknowledge(content),
+            Step::Note { epoch, number } => self.note(*epoch, *number),
+            Step::SendAck => self.created(step, 'c', &[]),
             Step::Ask => self.ask(),
             Step::Reply(more) => self.reply(*more),
             Step::Take(more) => self.take(*more),
@@ -271,15 +289,70 @@ impl World {
         }
     }
 
+    fn key(&mut self, epoch: u16, iv: [u8; 12]) {
+        let sending = self.sending();
+        let waits = self.waits_under(sending.application);
+        let refusal = rules::key(&self.settings, &sending, epoch, waits);
+        if refusal.is_none() {
+            probe::key_send(&mut self.engine, epoch, iv);
+            self.ivs.insert(epoch, iv);
+        }
+        let mut input = epoch.to_be_bytes().to_vec();
+        input.extend_from_slice(&iv);
+        let answer = Answer::refused(refusal.unwrap_or(0));
+        self.run.say('k', &input, answer);
+    }
+
+    /// Only of an epoch that is sent in and under which nothing waits.
+    fn set_number(&mut self, epoch: u16, number: u64) {
+        let known = epoch == 0 || self.ivs.contains_key(&epoch);
+        let latest = epoch < 3 || epoch == self.sending().application;
+        if known && latest && !self.waits_under(epoch) {
+            probe::set_number(&mut self.engine, epoch, number);
+            let mut input = epoch.to_be_bytes().to_vec();
+            input.extend_from_slice(&number.to_be_bytes());
+            self.run.say('u', &input, Answer::default());
+        }
+    }
+
     fn created(&mut self, step: &Step, letter: char, input: &[u8]) {
         let answer = match self.places(step) {
             Ok(places) => {
                 self.lay(step, &places);
-                Answer::default()
+                let nothing = matches!(step, Step::SendAck) && places.is_empty();
+                Answer {
+                    kind: if nothing { NOTHING } else { 0 },
+                    ..Answer::default()
+                }
             }
             Err(refusal) => Answer::refused(refusal),
         };
         self.run.say(letter, input, answer);
+    }
+
+    fn acknowledge(&mut self, content: &[u8]) {
+        let marks = |sending: &Sending| sending.saved.iter().filter(|saved| saved.marked).count();
+        let before = self.sending();
+        probe::process_ack(&mut self.engine, content).unwrap();
+        let after = self.sending();
+        self.run.tally.acks += 1;
+        // A flight that empties was marked whole, as far as it matters.
+        self.run.tally.marked += marks(&after).saturating_sub(marks(&before)) as u64;
+        self.run.say('a', content, Answer::default());
+    }
+
+    fn note(&mut self, epoch: u64, number: u64) {
+        let before = self.sending().noted;
+        probe::note(&mut self.engine, epoch, number);
+        let noted = self.sending().noted - before;
+        self.run.tally.noted += noted as u64;
+        let mut input = epoch.to_be_bytes().to_vec();
+        input.extend_from_slice(&number.to_be_bytes());
+        let answer = Answer {
+            kind: if noted == 0 { NOTHING } else { 0 },
+            ..Answer::default()
+        };
+        self.run.say('n', &input, answer);
     }
 
     fn ask(&mut self) {
@@ -382,6 +455,7 @@ impl World {
         push(sending.closed as usize);
         sending.lengths.iter().for_each(|length| push(*length));
         push(sending.saved.len());
+        push(sending.noted);
         self.run.say('v', &[], Answer::shown(shown));
         for (i, saved) in sending.saved.iter().enumerate() {
             let mut shown = (saved.marked as u16).to_be_bytes().to_vec();
@@ -427,8 +501,8 @@ impl World {
     }
 }
 
-/// The first record or message of a history that 01 refuses by 13, 14 or 17 to 21: its number, and
-/// what the Rust does there.
+/// The first step of a history that 01 refuses by 13, 14 or 17 to 22: its number, and what the Rust
+/// does there.
 pub fn first_refused(history: &History) -> Option<(u8, String)> {
     let mut world = World::new(history.settings);
     for step in &history.steps {

@@ -8,6 +8,8 @@ use crate::dtls13::engine::probe::Sending;
 pub const LAST_NUMBER: u64 = (1 << 48) - 1;
 pub const LONGEST: usize = 16_384;
 pub const MOST_SAVED: usize = 12;
+pub const MOST_REMEMBERED: usize = 32;
+pub const MOST_NOTED: usize = 32;
 
 /// Where a record goes: the datagram, counted from the front, and the offset; how many bytes it
 /// brings.
@@ -176,6 +178,65 @@ pub fn message(
         return Err(20);
     }
     Ok(places)
+}
+
+/// Where the records of a flight go that are sent again, or the refusal.
+pub fn resend(settings: &Settings, sending: &Sending) -> Result<Vec<Place>, u8> {
+    if !settings.flight_lent() {
+        return Err(12);
+    }
+    let again: Vec<_> = sending.saved.iter().filter(|saved| !saved.marked).collect();
+    if again
+        .iter()
+        .any(|saved| saved.epoch >= 3 && saved.epoch != sending.application)
+    {
+        return Err(13);
+    }
+    // 14 and 17 met the record when it was saved.
+    if again.iter().any(|saved| {
+        saved.content_type == 22 && saved.epoch >= 2 && saved.remembered.len() >= MOST_REMEMBERED
+    }) {
+        return Err(22);
+    }
+    let mut tail = Tail::of(sending);
+    tail.joinable = false;
+    let places: Vec<_> = again
+        .iter()
+        .map(|saved| {
+            let length = record_len(saved.epoch, saved.content.len());
+            tail.place(settings.mtu, length)
+        })
+        .collect();
+    if places.iter().any(|place| place.datagram >= settings.limit) {
+        return Err(19);
+    }
+    for saved in &again {
+        let count = again
+            .iter()
+            .filter(|other| other.epoch == saved.epoch)
+            .count();
+        if next_number(sending, saved.epoch).saturating_add(count as u64) > LAST_NUMBER {
+            return Err(20);
+        }
+    }
+    Ok(places)
+}
+
+/// Where the ACK goes, if any record is noted, or the refusal.
+pub fn send_ack(settings: &Settings, sending: &Sending) -> Result<Vec<Place>, u8> {
+    if !settings.queue_lent() {
+        return Err(12);
+    }
+    if sending.noted == 0 {
+        return Ok(Vec::new());
+    }
+    let epoch = if sending.application == 0 {
+        2
+    } else {
+        sending.application
+    };
+    let content = 2 + 16 * sending.noted;
+    send(settings, sending, epoch, 26, content, false).map(|place| vec![place])
 }
 
 /// The refusal that keying meets; `waits` where a sealing under the application epoch does.

@@ -1,6 +1,5 @@
 // Replays histories of receiving: one line of input, a letter and hex bytes, is one step and gives one line of output. What is
 // expected stands in the file stdout, written from the Rust's answers (compare/README.md says how, and what each letter means).
-ghost use Prim.Native.Nat.{_<_, _≤_};
 use datagram::Datagram;
 use datagram::Question;
 use datagram::Reading;
@@ -12,54 +11,6 @@ use receiving::Read;
 use receiving::Receiving;
 use recv_keys::Found;
 use recv_keys::RecvKeys;
-
-// Bytes written one behind the other into a lent buffer; where it is full they are left out.
-fn push(out: &mut [u8], at: usize, b: u8) -> usize {
-    if at < out.len() {
-        out[at] = b;
-        return at + 1;
-    }
-    at
-}
-
-fn push_all(out: &mut [u8], at: usize, d: &[u8]) -> usize {
-    let mut n = at;
-    let mut i = 0;
-    while i < d.len() {
-        n = push(out, n, d[i]);
-        i += 1;
-    }
-    n
-}
-
-// Numbers read out of a step; bytes beyond its end count as 0.
-fn get1(d: &[u8], i: usize) -> u8 {
-    if i < d.len() {
-        return d[i];
-    }
-    0
-}
-
-fn get2(d: &[u8], i: usize) -> u16 {
-    if i < 65536 {
-        return (get1(d, i) as u16) * 256 + get1(d, i + 1) as u16;
-    }
-    0
-}
-
-fn get4(d: &[u8], i: usize) -> u32 {
-    if i < 65536 {
-        return (get2(d, i) as u32) * 65536 + get2(d, i + 2) as u32;
-    }
-    0
-}
-
-fn get8(d: &[u8], i: usize) -> u64 {
-    if i < 65536 {
-        return (get4(d, i) as u64) * 0x1_0000_0000 + get4(d, i + 4) as u64;
-    }
-    0
-}
 
 // ---- what a reading tells
 
@@ -172,43 +123,38 @@ fn told(r: Reading) -> Summary {
 
 // ---- the answer to a step
 
-// Byte k of a number, the lowest being byte 0.
-fn byte(v: u64, k: u64) -> u8 {
-    if k < 8 {
-        return ((v >> (8 * k)) % 256) as u8;
-    }
-    0
-}
-
 fn numbers(refusal: u8, t: Summary) -> [u8; 16] {
     [
         refusal,
         t.kind,
         t.reason,
-        byte(t.epoch as u64, 1),
-        byte(t.epoch as u64, 0),
-        byte(t.number, 7),
-        byte(t.number, 6),
-        byte(t.number, 5),
-        byte(t.number, 4),
-        byte(t.number, 3),
-        byte(t.number, 2),
-        byte(t.number, 1),
-        byte(t.number, 0),
+        lines::byte(t.epoch as u64, 1),
+        lines::byte(t.epoch as u64, 0),
+        lines::byte(t.number, 7),
+        lines::byte(t.number, 6),
+        lines::byte(t.number, 5),
+        lines::byte(t.number, 4),
+        lines::byte(t.number, 3),
+        lines::byte(t.number, 2),
+        lines::byte(t.number, 1),
+        lines::byte(t.number, 0),
         t.content_type,
-        byte(t.start, 1),
-        byte(t.start, 0),
+        lines::byte(t.start, 1),
+        lines::byte(t.start, 0),
     ]
 }
 
 // The 30 bytes before the bytes shown, of which the last two are their number, then these.
 fn lay(refusal: u8, t: Summary, nonce: [u8; 12], shown: &[u8], out: &mut [u8]) -> usize {
     let head = numbers(refusal, t);
-    let length = [byte(shown.len() as u64, 1), byte(shown.len() as u64, 0)];
-    push_all(out, 0, &head);
-    push_all(out, 16, &nonce);
-    push_all(out, 28, &length);
-    push_all(out, 30, shown)
+    let length = [
+        lines::byte(shown.len() as u64, 1),
+        lines::byte(shown.len() as u64, 0),
+    ];
+    lines::push_all(out, 0, &head);
+    lines::push_all(out, 16, &nonce);
+    lines::push_all(out, 28, &length);
+    lines::push_all(out, 30, shown)
 }
 
 fn refusal_kept(a: Answer) -> u8 {
@@ -245,7 +191,7 @@ fn say(letter: u8, refusal: u8, t: Summary, nonce: [u8; 12], shown: &[u8]) {
     let mut found = [0u8; 16640];
     let mut text = [0u8; 33536];
     let n = lay(refusal, t, nonce, shown, &mut found);
-    let m = encode(letter, base::fragment(&found, 0, n), &mut text);
+    let m = lines::encode(letter, base::fragment(&found, 0, n), &mut text);
     io::write_all(1, base::fragment(&text, 0, m));
 }
 
@@ -272,23 +218,6 @@ fn done(k: Read, letter: u8, d: &[u8]) -> Receiving {
 
 // ---- the steps
 
-fn iv(d: &[u8]) -> [u8; 12] {
-    [
-        get1(d, 2),
-        get1(d, 3),
-        get1(d, 4),
-        get1(d, 5),
-        get1(d, 6),
-        get1(d, 7),
-        get1(d, 8),
-        get1(d, 9),
-        get1(d, 10),
-        get1(d, 11),
-        get1(d, 12),
-        get1(d, 13),
-    ]
-}
-
 // A number marked in the window of an epoch, as opening a record does.
 fn marked(k: RecvKeys, epoch: u16, number: u64) -> RecvKeys {
     if 5 < k.count {
@@ -313,7 +242,7 @@ fn mark(s: Receiving, input: &[u8]) -> Kept {
     Kept {
         answer: Answer::Done,
         state: Receiving {
-            keys: marked(k, get2(input, 0), get8(input, 2)),
+            keys: marked(k, lines::get2(input, 0), lines::get8(input, 2)),
             datagram: b,
         },
     }
@@ -322,9 +251,9 @@ fn mark(s: Receiving, input: &[u8]) -> Kept {
 // A step that takes no datagram. A letter that names no call changes nothing.
 fn host_step(s: Receiving, letter: u8, input: &[u8]) -> Kept {
     match letter {
-        b'f' => Receiving::new(get1(input, 0) as usize),
-        b'k' => s.key_receive(get2(input, 0), iv(input)),
-        b'x' => s.remove(get2(input, 0)),
+        b'f' => Receiving::new(lines::get1(input, 0) as usize),
+        b'k' => s.key_receive(lines::get2(input, 0), lines::get12(input, 2)),
+        b'x' => s.remove(lines::get2(input, 0)),
         b'e' => s.enable_peer_encryption(),
         b'l' => s.release_application_data(),
         b'w' => mark(s, input),
@@ -336,7 +265,7 @@ fn host_step(s: Receiving, letter: u8, input: &[u8]) -> Kept {
 }
 
 fn begin(s: Receiving, input: &[u8], d: &mut [u8]) -> Kept {
-    let n = push_all(d, 0, input);
+    let n = lines::push_all(d, 0, input);
     s.begin(base::fragment(d, 0, n))
 }
 
@@ -384,19 +313,19 @@ fn plaintext(p: Part, input: &[u8], d: &mut [u8]) -> Opening {
         return Opening::Yes(0);
     }
     let n = p.length - 16;
-    push_all(d, p.start, base::fragment(input, 0, n));
+    lines::push_all(d, p.start, base::fragment(input, 0, n));
     Opening::Yes(n)
 }
 
 fn opening(p: Part, input: &[u8], d: &mut [u8]) -> Opening {
-    if get1(input, 0) == 1 {
+    if lines::get1(input, 0) == 1 {
         return plaintext(p, base::behind(input, 1), d);
     }
     Opening::No
 }
 
 fn mask(s: Receiving, input: &[u8], d: &mut [u8], size: usize) -> Read {
-    let m = [get1(input, 0), get1(input, 1)];
+    let m = [lines::get1(input, 0), lines::get1(input, 1)];
     mask_front(s, m, d, size)
 }
 
@@ -461,77 +390,12 @@ fn step(s: Receiving, letter: u8, input: &[u8], d: &mut [u8]) -> Receiving {
 
 // ---- lines
 
-fn digit(b: u8) -> u8 {
-    if b < b'a' {
-        return b % 16;
-    }
-    (b % 16 + 9) % 16
-}
-
-// The bytes that hex digits make.
-fn decode(digits: &[u8], out: &mut [u8]) -> usize {
-    let mut n = 0;
-    let mut i = 0;
-    while 2 <= digits.len() - i {
-        let high = digit(get1(digits, i));
-        let low = digit(get1(digits, i + 1));
-        n = push(out, n, high % 16 * 16 + low % 16);
-        i += 2;
-    }
-    n
-}
-
-fn hex(v: u8) -> u8 {
-    let d = v % 16;
-    if d < 10 {
-        return b'0' + d;
-    }
-    b'a' - 10 + d
-}
-
-// A line: the letter, a space, the bytes in hex.
-fn encode(letter: u8, d: &[u8], out: &mut [u8]) -> usize {
-    let a = push(out, 0, letter);
-    let mut n = push(out, a, b' ');
-    let mut i = 0;
-    while i < d.len() {
-        let b = d[i];
-        let m = push(out, n, hex(b / 16));
-        n = push(out, m, hex(b));
-        i += 1;
-    }
-    push(out, n, b'\n')
-}
-
-// The length of the first line, without its newline.
-fn line_len(text: &[u8]) -> usize {
-    let mut i = 0;
-    while i < text.len() {
-        if text[i] == b'\n' {
-            return i;
-        }
-        i += 1;
-    }
-    i
-}
-
 // One line of input.
 fn replay_line(s: Receiving, line: &[u8], d: &mut [u8]) -> Receiving {
-    let letter = get1(line, 0);
+    let letter = lines::get1(line, 0);
     let mut input = [0u8; 16640];
-    let n = decode(base::behind(line, 2), &mut input);
+    let n = lines::decode(base::behind(line, 2), &mut input);
     step(s, letter, base::fragment(&input, 0, n), d)
-}
-
-// Where the next line begins: behind the newline, and no further than the end.
-fn next_line(i: usize, n: usize, end: usize) -> usize
-    requires { ⌜ i < end ⌝ }
-    ensures { λ r. ⌜ (i < r) × (r ≤ end) ⌝ }
-{
-    if n < end - i {
-        return i + n + 1;
-    }
-    end
 }
 
 fn replay_lines(text: &[u8], d: &mut [u8]) {
@@ -539,9 +403,9 @@ fn replay_lines(text: &[u8], d: &mut [u8]) {
     let mut s = k.state;
     let mut i = 0;
     while i < text.len() {
-        let n = line_len(base::behind(text, i));
+        let n = lines::line_len(base::behind(text, i));
         s = replay_line(s, base::fragment(text, i, n), d);
-        i = next_line(i, n, text.len());
+        i = lines::next_line(i, n, text.len());
     }
 }
 

@@ -1,96 +1,40 @@
 // Replays histories of sending: one line of input, a letter and hex bytes, is one step and gives one line of output. What is
 // expected stands in the file stdout, written from the Rust's answers (compare/README.md says how, and what each letter means).
-ghost use Prim.Native.Nat.{_<_, _≤_};
+use acks::NoteAnswer;
+use acks::Notes;
 use flight::Entry;
 use flight::Flight;
 use flight::Saved;
 use outgoing::SendAnswer;
 use outgoing::Sending;
-use outgoing::Sent;
 use queue::Queue;
-use sealing::Question;
-use sealing::Reply;
+use resend::ResendAnswer;
+use resend::Resent;
 use sealing::SealAnswer;
 use sealing::SealQuestion;
-use taking::Take;
-use taking::TakeAnswer;
 use send_keys::KeyAnswer;
 use send_keys::SendEpoch;
 use send_keys::SendKeys;
-
-// Bytes written one behind the other into a lent buffer; where it is full they are left out.
-fn push(out: &mut [u8], at: usize, b: u8) -> usize {
-    if at < out.len() {
-        out[at] = b;
-        return at + 1;
-    }
-    at
-}
-
-fn push_all(out: &mut [u8], at: usize, d: &[u8]) -> usize {
-    let mut n = at;
-    let mut i = 0;
-    while i < d.len() {
-        n = push(out, n, d[i]);
-        i += 1;
-    }
-    n
-}
-
-// Numbers read out of a step; bytes beyond its end count as 0.
-fn get1(d: &[u8], i: usize) -> u8 {
-    if i < d.len() {
-        return d[i];
-    }
-    0
-}
-
-fn get2(d: &[u8], i: usize) -> u16 {
-    if i < 65536 {
-        return (get1(d, i) as u16) * 256 + get1(d, i + 1) as u16;
-    }
-    0
-}
-
-fn get4(d: &[u8], i: usize) -> u32 {
-    if i < 65536 {
-        return (get2(d, i) as u32) * 65536 + get2(d, i + 2) as u32;
-    }
-    0
-}
-
-fn get8(d: &[u8], i: usize) -> u64 {
-    if i < 65536 {
-        return (get4(d, i) as u64) * 0x1_0000_0000 + get4(d, i + 4) as u64;
-    }
-    0
-}
-
-// Byte k of a number, the lowest being byte 0.
-fn byte(v: u64, k: u64) -> u8 {
-    if k < 8 {
-        return ((v >> (8 * k)) % 256) as u8;
-    }
-    0
-}
+use taking::Take;
+use taking::TakeAnswer;
 
 fn push2(out: &mut [u8], at: usize, v: u64) -> usize {
-    let d = [byte(v, 1), byte(v, 0)];
-    push_all(out, at, &d)
+    let d = [lines::byte(v, 1), lines::byte(v, 0)];
+    lines::push_all(out, at, &d)
 }
 
 fn push8(out: &mut [u8], at: usize, v: u64) -> usize {
     let d = [
-        byte(v, 7),
-        byte(v, 6),
-        byte(v, 5),
-        byte(v, 4),
-        byte(v, 3),
-        byte(v, 2),
-        byte(v, 1),
-        byte(v, 0),
+        lines::byte(v, 7),
+        lines::byte(v, 6),
+        lines::byte(v, 5),
+        lines::byte(v, 4),
+        lines::byte(v, 3),
+        lines::byte(v, 2),
+        lines::byte(v, 1),
+        lines::byte(v, 0),
     ];
-    push_all(out, at, &d)
+    lines::push_all(out, at, &d)
 }
 
 // ---- the state
@@ -99,6 +43,7 @@ fn push8(out: &mut [u8], at: usize, v: u64) -> usize {
 struct End {
     sending: Sending,
     flight: Flight,
+    notes: Notes,
     room: usize,
     kept: usize,
 }
@@ -112,6 +57,12 @@ fn with_sending(e: End, s: Sending) -> End {
 fn with_flight(e: End, f: Flight) -> End {
     let mut t = e;
     t.flight = f;
+    t
+}
+
+fn with_notes(e: End, n: Notes) -> End {
+    let mut t = e;
+    t.notes = n;
     t
 }
 
@@ -142,31 +93,31 @@ fn numbers(t: Told) -> [u8; 16] {
     [
         t.refusal,
         t.kind,
-        byte(t.epoch as u64, 1),
-        byte(t.epoch as u64, 0),
-        byte(t.number, 7),
-        byte(t.number, 6),
-        byte(t.number, 5),
-        byte(t.number, 4),
-        byte(t.number, 3),
-        byte(t.number, 2),
-        byte(t.number, 1),
-        byte(t.number, 0),
-        byte(t.start, 1),
-        byte(t.start, 0),
-        byte(t.length, 1),
-        byte(t.length, 0),
+        lines::byte(t.epoch as u64, 1),
+        lines::byte(t.epoch as u64, 0),
+        lines::byte(t.number, 7),
+        lines::byte(t.number, 6),
+        lines::byte(t.number, 5),
+        lines::byte(t.number, 4),
+        lines::byte(t.number, 3),
+        lines::byte(t.number, 2),
+        lines::byte(t.number, 1),
+        lines::byte(t.number, 0),
+        lines::byte(t.start, 1),
+        lines::byte(t.start, 0),
+        lines::byte(t.length, 1),
+        lines::byte(t.length, 0),
     ]
 }
 
 // The 35 bytes before the bytes shown, of which the last two are their number, then these.
 fn lay(t: Told, nonce: [u8; 12], header: [u8; 5], shown: &[u8], out: &mut [u8]) -> usize {
     let head = numbers(t);
-    push_all(out, 0, &head);
-    push_all(out, 16, &nonce);
-    push_all(out, 28, &header);
+    lines::push_all(out, 0, &head);
+    lines::push_all(out, 16, &nonce);
+    lines::push_all(out, 28, &header);
     push2(out, 33, shown.len() as u64);
-    push_all(out, 35, shown)
+    lines::push_all(out, 35, shown)
 }
 
 // An answer on standard output.
@@ -174,12 +125,16 @@ fn say(letter: u8, t: Told, nonce: [u8; 12], header: [u8; 5], shown: &[u8]) {
     let mut found = [0u8; 2048];
     let mut text = [0u8; 4352];
     let n = lay(t, nonce, header, shown, &mut found);
-    let m = encode(letter, base::fragment(&found, 0, n), &mut text);
+    let m = lines::encode(letter, base::fragment(&found, 0, n), &mut text);
     io::write_all(1, base::fragment(&text, 0, m));
 }
 
+fn say_told(letter: u8, t: Told) {
+    say(letter, t, [0u8; 12], [0u8; 5], b"");
+}
+
 fn say_number(letter: u8, refusal: u8) {
-    say(letter, bare(refusal, 0, 0), [0u8; 12], [0u8; 5], b"");
+    say_told(letter, bare(refusal, 0, 0));
 }
 
 fn send_number(a: SendAnswer) -> u8 {
@@ -193,6 +148,19 @@ fn send_number(a: SendAnswer) -> u8 {
         SendAnswer::FlightFull => 18,
         SendAnswer::QueueFull => 19,
         SendAnswer::NumbersSpent => 20,
+    }
+}
+
+fn resend_number(a: ResendAnswer) -> u8 {
+    match a {
+        ResendAnswer::Done => 0,
+        ResendAnswer::OutOfRange => 12,
+        ResendAnswer::BadEpoch => 13,
+        ResendAnswer::BadRecord => 14,
+        ResendAnswer::KeysAbsent => 17,
+        ResendAnswer::HistoryFull => 22,
+        ResendAnswer::QueueFull => 19,
+        ResendAnswer::NumbersSpent => 20,
     }
 }
 
@@ -214,6 +182,25 @@ fn seal_number(a: SealAnswer) -> u8 {
 }
 
 // Kinds: 1 none, 2 a datagram, 3 a question.
+fn told_note(a: NoteAnswer) -> Told {
+    match a {
+        NoteAnswer::Noted => bare(0, 0, 0),
+        NoteAnswer::Full => bare(0, 1, 0),
+        NoteAnswer::OutOfRange => bare(12, 0, 0),
+    }
+}
+
+fn told_ack(a: SendAnswer, sent: bool) -> Told {
+    if sent {
+        return bare(send_number(a), 0, 0);
+    }
+    let n = send_number(a);
+    if n == 0 {
+        return bare(0, 1, 0);
+    }
+    bare(n, 0, 0)
+}
+
 fn told_take(a: TakeAnswer) -> Told {
     match a {
         TakeAnswer::Taken(n) => bare(0, 2, n),
@@ -247,37 +234,24 @@ fn told_question(q: SealQuestion) -> Told {
 // ---- steps without memory
 
 fn fresh(input: &[u8]) -> End {
-    let r = Sending::fresh(get2(input, 0) as usize, get1(input, 2) as usize);
+    let r = Sending::fresh(
+        lines::get2(input, 0) as usize,
+        lines::get1(input, 2) as usize,
+    );
     let a = r.answer;
     say_number(b'f', send_number(a));
     let s = r.state;
     End {
         sending: s,
         flight: flight::fresh(),
-        room: get2(input, 3) as usize,
-        kept: get2(input, 5) as usize,
+        notes: acks::fresh(),
+        room: lines::get2(input, 3) as usize,
+        kept: lines::get2(input, 5) as usize,
     }
 }
 
-fn iv(d: &[u8]) -> [u8; 12] {
-    [
-        get1(d, 2),
-        get1(d, 3),
-        get1(d, 4),
-        get1(d, 5),
-        get1(d, 6),
-        get1(d, 7),
-        get1(d, 8),
-        get1(d, 9),
-        get1(d, 10),
-        get1(d, 11),
-        get1(d, 12),
-        get1(d, 13),
-    ]
-}
-
 fn key(s: Sending, input: &[u8]) -> Sending {
-    let r = s.key_send(get2(input, 0), iv(input));
+    let r = s.key_send(lines::get2(input, 0), lines::get12(input, 2));
     let a = r.answer;
     say_number(b'k', key_number(a));
     let t = r.state;
@@ -309,7 +283,7 @@ fn numbered(k: SendKeys, epoch: u16, number: u64) -> SendKeys {
 // The next number of an epoch, as if the ones before had been used.
 fn set_number(s: Sending, input: &[u8]) -> Sending {
     let mut t = s;
-    t.keys = numbered(s.keys, get2(input, 0), get8(input, 2));
+    t.keys = numbered(s.keys, lines::get2(input, 0), lines::get8(input, 2));
     say_number(b'u', 0);
     t
 }
@@ -317,18 +291,8 @@ fn set_number(s: Sending, input: &[u8]) -> Sending {
 // The next message number, as if the ones before had been used.
 fn set_message(s: Sending, input: &[u8]) -> Sending {
     let mut t = s;
-    t.message_seq = get2(input, 0);
+    t.message_seq = lines::get2(input, 0);
     say_number(b'g', 0);
-    t
-}
-
-// The last datagram closed, as a resend does.
-fn close(s: Sending) -> Sending {
-    let mut q = s.queue;
-    q.closed = true;
-    let mut t = s;
-    t.queue = q;
-    say_number(b'x', 0);
     t
 }
 
@@ -340,6 +304,22 @@ fn begin(f: Flight) -> Flight {
     g
 }
 
+fn acknowledge(f: Flight, content: &[u8]) -> Flight {
+    let r = process_ack::process_ack(f, content);
+    let a = r.answer;
+    say_number(b'a', send_number(a));
+    let g = r.flight;
+    g
+}
+
+fn note(n: Notes, input: &[u8]) -> Notes {
+    let r = acks::note(n, lines::get8(input, 0), lines::get8(input, 8));
+    let a = r.answer;
+    say_told(b'n', told_note(a));
+    let m = r.notes;
+    m
+}
+
 // A letter that names no call changes nothing.
 fn host_step(e: End, letter: u8, input: &[u8]) -> End {
     let s = e.sending;
@@ -348,8 +328,9 @@ fn host_step(e: End, letter: u8, input: &[u8]) -> End {
         b'k' => with_sending(e, key(s, input)),
         b'u' => with_sending(e, set_number(s, input)),
         b'g' => with_sending(e, set_message(s, input)),
-        b'x' => with_sending(e, close(s)),
         b'b' => with_flight(e, begin(e.flight)),
+        b'a' => with_flight(e, acknowledge(e.flight, input)),
+        b'n' => with_notes(e, note(e.notes, input)),
         _ => e,
     }
 }
@@ -358,8 +339,8 @@ fn host_step(e: End, letter: u8, input: &[u8]) -> End {
 
 fn send(s: Sending, input: &[u8], memory: &mut [u8]) -> Sending {
     let r = s.send(
-        get2(input, 0),
-        get1(input, 2),
+        lines::get2(input, 0),
+        lines::get1(input, 2),
         base::behind(input, 5),
         memory,
     );
@@ -372,12 +353,12 @@ fn send(s: Sending, input: &[u8], memory: &mut [u8]) -> Sending {
 // Sealed bytes written to the part that the host is lent.
 fn write_part(s: Sending, d: &[u8], memory: &mut [u8]) {
     let part = sealing::sealing_part(s, memory);
-    push_all(part, 0, d);
+    lines::push_all(part, 0, d);
 }
 
 fn reply(s: Sending, input: &[u8], memory: &mut [u8]) -> Sending {
-    let mask = [get1(input, 0), get1(input, 1)];
-    let length = get2(input, 2) as usize;
+    let mask = [lines::get1(input, 0), lines::get1(input, 1)];
+    let length = lines::get2(input, 2) as usize;
     write_part(s, base::behind(input, 4), memory);
     let r = sealing::sealed(s, length, mask, memory);
     let a = r.answer;
@@ -386,10 +367,22 @@ fn reply(s: Sending, input: &[u8], memory: &mut [u8]) -> Sending {
     t
 }
 
+fn send_ack(e: End, memory: &mut [u8]) -> End {
+    let r = acks::send_ack(e.sending, e.notes, memory);
+    let a = r.answer;
+    say_told(b'c', told_ack(a, r.sent));
+    let s = r.state;
+    let n = r.notes;
+    with_notes(with_sending(e, s), n)
+}
+
 fn answer_queue(e: End, letter: u8, input: &[u8], memory: &mut [u8]) -> End {
     let s = e.sending;
     if letter == b's' {
         return with_sending(e, reply(s, input, memory));
+    }
+    if letter == b'c' {
+        return send_ack(e, memory);
     }
     with_sending(e, send(s, input, memory))
 }
@@ -401,7 +394,7 @@ fn save(e: End, letter: u8, input: &[u8], memory: &mut [u8], kept: &mut [u8]) ->
         return messages::create_handshake(
             s,
             f,
-            get1(input, 0),
+            lines::get1(input, 0),
             base::behind(input, 3),
             memory,
             kept,
@@ -410,8 +403,8 @@ fn save(e: End, letter: u8, input: &[u8], memory: &mut [u8], kept: &mut [u8]) ->
     flight::send_saved(
         s,
         f,
-        get2(input, 0),
-        get1(input, 2),
+        lines::get2(input, 0),
+        lines::get1(input, 2),
         base::behind(input, 5),
         memory,
         kept,
@@ -429,6 +422,20 @@ fn saved(e: End, r: Saved, letter: u8) -> End {
 fn answer_saved(e: End, letter: u8, input: &[u8], memory: &mut [u8], kept: &mut [u8]) -> End {
     let r = save(e, letter, input, memory, kept);
     saved(e, r, letter)
+}
+
+fn resent(e: End, r: Resent) -> End {
+    let a = r.answer;
+    say_number(b'r', resend_number(a));
+    let s = r.state;
+    let f = r.flight;
+    with_flight(with_sending(e, s), f)
+}
+
+fn answer_resend(e: End, memory: &mut [u8], kept: &[u8]) -> End {
+    let s = e.sending;
+    let f = e.flight;
+    resent(e, resend::flight_resend(s, f, kept, memory))
 }
 
 // ---- steps that read
@@ -457,7 +464,7 @@ fn take_part(s: Sending, buffer: &mut [u8], n: usize, memory: &[u8]) -> Take {
 
 fn take(s: Sending, input: &[u8], memory: &[u8]) -> Sending {
     let mut buffer = [0xEEu8; 1600];
-    let n = get2(input, 0) as usize;
+    let n = lines::get2(input, 0) as usize;
     let r = take_part(s, &mut buffer, n, memory);
     let a = r.answer;
     say(
@@ -511,11 +518,15 @@ fn lay_lengths(q: Queue, out: &mut [u8], at: usize) -> usize {
     n
 }
 
-fn lay_queue(q: Queue, saved: usize, out: &mut [u8], at: usize) -> usize {
+fn lay_queue(q: Queue, out: &mut [u8], at: usize) -> usize {
     let n = push2(out, at, q.count as u64);
     let m = push2(out, n, q.closed as u64);
-    let k = lay_lengths(q, out, m);
-    push2(out, k, saved as u64)
+    lay_lengths(q, out, m)
+}
+
+fn lay_counts(saved: usize, noted: usize, out: &mut [u8], at: usize) -> usize {
+    let n = push2(out, at, saved as u64);
+    push2(out, n, noted as u64)
 }
 
 fn lay_keys(k: SendKeys, message: u16, out: &mut [u8]) -> usize {
@@ -528,19 +539,21 @@ fn lay_keys(k: SendKeys, message: u16, out: &mut [u8]) -> usize {
     push2(out, 26, message as u64)
 }
 
-// The next numbers, the queue's lengths, how many records are saved.
+// The next numbers, the queue's lengths, how many records are saved and noted.
 fn view(e: End) {
     let mut out = [0u8; 128];
     let s = e.sending;
     let f = e.flight;
     let n = lay_keys(s.keys, s.message_seq, &mut out);
-    let m = lay_queue(s.queue, f.saved, &mut out, n);
+    let noted = e.notes;
+    let m = lay_queue(s.queue, &mut out, n);
+    let k = lay_counts(f.saved, noted.count, &mut out, m);
     say(
         b'v',
         bare(0, 0, 0),
         [0u8; 12],
         [0u8; 5],
-        base::fragment(&out, 0, m),
+        base::fragment(&out, 0, k),
     );
 }
 
@@ -576,7 +589,7 @@ fn lay_entry(f: Flight, i: usize, d: Entry, content: &[u8], out: &mut [u8]) -> u
     let a = push2(out, 0, d.marked as u64);
     let n = push2(out, a, d.remembered as u64);
     let m = lay_remembered(f, i, d, out, n);
-    push_all(out, m, content)
+    lines::push_all(out, m, content)
 }
 
 // Where a saved record's content begins.
@@ -624,7 +637,7 @@ fn shown(e: End, letter: u8, input: &[u8], memory: &[u8], kept: &[u8]) -> End {
     match letter {
         b'q' => question(s, memory),
         b'v' => view(e),
-        _ => entry(e, get1(input, 0) as usize, kept),
+        _ => entry(e, lines::get1(input, 0) as usize, kept),
     }
     e
 }
@@ -642,7 +655,8 @@ fn answer(e: End, letter: u8, input: &[u8], memory: &[u8], kept: &[u8]) -> End {
 fn step(e: End, letter: u8, input: &[u8], memory: &mut [u8], kept: &mut [u8]) -> End {
     match letter {
         b'p' | b'h' => answer_saved(e, letter, input, memory, kept),
-        b'd' | b's' => answer_queue(e, letter, input, memory),
+        b'd' | b's' | b'c' => answer_queue(e, letter, input, memory),
+        b'r' => answer_resend(e, memory, kept),
         _ => answer(e, letter, input, memory, kept),
     }
 }
@@ -671,7 +685,7 @@ fn pattern_at(d: &[u8], i: usize) -> u8 {
     if d.len() == 0 {
         return 0;
     }
-    get1(d, i % d.len())
+    lines::get1(d, i % d.len())
 }
 
 // A pattern repeated up to a length.
@@ -679,7 +693,7 @@ fn repeat(pattern: &[u8], n: usize, out: &mut [u8], at: usize) -> usize {
     let mut m = at;
     let mut i = 0;
     while i < n {
-        m = push(out, m, pattern_at(pattern, i));
+        m = lines::push(out, m, pattern_at(pattern, i));
         i += 1;
     }
     m
@@ -687,96 +701,37 @@ fn repeat(pattern: &[u8], n: usize, out: &mut [u8], at: usize) -> usize {
 
 // The bytes before a content, the last two of which are its length; then the content, of which a pattern is given.
 fn fill(input: &[u8], head: usize, n: usize, out: &mut [u8]) -> usize {
-    let m = push_all(out, 0, base::fragment(input, 0, head));
+    let m = lines::push_all(out, 0, base::fragment(input, 0, head));
     repeat(base::behind(input, head), n, out, m)
 }
 
 fn expand(letter: u8, input: &[u8], out: &mut [u8]) -> usize {
     match letter {
-        b'd' | b'p' => fill(input, 5, get2(input, 3) as usize, out),
-        b'h' => fill(input, 3, get2(input, 1) as usize, out),
-        b's' => fill(input, 4, get2(input, 2) as usize, out),
-        _ => push_all(out, 0, input),
+        b'd' | b'p' => fill(input, 5, lines::get2(input, 3) as usize, out),
+        b'h' => fill(input, 3, lines::get2(input, 1) as usize, out),
+        b's' => fill(input, 4, lines::get2(input, 2) as usize, out),
+        _ => lines::push_all(out, 0, input),
     }
-}
-
-fn digit(b: u8) -> u8 {
-    if b < b'a' {
-        return b % 16;
-    }
-    (b % 16 + 9) % 16
-}
-
-// The bytes that hex digits make.
-fn decode(digits: &[u8], out: &mut [u8]) -> usize {
-    let mut n = 0;
-    let mut i = 0;
-    while 2 <= digits.len() - i {
-        let high = digit(get1(digits, i));
-        let low = digit(get1(digits, i + 1));
-        n = push(out, n, high % 16 * 16 + low % 16);
-        i += 2;
-    }
-    n
-}
-
-fn hex(v: u8) -> u8 {
-    let d = v % 16;
-    if d < 10 {
-        return b'0' + d;
-    }
-    b'a' - 10 + d
-}
-
-// A line: the letter, a space, the bytes in hex.
-fn encode(letter: u8, d: &[u8], out: &mut [u8]) -> usize {
-    let a = push(out, 0, letter);
-    let mut n = push(out, a, b' ');
-    let mut i = 0;
-    while i < d.len() {
-        let b = d[i];
-        let m = push(out, n, hex(b / 16));
-        n = push(out, m, hex(b));
-        i += 1;
-    }
-    push(out, n, b'\n')
-}
-
-// The length of the first line, without its newline.
-fn line_len(text: &[u8]) -> usize {
-    let mut i = 0;
-    while i < text.len() {
-        if text[i] == b'\n' {
-            return i;
-        }
-        i += 1;
-    }
-    i
 }
 
 // A line's bytes with its content whole.
 fn read_line(line: &[u8], out: &mut [u8]) -> usize {
     let mut input = [0u8; 16640];
-    let n = decode(base::behind(line, 2), &mut input);
-    expand(get1(line, 0), base::fragment(&input, 0, n), out)
+    let n = lines::decode(base::behind(line, 2), &mut input);
+    expand(lines::get1(line, 0), base::fragment(&input, 0, n), out)
 }
 
 // One line of input.
 fn replay_line(e: End, line: &[u8], memory: &mut [u8], kept: &mut [u8]) -> End {
     let mut input = [0u8; 16640];
     let n = read_line(line, &mut input);
-    lend(e, get1(line, 0), base::fragment(&input, 0, n), memory, kept)
-}
-
-// Where the next line begins: behind the newline, and no further than the end.
-fn next_line(i: usize, n: usize, end: usize) -> usize
-    requires { ⌜ i < end ⌝ }
-    ensures { λ r. ⌜ (i < r) × (r ≤ end) ⌝ }
-{
-    if n < end - i {
-        return i + n + 1;
-    }
-    end
+    lend(
+        e,
+        lines::get1(line, 0),
+        base::fragment(&input, 0, n),
+        memory,
+        kept,
+    )
 }
 
 fn nothing() -> End {
@@ -785,6 +740,7 @@ fn nothing() -> End {
     End {
         sending: s,
         flight: flight::fresh(),
+        notes: acks::fresh(),
         room: 0,
         kept: 0,
     }
@@ -794,9 +750,9 @@ fn replay_lines(text: &[u8], memory: &mut [u8], kept: &mut [u8]) {
     let mut e = nothing();
     let mut i = 0;
     while i < text.len() {
-        let n = line_len(base::behind(text, i));
+        let n = lines::line_len(base::behind(text, i));
         e = replay_line(e, base::fragment(text, i, n), memory, kept);
-        i = next_line(i, n, text.len());
+        i = lines::next_line(i, n, text.len());
     }
 }
 

@@ -24,8 +24,8 @@ sub-loop c = search needs
 shared-slice-read-op : tie.Need-shared-slice-read-op Inv-loop μ-loop
 shared-slice-read-op c = search needs
 
-add-get8 : tie.Need-add-get8 Inv-loop μ-loop
-add-get8 c = search needs
+fragment-requires : tie.Need-fragment-requires Inv-loop μ-loop
+fragment-requires c κs = search needs
 
 get8-requires : tie.Need-get8-requires Inv-loop μ-loop
 get8-requires c κs = search needs
@@ -61,7 +61,7 @@ windows-spec =
     loop-holds
     sub-loop
     shared-slice-read-op
-    add-get8
+    fragment-requires
     get8-requires
     push-verdict-requires
     stepped-requires

@@ -1,30 +1,17 @@
-//! Where the Rust is known to differ: the smallest inputs, and what it does there.
+//! Calls of sending that 01 refuses: each kind of outcome in the Rust, with the smallest history found.
 
 use std::collections::BTreeMap;
 use std::io;
-use std::sync::Arc;
 
+use super::Found;
 use crate::beside;
 use crate::crypto::script;
 use crate::dice::Dice;
-use crate::dtls13::engine::Engine;
-use crate::dtls13::engine::probe::{self, Sending};
-use crate::histories;
+use crate::dtls13::engine::probe::Sending;
 use crate::leaves::hex;
-use crate::sendings::limits::{key, saved, send};
+use crate::sendings::limits::{key, send};
 use crate::sendings::reference::World;
 use crate::sendings::{Bytes, History, Settings, Step, generate, reference};
-use crate::types::Dtls13CipherSuite;
-use crate::{Config, DtlsCertificate};
-
-/// A difference: an input, what the Rust does, what is answered here.
-pub struct Found {
-    pub input: String,
-    pub rust: String,
-    pub here: String,
-}
-
-// ---- sending
 
 /// What a refused call is and what the Rust does in it: two of the same kind are one difference.
 #[derive(Debug, Clone, PartialEq, Eq, PartialOrd, Ord)]
@@ -41,8 +28,17 @@ fn changed(before: &Sending, after: &Sending, sealings: usize) -> Vec<&'static s
     if before.lengths != after.lengths {
         changed.push("records sent");
     }
-    if before.saved != after.saved {
+    if before.saved.len() < after.saved.len() {
         changed.push("records saved");
+    }
+    if after.saved.len() < before.saved.len() {
+        changed.push("the flight lost");
+    }
+    if after.noted < before.noted {
+        changed.push("noted records lost");
+    }
+    if !before.closed && after.closed {
+        changed.push("the datagram closed");
     }
     if before.message != after.message {
         changed.push("message number moved");
@@ -59,6 +55,7 @@ pub fn named(outcome: &str) -> String {
         ("SendKeysNotAvailable", "keys absent"),
         ("SequenceNumberExhausted", "numbers spent"),
         ("TransmitQueueFull", "queue full"),
+        ("TransmitHistoryFull", "history full"),
     ];
     let found = names.iter().find(|(error, _)| outcome.contains(error));
     found.map_or(outcome, |(_, name)| name).to_string()
@@ -87,7 +84,9 @@ fn kind(history: &History) -> Option<Kind> {
             },
             Step::Send { save: false, .. } => "record",
             Step::Send { save: true, .. } => "record to save",
-            _ => "message",
+            Step::Message { .. } => "message",
+            Step::Resend => "resend",
+            _ => "ACK",
         },
         outcome,
         changed: changed(&before, &world.sending(), sealings),
@@ -208,13 +207,16 @@ fn describe(history: &History) -> String {
             format!("send({epoch}, {content_type}, {n} bytes{saved})")
         }
         Step::Message { kind, body } => format!("message({kind}, {} bytes)", body.length),
+        Step::Ack(content) => format!("act on the ACK {}", hex(content)),
+        Step::Note { epoch, number } => format!("note ({epoch}, {number})"),
+        Step::SendAck => "send the ACK".to_string(),
         step => format!("{step:?}").to_lowercase(),
     }));
     words.join("; ")
 }
 
 /// Each kind of refused call met in random histories, with the smallest history found.
-pub fn sending(program: &str, count: u64, seed: u64) -> io::Result<Vec<Found>> {
+pub fn all(program: &str, count: u64, seed: u64) -> io::Result<Vec<Found>> {
     let mut kinds: BTreeMap<Kind, History> = BTreeMap::new();
     for i in 0..count {
         let random = generate::random(&mut Dice::new(seed << 32 ^ i));
@@ -251,16 +253,6 @@ pub fn sending(program: &str, count: u64, seed: u64) -> io::Result<Vec<Found>> {
     Ok(found)
 }
 
-fn engine() -> Engine {
-    let config = Config {
-        crypto_provider: script::provider(),
-        ..Config::default()
-    };
-    let mut engine = Engine::new(Arc::new(config), DtlsCertificate::default());
-    engine.set_cipher_suite(Dtls13CipherSuite::AES_128_GCM_SHA256);
-    engine
-}
-
 /// A record sealed, refused by 19 and sealed again with another content under the same number.
 pub fn sealed_twice() -> Found {
     let steps = vec![key(2), send(2, 21, 533), send(2, 21, 0)];
@@ -287,203 +279,4 @@ pub fn sealed_twice() -> Found {
         rust: format!("{outcome}, then {second}: nonces {nonces:?}, texts {texts:?}"),
         here: "19, no sealing asked; the second is number 1".to_string(),
     }
-}
-
-/// Resends and ACKs, which have no program here yet.
-pub fn resending() -> Vec<Found> {
-    let mut found = Vec::new();
-    let mut add = |input: &str, rust: String| {
-        found.push(Found {
-            input: input.to_string(),
-            rust,
-            here: String::new(),
-        })
-    };
-    let mut world = World::new(Settings::new(576, 1));
-    world.step(&saved(0, 21, 0));
-    let outcome = world.engine_mut().flight_resend("");
-    let after = world.sending();
-    add(
-        "MTU 576, limit 1; send(0, 21, 0 bytes, saved); resend",
-        format!(
-            "{outcome:?}; {} saved, closed {}",
-            after.saved.len(),
-            after.closed
-        ),
-    );
-    let mut world = World::new(Settings::new(576, 2));
-    world.step(&saved(0, 21, 0));
-    world.step(&Step::Number {
-        epoch: 0,
-        number: (1 << 48) - 1,
-    });
-    let outcome = world.engine_mut().flight_resend("");
-    add(
-        "MTU 576, limit 2; send(0, 21, 0 bytes, saved); next number 2^48 - 1; resend",
-        format!("{outcome:?}; {} saved", world.sending().saved.len()),
-    );
-    let mut world = World::new(Settings::new(576, 2));
-    let noted = probe::note(world.engine_mut(), 2, 0);
-    let outcome = world.engine_mut().send_ack();
-    let left = probe::noted(world.engine_mut());
-    add(
-        "note (2, 0); send the ACK, nothing keyed",
-        format!("{noted} noted; {outcome:?}; {left} noted"),
-    );
-    let mut world = World::new(Settings::new(576, 2));
-    for step in [key(3), saved(3, 22, 0), Step::Reply(0), key(4)] {
-        world.step(&step);
-    }
-    script::take_sealings();
-    let outcome = world.engine_mut().flight_resend("");
-    let asked = script::take_sealings();
-    add(
-        "key 3; send(3, 22, 0 bytes, saved), sealed; key 4; resend",
-        format!(
-            "{outcome:?}; sealed with the keys of {}, header {}",
-            hex(&asked[0].key),
-            hex(&asked[0].header)
-        ),
-    );
-    found
-}
-
-// ---- receiving
-
-/// What the program answers to a script.
-fn here(program: &str, script: &[String]) -> io::Result<String> {
-    let answers = beside::answers(program, &(script.join("\n") + "\n"))?;
-    let last = answers.last().cloned().unwrap_or_default();
-    let byte = |i: usize| u8::from_str_radix(last.get(i..i + 2).unwrap_or("0"), 16).unwrap_or(0);
-    Ok(match (byte(2), byte(4), byte(6)) {
-        (0, 4, reason) => format!("dropped by {reason}"),
-        (0, kind, _) => format!("kind {kind}"),
-        (refusal, ..) => format!("refused by {refusal}"),
-    })
-}
-
-/// Differences in receiving, each with both run.
-pub fn receiving(program: &str) -> io::Result<Vec<Found>> {
-    let mut found = Vec::new();
-    let iv = "000102030405060708090a0b";
-    let mut add = |input: &str, rust: String, script: &[String]| -> io::Result<()> {
-        found.push(Found {
-            input: input.to_string(),
-            rust,
-            here: here(program, script)?,
-        });
-        Ok(())
-    };
-    let line = |text: &str| text.to_string();
-    let key3 = format!("k 0003{iv}");
-    let read = |bytes: &[u8]| [format!("b {}", hex(bytes)), "r ".to_string()];
-
-    // A least length of 17 and a protected part of 16.
-    let mut short = vec![0x23, 0];
-    short.extend_from_slice(&[0; 16]);
-    let asked = histories::reference::asked(17, &[3], None, &short);
-    let mut script = vec![line("f 11"), line("e "), key3.clone()];
-    script.extend(read(&short));
-    add(
-        "least length 17, encryption on, key 3; 23 00 and 16 bytes",
-        asked,
-        &script,
-    )?;
-
-    // Bits that resolve to no epoch.
-    let asked = histories::reference::asked(16, &[], None, &[0x20, 0]);
-    let mut script = vec![line("f 10"), line("e ")];
-    script.extend(read(&[0x20, 0]));
-    add("encryption on, nothing keyed; 20 00", asked, &script)?;
-
-    // A datagram over 16,384 bytes.
-    let long = vec![0; 16_385];
-    let asked = histories::reference::asked(16, &[], None, &long);
-    let script = vec![line("f 10"), format!("b {}", hex(&long))];
-    add("16,385 zeros", asked, &script)?;
-
-    // A number above 2^48 - 1.
-    let last = (1 << 48) - 1;
-    let asked = histories::reference::asked(16, &[3], Some(last), &short);
-    let mut script = vec![line("f 10"), line("e "), key3.clone()];
-    script.push(format!("w 0003{last:016x}"));
-    script.extend(read(&short));
-    script.push(line("m 0000"));
-    add(
-        "encryption on, key 3, highest 2^48 - 1; 23 00 and 16 bytes, mask 0",
-        asked,
-        &script,
-    )?;
-
-    // A fifth application epoch.
-    let mut rust = engine();
-    (3..7).for_each(|epoch| probe::key_receive(&mut rust, epoch, [0; 12]));
-    let outcome = rust.update_recv_keys();
-    let rust = format!("{outcome:?}; keyed {:?}", probe::receive_epochs(&rust));
-    let mut script = vec![line("f 10")];
-    script.extend((3..8).map(|epoch| format!("k {epoch:04x}{iv}")));
-    add("keys 3, 4, 5, 6, then 7", rust, &script)?;
-
-    // An epoch keyed again.
-    let mut rust = engine();
-    let secret = crate::buffer::Buf::new();
-    let once = rust.install_application_keys(&secret, &secret);
-    let again = rust.install_application_keys(&secret, &secret);
-    let rust = format!(
-        "{once:?}, {again:?}; keyed {:?}",
-        probe::receive_epochs(&rust)
-    );
-    add(
-        "key 3, key 3",
-        rust,
-        &[line("f 10"), key3.clone(), key3.clone()],
-    )?;
-
-    // Releasing application data.
-    let mut rust = engine();
-    probe::key_receive(&mut rust, 2, [0; 12]);
-    rust.release_application_data();
-    let rust = format!("keyed {:?}", probe::receive_epochs(&rust));
-    let mut two = vec![0x22, 0];
-    two.extend_from_slice(&[0; 16]);
-    let mut script = vec![line("f 10"), line("e "), format!("k 0002{iv}"), line("l ")];
-    script.extend(read(&two));
-    add("key 2, release; 22 00 and 16 bytes", rust, &script)?;
-
-    // A fault behind a reading.
-    let alert = [21, 0xFE, 0xFD, 0, 0, 0, 0, 0, 0, 0, 0, 0, 0, 21];
-    let mut rust = engine();
-    let outcome = rust.parse_packet(&alert);
-    let rust = format!(
-        "{outcome:?}; {} readings kept",
-        rust.pending_records().count()
-    );
-    let mut script = vec![line("f 10")];
-    script.extend(read(&alert));
-    add("an empty alert, then 15", rust, &script)?;
-
-    // An unopened record, then encryption on. The Rust stores it behind a plaintext one.
-    let mut stored = vec![22, 0xFE, 0xFD, 0, 0, 0, 0, 0, 0, 0, 0, 0, 0];
-    stored.extend_from_slice(&two);
-    let mut rust = engine();
-    probe::key_receive(&mut rust, 2, [0; 12]);
-    let outcome = rust.parse_packet(&stored);
-    let before = script::take_asked().0.is_some();
-    let on = rust.enable_peer_encryption();
-    let after = script::take_asked().0.is_some();
-    let rust = format!("{outcome:?}, mask asked {before}; then {on:?}, mask asked {after}");
-    let mut script = vec![line("f 10"), format!("k 0002{iv}")];
-    script.extend([
-        format!("b {}", hex(&stored)),
-        line("r "),
-        line("r "),
-        line("e "),
-    ]);
-    script.push(line("r "));
-    add(
-        "key 2; an empty handshake record, then 22 00 and 16 bytes; encryption on",
-        rust,
-        &script,
-    )?;
-    Ok(found)
 }
