@@ -1,2 +1,4 @@
 pub mod Written
 pub mod Marks
+pub mod Tracked
+pub mod Again
