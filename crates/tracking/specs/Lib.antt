@@ -2,3 +2,4 @@ pub mod Written
 pub mod Marks
 pub mod Tracked
 pub mod Again
+pub mod Numbers
