@@ -158,6 +158,12 @@ none-spent k f e =
 
 module _ (k : SendKeys) (e : ℕ) where
   -- a number used changes no epoch
+  pub used-epochs : (used k e .handshake .epoch ≡ k .handshake .epoch) × (used k e .application .epoch ≡ k .application .epoch)
+  unfolding used
+  used-epochs =
+      let P : SendKeys → Type 0 = λ l. (l .handshake .epoch ≡ k .handshake .epoch) × (l .application .epoch ≡ k .application .epoch) in
+      by-test P (λ a. (refl, refl)) (λ a. by-test P (λ b. (refl, refl)) (λ b. (refl, refl)))
+
   pub used-usable : (d : ℕ) → isUsable (used k e) d ≡ isUsable k d
   unfolding isUsable used choose
   used-usable d = test-cases (eqb e 0) (λ a. rw a) (λ a. test-cases (eqb e 2) (λ b. rw (a, b)) (λ b. rw (a, b)))

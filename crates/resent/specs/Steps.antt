@@ -26,7 +26,7 @@ use Rattle.flight.specs.declared.Flight.{Flight}
 use Rattle.flight.specs.Flight.{entryAt, noEntry}
 use Rattle.resend.specs.Tests.{joined, tailAfter, countAfter, closedState, closed-range, tail-next, count-next}
 use Rattle.resend.specs.Resend.{renewed, renewedIf, Laying, contentAt, sentAgain, againAnswer, againAt, againAfter}
-use Rattle.resent.specs.Plan.{Able, tail-grows, count-grows, oneIn, one-marked, one-own, none-spent, used-usable, used-keyed, used-count}
+use Rattle.resent.specs.Plan.{Able, tail-grows, count-grows, oneIn, one-marked, one-own, none-spent, used-epochs, used-usable, used-keyed, used-count}
 
 -- ---- one record
 
@@ -113,6 +113,8 @@ pub record Reached (s : Sending) (f : Flight) (n : ℕ) (l : Laying) : Type 0 wh
   pub tail : tailOf (l .state .queue) ≡ tailAfter (s .queue .mtu) (tailOf (closedState s .queue)) f n
   pub usable : (e : ℕ) → isUsable (l .state .keys) e ≡ isUsable (s .keys) e
   pub keyed : (e : ℕ) → isKeyed (l .state .keys) e ≡ isKeyed (s .keys) e
+  pub handshake : l .state .keys .handshake .epoch ≡ s .keys .handshake .epoch
+  pub application : l .state .keys .application .epoch ≡ s .keys .application .epoch
   pub next : (e : ℕ) → isUsable (s .keys) e ≡ true → nextOf (l .state .keys) e ≡ nextOf (s .keys) e + countAfter f e n
   pub saved : l .flight .saved ≡ f .saved
   pub later : (i : ℕ) → n ≤ i → entryAt (l .flight) i ≡ entryAt f i
@@ -129,6 +131,8 @@ reached-none s f q r t = record {
   tail = refl;
   usable = λ e. refl;
   keyed = λ e. refl;
+  handshake = refl;
+  application = refl;
   next = λ e u. omega arith;
   saved = refl;
   later = λ i h. refl;
@@ -147,6 +151,8 @@ skipped-reached s f n l m r = record {
   tail = r .tail ∙ sym (tail-next (s .queue .mtu) (tailOf (closedState s .queue)) f n ∙ if-true _ _ m);
   usable = r .usable;
   keyed = r .keyed;
+  handshake = r .handshake;
+  application = r .application;
   next = λ e u. omega (arith, r .next e u, count-next f e n, one-marked (entryAt f n) e m);
   saved = r .saved;
   later = λ i h. r .later i (omega arith);
@@ -279,6 +285,8 @@ module _ (s : Sending) (f : Flight) (kept q : List ℕ) (a : Able s f kept q) (n
     tail = tail-laid (r .ready .range) fits-here (r .tables .slots) ∙ ap (λ (p : Place). grown p (recordLen (x .epoch) (x .length))) spot-is ∙ sym joined-here;
     usable = λ e. used-usable (l .state .keys) (x .epoch) e ∙ r .usable e;
     keyed = λ e. used-keyed (l .state .keys) (x .epoch) e ∙ r .keyed e;
+    handshake = used-epochs (l .state .keys) (x .epoch) .0 ∙ r .handshake;
+    application = used-epochs (l .state .keys) (x .epoch) .1 ∙ r .application;
     next = λ e u.
         let one : oneIn x e ≡ choose (eqb (x .epoch) e) 1 0 = if-false _ _ fresh in
         omega (arith, used-count (l .state .keys) (x .epoch) e (r .usable (x .epoch) ∙ a .usable n below fresh) (r .usable e ∙ u), r .next e u, count-next f e n, one);

@@ -23,7 +23,7 @@ use Rattle.resend.specs.declared.ResendAnswer.{ResendAnswer}
 use Rattle.resend.specs.Tests.{isDone, remembers, hasRoom, tailAfter, countAfter, closedState, resendAnswer, count-next}
 use Rattle.resend.specs.Resend.{withNumber, canRemember, renewed, Laying, contentAt, againAnswer, againAfter, resendState, resendQueue, again-next}
 use Rattle.resent.specs.Plan.{Able, able, count-grows, one-own}
-use Rattle.resent.specs.Steps.{Tables, Reached, beginning, reached, keptContent, numberAgain, again-skips, content-kept, again-done, again-behind, kept-long, renewed-other, reaches}
+use Rattle.resent.specs.Steps.{Tables, Reached, beginning, reached, keptContent, numberAgain, again-skips, content-kept, again-done, again-behind, kept-long, under-top, renewed-other, reaches}
 
 -- ---- the call
 
@@ -52,6 +52,8 @@ pub record Whole (s : Sending) (f : Flight) (kept q : List ℕ) : Type 0 where
   pub still : (i : ℕ) → i < f .saved → entryAt (reached s f kept q i .flight) i ≡ entryAt f i
   pub content : (i : ℕ) → i < f .saved → entryAt f i .marked ≡ false → contentAt kept i (reached s f kept q i) ≡ keptContent (s .queue .mtu) f kept i
   pub number : (i : ℕ) → i < f .saved → entryAt f i .marked ≡ false → nextOf (reached s f kept q i .state .keys) (entryAt f i .epoch) ≡ numberAgain s f i
+  pub usable : (i : ℕ) → i < f .saved → entryAt f i .marked ≡ false → isUsable (s .keys) (entryAt f i .epoch) ≡ true
+  pub low : (i : ℕ) → i < f .saved → entryAt f i .marked ≡ false → numberAgain s f i < 281474976710655
   pub long : (i : ℕ) → i < f .saved → entryAt f i .marked ≡ false → length (keptContent (s .queue .mtu) f kept i) ≡ entryAt f i .length
   pub laid-state : (i : ℕ) → i < f .saved → entryAt f i .marked ≡ false
       → reached s f kept q (i + 1) .state ≡ laidState (reached s f kept q i .state) (entryAt f i .epoch) (entryAt f i .length)
@@ -75,6 +77,9 @@ pub record Whole (s : Sending) (f : Flight) (kept q : List ℕ) : Type 0 where
   -- the queue's end and the next numbers are as they were planned
   pub tail : tailOf (leftState s f kept q .state .queue) ≡ tailAfter (s .queue .mtu) (tailOf (closedState s .queue)) f (f .saved)
   pub next : (e : ℕ) → isUsable (s .keys) e ≡ true → nextOf (leftState s f kept q .state .keys) e ≡ nextOf (s .keys) e + countAfter f e (f .saved)
+  -- no epoch is keyed or replaced
+  pub handshake : leftState s f kept q .state .keys .handshake .epoch ≡ s .keys .handshake .epoch
+  pub application : leftState s f kept q .state .keys .application .epoch ≡ s .keys .application .epoch
   -- the datagram is closed exactly if nothing was sent
   pub opened : (i : ℕ) → i < f .saved → entryAt f i .marked ≡ false → leftState s f kept q .state .queue .closed ≡ false
   pub closed : ((i : ℕ) → i < f .saved → entryAt f i .marked ≡ true) → leftState s f kept q .state .queue .closed ≡ true
@@ -287,6 +292,8 @@ module _ (s : Sending) (f : Flight) (kept q : List ℕ) (t : Tables s f) (d : is
     still = still s f kept q a t;
     content = λ i h m. content-kept s f kept q a i h m (reached s f kept q i) (reaches s f kept q a t i (omega arith));
     number = λ i h m. reaches s f kept q a t i (omega arith) .next (entryAt f i .epoch) (a .usable i h m);
+    usable = a .usable;
+    low = λ i h m. under-top s f kept q a i h m (reached s f kept q i) (reaches s f kept q a t i (omega arith));
     long = λ i h m. kept-long s f kept q a i h m (reached s f kept q i) (reaches s f kept q a t i (omega arith));
     laid-state = λ i h m. ap (λ (l : Laying). l .state) (behind-sent s f kept q a t i h m);
     laid-queue = λ i h m. ap (λ (l : Laying). l .queue) (behind-sent s f kept q a t i h m);
@@ -305,6 +312,8 @@ module _ (s : Sending) (f : Flight) (kept q : List ℕ) (t : Tables s f) (d : is
     };
     tail = ap (λ (u : Sending). tailOf (u .queue)) state-is ∙ end .tail;
     next = λ e u. ap (λ (v : Sending). nextOf (v .keys) e) state-is ∙ end .next e u;
+    handshake = ap (λ (u : Sending). u .keys .handshake .epoch) state-is ∙ end .handshake;
+    application = ap (λ (u : Sending). u .keys .application .epoch) state-is ∙ end .application;
     opened = λ i h m. ap (λ (u : Sending). u .queue .closed) state-is ∙ each-open s f kept q a t n (omega arith) i h m;
     closed = λ all. ap (λ (u : Sending). u .queue .closed) state-is ∙ all-closed s f kept q a t all n (omega arith);
     mtu = ap (λ (u : Sending). u .queue .mtu) state-is ∙ end .mtu;
@@ -313,12 +322,12 @@ module _ (s : Sending) (f : Flight) (kept q : List ℕ) (t : Tables s f) (d : is
     message = ap (λ (u : Sending). u .«message_seq») state-is ∙ end .message;
   }
 
-  -- "sends the rest under new numbers": no two records of an epoch under the same
-  pub numbers-apart : (i j : ℕ) → i < j → j ≤ f .saved → entryAt f i .marked ≡ false → entryAt f i .epoch ≡ entryAt f j .epoch → numberAgain s f i < numberAgain s f j
-  numbers-apart i j l h m same =
-      let e : ℕ = entryAt f i .epoch in
-      let one : countAfter f e (i + 1) ≡ countAfter f e i + 1 = count-next f e i ∙ ap (λ (k : ℕ). countAfter f e i + k) (one-own (entryAt f i) m) in
-      subst (λ (d : ℕ). numberAgain s f i < nextOf (s .keys) d + countAfter f d j) same (omega (arith, one, count-grows f e (i + 1) j (omega arith)))
+-- "sends the rest under new numbers": no two records of an epoch under the same
+pub numbers-apart : (s : Sending) (f : Flight) (i j : ℕ) → i < j → entryAt f i .marked ≡ false → entryAt f i .epoch ≡ entryAt f j .epoch → numberAgain s f i < numberAgain s f j
+numbers-apart s f i j l m same =
+    let e : ℕ = entryAt f i .epoch in
+    let one : countAfter f e (i + 1) ≡ countAfter f e i + 1 = count-next f e i ∙ ap (λ (k : ℕ). countAfter f e i + k) (one-own (entryAt f i) m) in
+    subst (λ (d : ℕ). numberAgain s f i < nextOf (s .keys) d + countAfter f d j) same (omega (arith, one, count-grows f e (i + 1) j (omega arith)))
 
 -- ---- or not at all
 

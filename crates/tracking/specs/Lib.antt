@@ -1,2 +1,5 @@
 pub mod Written
 pub mod Marks
+pub mod Tracked
+pub mod Again
+pub mod Numbers
