@@ -77,6 +77,9 @@ pub fn run(history: &History) -> Run {
             }
         }
     }
+    if history.between != 0 {
+        run.lines = between::add(run.lines, history.between);
+    }
     run
 }
 
