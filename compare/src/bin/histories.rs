@@ -10,7 +10,7 @@ use std::{env, io};
 use dimpl::beside::{self, Batch};
 use dimpl::dice::Dice;
 use dimpl::histories::generate::random;
-use dimpl::histories::{History, Step, limits, reference};
+use dimpl::histories::{History, Step, between, limits, reference};
 
 fn fails(program: &str, history: &History) -> io::Result<bool> {
     beside::fails(program, &reference::run(history).lines)
@@ -124,6 +124,7 @@ fn compare(program: &str, count: u64, seed: u64) -> io::Result<bool> {
     // Each history has its own random numbers.
     histories.extend((0..count).map(|i| random(&mut Dice::new(seed << 32 ^ i))));
     let (mut steps, mut kinds, mut reasons, mut refusals) = (0, [0; 10], [0; 12], [0; 24]);
+    let mut early = 0;
     let mut batch = Batch::default();
     let mut failed = None;
     let total = histories.len();
@@ -139,6 +140,7 @@ fn compare(program: &str, count: u64, seed: u64) -> io::Result<bool> {
         for line in &run.lines {
             refusals[line.refusal()] += 1;
         }
+        early += between::at_questions(&run.lines);
         failed = batch.add(program, history, run.lines)?;
         if failed.is_some() {
             break;
@@ -172,6 +174,7 @@ fn compare(program: &str, count: u64, seed: u64) -> io::Result<bool> {
     for (reason, n) in reasons.iter().enumerate().skip(4) {
         println!("  dropped by {reason:<7} {n:>9}");
     }
+    println!("  keyed, removed or released while a question waits {early:>9}");
     for refusal in [1, 13, 15, 23] {
         println!("  refused by {refusal:<7} {:>9}", refusals[refusal]);
     }

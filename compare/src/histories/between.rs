@@ -1,6 +1,9 @@
-//! Calls that change nothing, put between the lines of a history: 01 refuses them by 1, 13, 15 or
+//! Calls between a question and its reply, which the Rust cannot make.
+//!
+//! Calls that change nothing are put between the lines of a history: 01 refuses them by 1, 13, 15 or
 //! 23, they ask for the waiting question again, or do what is done already. The Rust is not asked;
-//! what follows must be as if they had not been made.
+//! what follows must be as if they had not been made. Calls that key, remove or release are moved
+//! from behind a datagram to the last question of it, where they must do the same.
 
 use super::*;
 use crate::beside::script;
@@ -99,9 +102,54 @@ impl State {
     }
 }
 
+fn kind(line: &Line) -> u8 {
+    number(&line.answered, 2, 2) as u8
+}
+
+/// The last question of the datagram that ends the lines, if nothing is read behind its replies.
+fn last_question(lines: &[Line]) -> Option<usize> {
+    let asks = |line: &Line| matches!(kind(line), MASK | OPENING);
+    let letter = |line: &Line| line.asked.as_bytes()[0];
+    let begun = lines.iter().rposition(|line| letter(line) == b'b')?;
+    let last = begun + lines[begun..].iter().rposition(asks)?;
+    let quiet = |line: &Line| letter(line) != b'r' || kind(line) == END;
+    lines[last + 1..].iter().all(quiet).then_some(last)
+}
+
+/// The lines with calls moved from behind a datagram to its last question.
+fn moved(lines: Vec<Line>, dice: &mut Dice) -> Vec<Line> {
+    let mut all: Vec<Line> = Vec::new();
+    // The question of the datagram just read, and how many calls are moved there.
+    let mut place = None;
+    for line in lines {
+        let letter = line.asked.as_bytes()[0];
+        let moves = match (letter, place) {
+            (b'k' | b'l', Some(_)) => true,
+            (b'x', Some((at, _))) => {
+                let asked: &Line = &all[at];
+                number(&line.asked, 0, 4) != number(&asked.answered, 6, 4)
+            }
+            _ => false,
+        };
+        if moves && dice.once_in(2) {
+            let (at, count) = place.unwrap();
+            all.insert(at + 1 + count, line);
+            place = Some((at, count + 1));
+            continue;
+        }
+        all.push(line);
+        place = match letter {
+            b'd' => last_question(&all).map(|at| (at, 0)),
+            _ => None,
+        };
+    }
+    all
+}
+
 /// The lines with such calls between them.
 pub fn add(lines: Vec<Line>, seed: u64) -> Vec<Line> {
     let mut dice = Dice::new(seed);
+    let lines = moved(lines, &mut dice);
     let mut room = script(&lines).len() < 15_000;
     let mut state = State::default();
     let mut all = Vec::new();
@@ -117,4 +165,18 @@ pub fn add(lines: Vec<Line>, seed: u64) -> Vec<Line> {
         }
     }
     all
+}
+
+/// How many calls key, remove or release while a question waits.
+pub fn at_questions(lines: &[Line]) -> usize {
+    let mut state = State::default();
+    let mut count = 0;
+    for line in lines {
+        let changes = matches!(line.asked.as_bytes()[0], b'k' | b'x' | b'l');
+        count += (changes && line.refusal() == 0 && state.question.is_some()) as usize;
+        if line.refusal() == 0 || !changes {
+            state.follow(line);
+        }
+    }
+    count
 }
