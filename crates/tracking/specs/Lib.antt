@@ -3,3 +3,4 @@ pub mod Marks
 pub mod Tracked
 pub mod Again
 pub mod Numbers
+pub mod Account
