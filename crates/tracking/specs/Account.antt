@@ -162,7 +162,7 @@ module _ (s : Sending) (f : Flight) (q m : List ℕ) (c : Account) (g : Agrees s
 
 -- ---- a message
 
-piece-agrees : (kind : ℕ) (body : List ℕ) (at n : ℕ) (s : Sending) (f : Flight) (q m : List ℕ) (c : Account) → at + n ≤ length body → Agrees s f m c
+pub piece-agrees : (kind : ℕ) (body : List ℕ) (at n : ℕ) (s : Sending) (f : Flight) (q m : List ℕ) (c : Account) → at + n ≤ length body → Agrees s f m c
     → Agrees (pieceOf kind body at n s f q m .saved .state) (pieceOf kind body at n s f q m .saved .flight) (pieceOf kind body at n s f q m .kept)
     (accountSave (saveAnswer s f (length q) (length m) (epochOf kind) 22 (12 + n)) s (epochOf kind) 22 (contentOf kind (s .«message_seq») body at n) c)
 unfolding pieceOf
@@ -339,7 +339,7 @@ run-agrees : (w : End) (cs : List Call) (c : Account) (ds : List (List Queued)) 
 run-agrees w [] c ds n h g = g
 run-agrees w (a ∷ cs) c ds n h g = run-agrees (does w a) cs (account w a c) (after w a ds) (n .1) (call-holds w a ds (n .0) h) (call-agrees w a c (h .table) g)
 
-fresh-agrees : (mtu limit : ℕ) (kept : List ℕ) → 12 * mtu ≤ length kept → Agrees (freshSending mtu limit) freshFlight kept noAccount
+pub fresh-agrees : (mtu limit : ℕ) (kept : List ℕ) → 12 * mtu ≤ length kept → Agrees (freshSending mtu limit) freshFlight kept noAccount
 unfolding freshSending freshFlight
 fresh-agrees mtu limit kept h = record {
   numbers = fresh-numbers;

@@ -4,3 +4,4 @@ pub mod Tracked
 pub mod Again
 pub mod Numbers
 pub mod Account
+pub mod Heard
