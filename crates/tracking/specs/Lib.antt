@@ -5,3 +5,4 @@ pub mod Again
 pub mod Numbers
 pub mod Account
 pub mod Heard
+pub mod Laid
