@@ -216,3 +216,19 @@ unfolding acked
 acts f d h =
     subst (λ (a : Acked). (a .answer ≡ Done) × Acting f d (a .flight)) (sym (if-false _ _ (le-ltb 12 (f .saved) h)))
     (refl, by-test (Acting f d) (λ y. formed y (emptied-left (marked f d))) (λ y. unformed y refl))
+
+-- behind an ACK's marking, the i-th saved record is marked exactly if it was, or a pair has its epoch and one of its numbers
+module _ (f : Flight) (d : List ℕ) (i : ℕ) (below : i < f .saved) (long : f .saved ≤ length (f .entries)) (few : entryAt f i .remembered ≤ 32) where
+  mark-is : entryAt (marked f d) i .marked ≡ isAcked d (pairsIn d) (f .numbers) i (entryAt f i)
+  unfolding withMark
+  mark-is = ap (λ (e : Entry). e .marked) (marks-entry d (pairsIn d) f (f .saved) i below long)
+
+  pub marked-only : entryAt (marked f d) i .marked ≡ true → (entryAt f i .marked ≡ true) ⊎ Names d f i
+  marked-only y = acked-names d f i few (sym mark-is ∙ y)
+
+  pub marked-if : (entryAt f i .marked ≡ true) ⊎ Names d f i → entryAt (marked f d) i .marked ≡ true
+  marked-if o = mark-is ∙ names-acked d f i few o
+
+  -- and has all else as before
+  pub marked-else : entryAt (marked f d) i ≡ withMark (entryAt f i) (entryAt (marked f d) i .marked)
+  marked-else = marks-entry d (pairsIn d) f (f .saved) i below long ∙ ap (λ (y : Bool). withMark (entryAt f i) y) (sym mark-is)
