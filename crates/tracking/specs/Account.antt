@@ -1,5 +1,6 @@
 -- An account of what was sent and of the saved records, written from the calls' arguments and answers; from the state only the next numbers,
--- and which records a resend passes over. It agrees with the flight behind every list of calls. Assumes nothing.
+-- which records a resend passes over, and whether an ACK emptied the flight. It agrees with the flight behind every list of calls. Assumes
+-- nothing.
 use mathlib.Core.Bool.{Bool, true, false}
 use mathlib.Core.List.{List, [], _∷_, _++_, List·Memᴰ·head as here, List·Memᴰ·tail as there}
 use mathlib.Core.Path.{_≡_, refl, sym, subst}
