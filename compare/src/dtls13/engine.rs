@@ -82,4 +82,9 @@ pub mod probe {
             _ => None,
         }
     }
+
+    /// The transcript emptied, which no part of the record layer reads.
+    pub fn forget_transcript(engine: &mut Engine) {
+        engine.transcript.clear();
+    }
 }
