@@ -4,6 +4,7 @@ use std::hint::black_box;
 use std::sync::Arc;
 
 use arrayvec::ArrayVec;
+use dimpl::buffer::Buf;
 use dimpl::crypto::null;
 use dimpl::dtls13::engine::{self, Engine};
 use dimpl::dtls13::incoming::{self, Record, RecordHandler};
@@ -145,16 +146,21 @@ fn send_rattle(n: usize, count: u32) -> f64 {
     })
 }
 
-/// Seals and takes all that is queued; how many datagrams there were.
-unsafe fn take_all(s: &mut LinkSending, queue: &mut [u8], out: &mut [u8]) -> usize {
+/// Seals all that waits, as the cipher that does nothing does: a tag of 16 zeros.
+fn seal_all(s: &mut LinkSending, queue: &mut [u8]) {
     loop {
         let ask = link_sealing(s);
         if ask.kind != 2 {
-            break;
+            return;
         }
         queue[ask.start + ask.length - 16..ask.start + ask.length].fill(0);
         unsafe { link_sealed(s, ask.length, 0, 0, queue.as_mut_ptr(), queue.len()) };
     }
+}
+
+/// Seals and takes all that is queued; how many datagrams there were.
+unsafe fn take_all(s: &mut LinkSending, queue: &mut [u8], out: &mut [u8]) -> usize {
+    seal_all(s, queue);
     for n in 0.. {
         let taken = unsafe { link_take(s, out.as_mut_ptr(), out.len(), queue.as_ptr(), queue.len()) };
         if taken.kind != 2 {
@@ -246,7 +252,50 @@ fn compare(
     );
 }
 
+/// Before anything is timed: both sides send the same bytes, a record of each size and a message.
+fn agree() {
+    let mut engine = engine(1500);
+    let mut s = [0; 59];
+    link_sending(&mut s, 1500, 16);
+    link_key_send(&mut s, 2, &IV);
+    link_key_send(&mut s, 3, &IV);
+    let (mut f, mut numbers) = ([0; 73], [0; 384]);
+    link_flight(&mut f, &mut numbers);
+    let (mut queue, mut kept) = (vec![0xAA; 16 * 1500], vec![0; 12 * 1500]);
+    let body: Vec<u8> = (0..16384u32).map(|i| (i * 7 % 251) as u8).collect();
+    for n in [0, 1, 16, 200, 1200, 1478, 16384] {
+        let content = &body[..n];
+        let (q, q_len) = (queue.as_mut_ptr(), queue.len());
+        let sent = if n < 16384 {
+            let put = |fragment: &mut Buf| fragment.extend_from_slice(content);
+            engine.create_ciphertext_record(ContentType::ApplicationData, 3, false, put).unwrap();
+            unsafe { link_send(&mut s, 3, 23, content.as_ptr(), n, q, q_len) }
+        } else {
+            let put = |buffer: &mut Buf, _: &mut Engine| {
+                buffer.extend_from_slice(content);
+                Ok(())
+            };
+            engine.create_handshake(MessageType::Certificate, put).unwrap();
+            let (k, k_len) = (kept.as_mut_ptr(), kept.len());
+            unsafe {
+                link_create_handshake(
+                    &mut s, &mut f, &mut numbers, 11, content.as_ptr(), n, q, q_len, k, k_len,
+                )
+            }
+        };
+        assert!(sent == 0, "{n} bytes are refused by {sent}");
+        seal_all(&mut s, &mut queue);
+        let (mut a, mut b) = ([0; 1500], [0; 1500]);
+        while let Some(len) = engine::probe::take(&mut engine, &mut a) {
+            let (out, q) = (b.as_mut_ptr(), queue.as_ptr());
+            let taken = unsafe { link_take(&mut s, out, b.len(), q, queue.len()) };
+            assert!(taken.kind == 2 && a[..len] == b[..taken.length], "{n} bytes are sent otherwise");
+        }
+    }
+}
+
 fn main() {
+    agree();
     let runs = std::env::args().nth(1).and_then(|x| x.parse().ok()).unwrap_or(7);
     for n in [16, 200, 1200] {
         let what = format!("read a record of {n}");
