@@ -1,4 +1,4 @@
-//! Links the driver with the static library of the Rattle crate `leaves`, and the timer with those of `link` and `link_sending`.
+//! Links the driver with the static library of the Rattle crate `leaves`, and the timer with those of `link`, `link_sending` and `link_flight`.
 
 use std::env;
 
@@ -10,7 +10,11 @@ fn main() {
     println!("cargo:rustc-link-arg-bin=compare={lib}");
     println!("cargo:rerun-if-changed={lib}");
     println!("cargo:rerun-if-env-changed=LEAVES_LIB");
-    for (name, variable) in [("link", "LINK_LIB"), ("link_sending", "LINK_SENDING_LIB")] {
+    for (name, variable) in [
+        ("link", "LINK_LIB"),
+        ("link_sending", "LINK_SENDING_LIB"),
+        ("link_flight", "LINK_FLIGHT_LIB"),
+    ] {
         let link = env::var(variable).unwrap_or_else(|_| {
             let root = env::var("CARGO_MANIFEST_DIR").unwrap();
             format!("{root}/../target/staticlib/lib{name}.a")

@@ -190,4 +190,9 @@ pub mod probe {
         engine.enable_peer_encryption().unwrap();
         engine.release_application_data_retaining_handshake_keys();
     }
+
+    /// The transcript emptied, which no part of the record layer reads.
+    pub fn forget_transcript(engine: &mut Engine) {
+        engine.transcript.clear();
+    }
 }

@@ -3,11 +3,15 @@ use mathlib.Core.Bool.{Bool, true, false}
 use mathlib.Core.List.{List}
 use mathlib.Core.Path.{_≡_, refl, sym, ap, subst, _∙_}
 use Prim.Native.Nat.{ℕ, _<_}
-use lib.Dec.{leb}
+use lib.Dec.{leb, eqb}
 use lib.ListN.{length, getD}
 use Rattle.base.specs.Choose.{choose, both, if-true, if-false, both-true, both-false}
 use Rattle.datagram.specs.declared.Datagram.{Datagram}
+use Rattle.base.specs.Parts.{part}
+use Rattle.datagram.specs.declared.Reading.the-variants as says
+use Rattle.datagram.specs.declared.Reading.{Reading}
 use Rattle.datagram.specs.declared.Step.{Step}
+use Rattle.opening_reply.specs.Opening.{shownBy}
 use Rattle.recv_keys.specs.Keys.{noEntry, marked, fresh}
 use Rattle.datagram.specs.Datagram.{begun}
 use Rattle.link_words.specs.Entries.{freshWords, starts}
@@ -81,3 +85,20 @@ starts-as min w a k e q =
 
 pub kept-by : (a : Answer) (v w : List ℕ) (k j : Kept) → k ≡ j → Kept-as a v w j → Kept-as a v w k
 kept-by a v w k j e h = subst (Kept-as a v w) (sym e) h
+
+-- ---- the bytes that a reading shows: from start on, length of them, or header_len for an opening question
+
+pub shows : (r : Reading) (v d : List ℕ)
+    → part (flatReading r v .start) (choose (eqb (flatReading r v .kind) 7) (flatReading r v .«header_len») (flatReading r v .length)) d ≡ shownBy r d
+unfolding choose
+shows says.Setting v d = refl
+shows says.Reply v d = refl
+shows says.End v d = refl
+shows says.Incomplete v d = refl
+shows says.TooMany v d = refl
+shows (says.Dropped r) v d = refl
+shows (says.Plaintext t n s l) v d = refl
+shows (says.Unopened b n s l) v d = refl
+shows (says.Opened e n t s l) v d = refl
+shows (says.Mask e s) v d = refl
+shows (says.Opening e n s h l) v d = refl

@@ -5,7 +5,7 @@ use mathlib.Core.List.{List, [], _∷_}
 use mathlib.Core.Path.{_≡_, refl, sym, ap, _∙_}
 use Prim.Native.Nat.{ℕ}
 use lib.ListN.{replicate}
-use Rattle.base.specs.Choose.{choose, if-true}
+use Rattle.base.specs.Choose.{choose, if-true, by-test}
 use Rattle.send_keys.specs.Keys as keying
 use Rattle.outgoing.specs.State.{refusal}
 use Rattle.outgoing.specs.declared.Sending.{Sending}
@@ -21,6 +21,15 @@ use Rattle.taking.specs.declared.TakeAnswer.{TakeAnswer}
 use Rattle.taking.specs.declared.TakeAnswer.the-variants as take
 use Rattle.send_words.specs.Words.{stateOf, isFlat}
 use Rattle.send_words.specs.Laws.{Kept}
+use Rattle.send_words.specs.Partly.{Partly, movedFrom, sentFrom}
+use Rattle.queue.specs.Queue.{laid}
+use Rattle.queue.specs.declared.Queue.{Queue}
+use Rattle.send_keys.specs.declared.SendKeys.{SendKeys}
+use Rattle.outgoing.specs.declared.Waiting.{Waiting}
+use Rattle.outgoing.specs.declared.SendAnswer.{SendAnswer}
+use Rattle.outgoing.specs.Send.{sendState, laidState}
+use Rattle.sealing.specs.Take as takes
+use Rattle.sealing.specs.declared.SealAnswer.{SealAnswer}
 use Rattle.link_sending.specs.declared.LinkSealing.{LinkSealing}
 use Rattle.link_sending.specs.declared.LinkTake.{LinkTake}
 
@@ -75,3 +84,33 @@ Taken r v w k = (r ≡ choose (isFlat w) (flatTake (k .answer)) (noTake 0 12 0))
 -- a state written is the state behind the call
 pub after : (v w : List ℕ) (x s : Sending) → isFlat w ≡ true → Kept x v → x ≡ s → After v w s
 after v w x s f k e = (k .0 ∙ e ∙ sym (if-true _ _ f), k .1 ∙ sym f)
+
+-- ---- a state written in part
+
+pub after-moved : (v w : List ℕ) (x s : Sending) → isFlat w ≡ true → Partly (movedFrom (stateOf w) x) w v → x ≡ s → movedFrom (stateOf w) s ≡ s → After v w s
+after-moved v w x s f p e q = (p .0 ∙ ap (movedFrom (stateOf w)) e ∙ q ∙ sym (if-true _ _ f), p .1 f ∙ sym f)
+
+pub after-sent : (v w : List ℕ) (x s : Sending) → isFlat w ≡ true → Partly (sentFrom (stateOf w) x) w v → x ≡ s → sentFrom (stateOf w) s ≡ s → After v w s
+after-sent v w x s f p e q = (p .0 ∙ ap (sentFrom (stateOf w)) e ∙ q ∙ sym (if-true _ _ f), p .1 f ∙ sym f)
+
+-- a take changes nothing else
+pub take-moves : (a : TakeAnswer) (s : Sending) → movedFrom s (takes.takeState a s .state) ≡ takes.takeState a s .state
+unfolding takes.takeState
+take-moves a s = by-test (λ (t : Sending). movedFrom s t ≡ t) (λ e. refl) (λ e. refl)
+
+-- nor does a sealing
+pub sealed-moves : (a : SealAnswer) (s : Sending) (q : List ℕ) → movedFrom s (sealings.sealedState a s q .state) ≡ sealings.sealedState a s q .state
+unfolding sealings.sealedState keying.sealedUpTo
+sealed-moves a s q =
+    by-test (λ (t : Sending). movedFrom s t ≡ t)
+    (λ e. by-test (λ (k : SendKeys). movedFrom s (record { queue = s .queue; waiting = sealings.afterSealing s q .waiting; keys = k; «message_seq» = s .«message_seq» }) ≡ record { queue = s .queue; waiting = sealings.afterSealing s q .waiting; keys = k; «message_seq» = s .«message_seq» }) (λ f. refl) (λ f. refl))
+    (λ e. refl)
+
+-- nor does sending a record, beyond what it sends
+pub send-sents : (a : SendAnswer) (s : Sending) (e n : ℕ) → sentFrom s (sendState a s e n .state) ≡ sendState a s e n .state
+unfolding sendState laidState laid keying.used
+send-sents a s e n =
+    by-test (λ (t : Sending). sentFrom s t ≡ t)
+    (λ f. by-test (λ (k : SendKeys). sentFrom s (record { queue = laidState s e n .queue; waiting = laidState s e n .waiting; keys = k; «message_seq» = s .«message_seq» }) ≡ record { queue = laidState s e n .queue; waiting = laidState s e n .waiting; keys = k; «message_seq» = s .«message_seq» }) (λ g. refl)
+    (λ g. by-test (λ (k : SendKeys). sentFrom s (record { queue = laidState s e n .queue; waiting = laidState s e n .waiting; keys = k; «message_seq» = s .«message_seq» }) ≡ record { queue = laidState s e n .queue; waiting = laidState s e n .waiting; keys = k; «message_seq» = s .«message_seq» }) (λ h. refl) (λ h. refl)))
+    (λ f. refl)

@@ -197,7 +197,7 @@ pub extern "C" fn link_send(
         let s = send_words::load(w);
         let k = s.send(epoch, content_type, content, queue);
         let a = k.answer;
-        send_words::save(w, k.state);
+        send_words::save_sent(w, k.state);
         return answer_of(a);
     }
     12
@@ -233,7 +233,7 @@ pub extern "C" fn link_sealed(
     if send_words::is_flat(w) {
         let k = sealing::sealed(send_words::load(w), length, [mask_0, mask_1], queue);
         let a = k.answer;
-        send_words::save(w, k.state);
+        send_words::save_moved(w, k.state);
         return seal_answer_of(a);
     }
     12
@@ -248,7 +248,7 @@ pub extern "C" fn link_take(w: &mut [u64; 59], buffer: &mut [u8], queue: &[u8]) 
     if send_words::is_flat(w) {
         let k = taking::poll_packet_tx(send_words::load(w), buffer, queue);
         let a = k.answer;
-        send_words::save(w, k.state);
+        send_words::save_moved(w, k.state);
         return flat_take(a);
     }
     no_take(0, 12, 0)

@@ -21,27 +21,27 @@ pub cast-bit : (b : Bool) → boolByte b ≡ bitOf b
 cast-bit true = refl
 cast-bit false = refl
 
-back : (s : Bool) → eqb (bitOf s) 1 ≡ s
+pub back : (s : Bool) → eqb (bitOf s) 1 ≡ s
 back true = refl
 back false = refl
 
-low-bit : (s : Bool) → leb (bitOf s) 1 ≡ true
+pub low-bit : (s : Bool) → leb (bitOf s) 1 ≡ true
 low-bit true = refl
 low-bit false = refl
 
 byte-low : {x : ℕ} → x ≤ 255 → x % 256 ≡ x
 byte-low h = omega arith
 
-word-low : {x : ℕ} → x ≤ 65535 → x % 65536 ≡ x
+pub word-low : {x : ℕ} → x ≤ 65535 → x % 65536 ≡ x
 word-low h = omega arith
 
-abbrev lens : List ℕ → List ℕ
+abbrev pub lens : List ℕ → List ℕ
 lens l = (getD l 0 0 % 65536) ∷ (getD l 1 0 % 65536) ∷ (getD l 2 0 % 65536) ∷ (getD l 3 0 % 65536) ∷ (getD l 4 0 % 65536) ∷ (getD l 5 0 % 65536) ∷ (getD l 6 0 % 65536) ∷ (getD l 7 0 % 65536) ∷ (getD l 8 0 % 65536) ∷ (getD l 9 0 % 65536) ∷ (getD l 10 0 % 65536) ∷ (getD l 11 0 % 65536) ∷ (getD l 12 0 % 65536) ∷ (getD l 13 0 % 65536) ∷ (getD l 14 0 % 65536) ∷ (getD l 15 0 % 65536) ∷ []
 
 abbrev bytes : List ℕ → List ℕ
 bytes l = (getD l 0 0 % 256) ∷ (getD l 1 0 % 256) ∷ (getD l 2 0 % 256) ∷ (getD l 3 0 % 256) ∷ (getD l 4 0 % 256) ∷ (getD l 5 0 % 256) ∷ (getD l 6 0 % 256) ∷ (getD l 7 0 % 256) ∷ (getD l 8 0 % 256) ∷ (getD l 9 0 % 256) ∷ (getD l 10 0 % 256) ∷ (getD l 11 0 % 256) ∷ []
 
-lens-back : (l : List ℕ) → LowLengths l → lens l ≡ l
+pub lens-back : (l : List ℕ) → LowLengths l → lens l ≡ l
 unfolding firstOf
 lens-back l b =
     subst (λ (v : List ℕ). LowLengths v → lens v ≡ v) (sym (whole l 16 (b .0)))
@@ -53,7 +53,7 @@ bytes-back l b =
     subst (λ (v : List ℕ). LowIv v → bytes v ≡ v) (sym (whole l 12 (b .0)))
     (λ x. rw (byte-low (x .1), byte-low (x .2), byte-low (x .3), byte-low (x .4), byte-low (x .5), byte-low (x .6), byte-low (x .7), byte-low (x .8), byte-low (x .9), byte-low (x .10), byte-low (x .11), byte-low (x .12))) b
 
-by-words : (P : List ℕ → Type 0) (w : List ℕ) → length w ≡ 59 → P (firstOf 59 w) → P w
+pub by-words : (P : List ℕ → Type 0) (w : List ℕ) → length w ≡ 59 → P (firstOf 59 w) → P w
 by-words P w h p = subst P (sym (whole w 59 h)) p
 
 -- what a state's fields are within their types

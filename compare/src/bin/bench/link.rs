@@ -2,6 +2,8 @@
 
 pub type LinkReceiving = [u64; 89];
 pub type LinkSending = [u64; 59];
+pub type LinkFlight = [u64; 73];
+pub type LinkNumbers = [u64; 384];
 
 #[repr(C)]
 pub struct LinkReading {
@@ -77,4 +79,18 @@ unsafe extern "C" {
         queue: *const u8,
         queue_len: usize,
     ) -> LinkTake;
+    pub safe fn link_flight(f: &mut LinkFlight, numbers: &mut LinkNumbers);
+    pub safe fn link_begin_flight(f: &mut LinkFlight) -> u8;
+    pub fn link_create_handshake(
+        s: &mut LinkSending,
+        f: &mut LinkFlight,
+        numbers: &mut LinkNumbers,
+        kind: u8,
+        body: *const u8,
+        body_len: usize,
+        queue: *mut u8,
+        queue_len: usize,
+        kept: *mut u8,
+        kept_len: usize,
+    ) -> u8;
 }

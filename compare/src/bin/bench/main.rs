@@ -4,9 +4,11 @@ use std::hint::black_box;
 use std::sync::Arc;
 
 use arrayvec::ArrayVec;
+use dimpl::buffer::Buf;
 use dimpl::crypto::null;
 use dimpl::dtls13::engine::{self, Engine};
 use dimpl::dtls13::incoming::{self, Record, RecordHandler};
+use dimpl::dtls13::message::MessageType;
 use dimpl::types::{ContentType, Dtls13CipherSuite};
 use dimpl::{Config, DtlsCertificate};
 
@@ -144,17 +146,104 @@ fn send_rattle(n: usize, count: u32) -> f64 {
     })
 }
 
-fn compare(what: &str, runs: u32, rust: impl Fn() -> f64, rattle: impl Fn() -> f64) {
+/// Seals all that waits, as the cipher that does nothing does: a tag of 16 zeros.
+fn seal_all(s: &mut LinkSending, queue: &mut [u8]) {
+    loop {
+        let ask = link_sealing(s);
+        if ask.kind != 2 {
+            return;
+        }
+        queue[ask.start + ask.length - 16..ask.start + ask.length].fill(0);
+        unsafe { link_sealed(s, ask.length, 0, 0, queue.as_mut_ptr(), queue.len()) };
+    }
+}
+
+/// Seals and takes all that is queued; how many datagrams there were.
+unsafe fn take_all(s: &mut LinkSending, queue: &mut [u8], out: &mut [u8]) -> usize {
+    seal_all(s, queue);
+    for n in 0.. {
+        let taken = unsafe { link_take(s, out.as_mut_ptr(), out.len(), queue.as_ptr(), queue.len()) };
+        if taken.kind != 2 {
+            return n;
+        }
+        black_box(&out[..taken.length]);
+    }
+    unreachable!()
+}
+
+/// A message of 16,384 bytes, type 11, at MTU 1,500: 12 records.
+fn message_rust(count: u32) -> f64 {
+    let mut engine = engine(1500);
+    let body = vec![0x55; 16384];
+    let mut out = [0; 1500];
+    time(count, |_| {
+        engine.flight_begin(1);
+        engine::probe::forget_transcript(&mut engine);
+        let body = black_box(&body);
+        engine
+            .create_handshake(MessageType::Certificate, |buffer, _| {
+                buffer.extend_from_slice(body);
+                Ok(())
+            })
+            .unwrap();
+        let mut n = 0;
+        while let Some(len) = engine::probe::take(&mut engine, &mut out) {
+            black_box(&out[..len]);
+            n += 1;
+        }
+        assert!(n == 12);
+    })
+}
+
+fn message_rattle(count: u32) -> f64 {
+    let mut s = [0; 59];
+    link_sending(&mut s, 1500, 16);
+    link_key_send(&mut s, 2, &IV);
+    let (mut f, mut numbers) = ([0; 73], [0; 384]);
+    link_flight(&mut f, &mut numbers);
+    let body = vec![0x55; 16384];
+    let (mut queue, mut kept) = (vec![0; 16 * 1500], vec![0; 12 * 1500]);
+    let mut out = [0; 1500];
+    time(count, |_| unsafe {
+        link_begin_flight(&mut f);
+        let body = black_box(&body);
+        let (q, k) = (queue.as_mut_ptr(), kept.as_mut_ptr());
+        let (q_len, k_len) = (queue.len(), kept.len());
+        let sent = link_create_handshake(
+            &mut s, &mut f, &mut numbers, 11, body.as_ptr(), body.len(), q, q_len, k, k_len,
+        );
+        assert!(sent == 0 && take_all(&mut s, &mut queue, &mut out) == 12);
+    })
+}
+
+/// A run: both sides by turns, so that what the machine does besides falls on both.
+fn run(rust: impl Fn(u32) -> f64, rattle: impl Fn(u32) -> f64, count: u32) -> (f64, f64) {
+    let turns = 10;
+    let (mut a, mut b) = (0.0, 0.0);
+    for _ in 0..turns {
+        a += rust(count / turns);
+        b += rattle(count / turns);
+    }
+    (a / turns as f64, b / turns as f64)
+}
+
+fn compare(
+    what: &str,
+    runs: u32,
+    count: u32,
+    rust: impl Fn(u32) -> f64,
+    rattle: impl Fn(u32) -> f64,
+) {
     let mut rows: Vec<(f64, f64, f64)> = (0..runs)
         .map(|_| {
-            let (a, b) = (rust(), rattle());
+            let (a, b) = run(&rust, &rattle, count);
             (b / a, a, b)
         })
         .collect();
     rows.sort_by(|a, b| a.0.total_cmp(&b.0));
     let least = |f: fn(&(f64, f64, f64)) -> f64| rows.iter().map(f).fold(f64::MAX, f64::min);
     println!(
-        "{what:28} Rust {:7.1} ns   Rattle {:7.1} ns   ratio {:.2} ({:.2} to {:.2})",
+        "{what:24} Rust {:8.1} ns   Rattle {:8.1} ns   ratio {:.2} ({:.2} to {:.2})",
         least(|r| r.1),
         least(|r| r.2),
         rows[rows.len() / 2].0,
@@ -163,24 +252,58 @@ fn compare(what: &str, runs: u32, rust: impl Fn() -> f64, rattle: impl Fn() -> f
     );
 }
 
+/// Before anything is timed: both sides send the same bytes, a record of each size and a message.
+fn agree() {
+    let mut engine = engine(1500);
+    let mut s = [0; 59];
+    link_sending(&mut s, 1500, 16);
+    link_key_send(&mut s, 2, &IV);
+    link_key_send(&mut s, 3, &IV);
+    let (mut f, mut numbers) = ([0; 73], [0; 384]);
+    link_flight(&mut f, &mut numbers);
+    let (mut queue, mut kept) = (vec![0xAA; 16 * 1500], vec![0; 12 * 1500]);
+    let body: Vec<u8> = (0..16384u32).map(|i| (i * 7 % 251) as u8).collect();
+    for n in [0, 1, 16, 200, 1200, 1478, 16384] {
+        let content = &body[..n];
+        let (q, q_len) = (queue.as_mut_ptr(), queue.len());
+        let sent = if n < 16384 {
+            let put = |fragment: &mut Buf| fragment.extend_from_slice(content);
+            engine.create_ciphertext_record(ContentType::ApplicationData, 3, false, put).unwrap();
+            unsafe { link_send(&mut s, 3, 23, content.as_ptr(), n, q, q_len) }
+        } else {
+            let put = |buffer: &mut Buf, _: &mut Engine| {
+                buffer.extend_from_slice(content);
+                Ok(())
+            };
+            engine.create_handshake(MessageType::Certificate, put).unwrap();
+            let (k, k_len) = (kept.as_mut_ptr(), kept.len());
+            unsafe {
+                link_create_handshake(
+                    &mut s, &mut f, &mut numbers, 11, content.as_ptr(), n, q, q_len, k, k_len,
+                )
+            }
+        };
+        assert!(sent == 0, "{n} bytes are refused by {sent}");
+        seal_all(&mut s, &mut queue);
+        let (mut a, mut b) = ([0; 1500], [0; 1500]);
+        while let Some(len) = engine::probe::take(&mut engine, &mut a) {
+            let (out, q) = (b.as_mut_ptr(), queue.as_ptr());
+            let taken = unsafe { link_take(&mut s, out, b.len(), q, queue.len()) };
+            assert!(taken.kind == 2 && a[..len] == b[..taken.length], "{n} bytes are sent otherwise");
+        }
+    }
+}
+
 fn main() {
+    agree();
     let runs = std::env::args().nth(1).and_then(|x| x.parse().ok()).unwrap_or(7);
     for n in [16, 200, 1200] {
-        let count = 100_000;
-        compare(
-            &format!("read a record of {n}"),
-            runs,
-            || read_rust(n, count),
-            || read_rattle(n, count),
-        );
+        let what = format!("read a record of {n}");
+        compare(&what, runs, 100_000, |k| read_rust(n, k), |k| read_rattle(n, k));
     }
     for n in [16, 200, 1200] {
-        let count = 100_000;
-        compare(
-            &format!("send a record of {n}"),
-            runs,
-            || send_rust(n, count),
-            || send_rattle(n, count),
-        );
+        let what = format!("send a record of {n}");
+        compare(&what, runs, 100_000, |k| send_rust(n, k), |k| send_rattle(n, k));
     }
+    compare("send a message of 16384", runs, 5_000, message_rust, message_rattle);
 }

@@ -1,8 +1,8 @@
 -- `link_sending::link_take` meets its contract. Assumes nothing.
+use Rattle.link_sending.specs.Calls.{after-moved, take-moves, flatTake}
 use borrow.Author.Needs.{needs}
 use mathlib.Core.Path.{_≡_, refl, sym, ap, _∙_}
 use Rattle.base.specs.Choose.{if-true, if-false, both-true, both-false}
-use Rattle.link_sending.specs.Calls.{after, flatTake}
 use Rattle.taking.specs.declared.Take.{Take}
 use Rattle.sealing.specs.Sealing as sealings
 use Rattle.outgoing.specs.State.{refusal}
@@ -18,8 +18,8 @@ load-requires c κs = search needs
 poll-packet-tx-requires : tie.Need-poll-packet-tx-requires
 poll-packet-tx-requires c κs = search needs
 
-save-requires : tie.Need-save-requires
-save-requires c κs = search needs
+save-moved-requires : tie.Need-save-moved-requires
+save-moved-requires c κs = search needs
 
 flat-take-requires : tie.Need-flat-take-requires
 flat-take-requires c κs = search needs
@@ -28,7 +28,7 @@ same-length : tie.Need-same-length
 same-length c = search needs
 
 returns : tie.Need-returns
-returns c = let e = rw (c .before .before .before .before .before .before .before .load .ensures) at (c .before .before .before .before .before .poll-packet-tx .ensures .0) in ((c .flat-take .ensures ∙ ap (λ (x : Take). flatTake (x .answer)) e ∙ sym (if-true _ _ (sym (c .before .before .before .before .before .before .before .before .before .before .is-flat .ensures) ∙ c .before .before .before .before .before .before .before .before .before .if1 .taken)), after _ _ _ _ (sym (c .before .before .before .before .before .before .before .before .before .before .is-flat .ensures) ∙ c .before .before .before .before .before .before .before .before .before .if1 .taken) (c .before .save .ensures) (ap (λ (x : Take). x .state) e)), rw (c .before .before .before .before .before .before .before .load .ensures) at (c .before .before .before .before .before .poll-packet-tx .ensures .1) ∙ sym (if-true _ _ (sym (c .before .before .before .before .before .before .before .before .before .before .is-flat .ensures) ∙ c .before .before .before .before .before .before .before .before .before .if1 .taken)))
+returns c = let e = rw (c .before .before .before .before .before .before .before .load .ensures) at (c .before .before .before .before .before .poll-packet-tx .ensures .0) in ((c .flat-take .ensures ∙ ap (λ (x : Take). flatTake (x .answer)) e ∙ sym (if-true _ _ (sym (c .before .before .before .before .before .before .before .before .before .before .is-flat .ensures) ∙ c .before .before .before .before .before .before .before .before .before .if1 .taken)), after-moved _ _ _ _ (sym (c .before .before .before .before .before .before .before .before .before .before .is-flat .ensures) ∙ c .before .before .before .before .before .before .before .before .before .if1 .taken) (c .before .save-moved .ensures) (ap (λ (x : Take). x .state) e) (take-moves _ _)), rw (c .before .before .before .before .before .before .before .load .ensures) at (c .before .before .before .before .before .poll-packet-tx .ensures .1) ∙ sym (if-true _ _ (sym (c .before .before .before .before .before .before .before .before .before .before .is-flat .ensures) ∙ c .before .before .before .before .before .before .before .before .before .if1 .taken)))
 
 no-take-requires : tie.Need-no-take-requires
 no-take-requires c κs = search needs
@@ -43,7 +43,7 @@ link-take-spec =
     is-flat-requires
     load-requires
     poll-packet-tx-requires
-    save-requires
+    save-moved-requires
     flat-take-requires
     same-length
     returns
