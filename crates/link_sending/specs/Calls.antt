@@ -28,7 +28,7 @@ use Rattle.send_keys.specs.declared.SendKeys.{SendKeys}
 use Rattle.outgoing.specs.declared.Waiting.{Waiting}
 use Rattle.outgoing.specs.declared.SendAnswer.{SendAnswer}
 use Rattle.outgoing.specs.Send.{sendState, laidState}
-use Rattle.sealing.specs.Take as takes
+use Rattle.taking.specs.Take as takes
 use Rattle.sealing.specs.declared.SealAnswer.{SealAnswer}
 use Rattle.link_sending.specs.declared.LinkSealing.{LinkSealing}
 use Rattle.link_sending.specs.declared.LinkTake.{LinkTake}

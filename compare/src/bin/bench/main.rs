@@ -118,7 +118,9 @@ fn send_rust(n: usize, count: u32) -> f64 {
                 fragment.extend_from_slice(content)
             })
             .unwrap();
-        let len = engine::probe::take(&mut engine, &mut out).unwrap();
+        let engine::probe::Taken::Datagram(len) = engine::probe::take(&mut engine, &mut out) else {
+            panic!("a datagram waits")
+        };
         assert!(len == n + 22);
         black_box(&out[..len]);
     })
@@ -187,7 +189,7 @@ fn message_rust(count: u32) -> f64 {
             })
             .unwrap();
         let mut n = 0;
-        while let Some(len) = engine::probe::take(&mut engine, &mut out) {
+        while let engine::probe::Taken::Datagram(len) = engine::probe::take(&mut engine, &mut out) {
             black_box(&out[..len]);
             n += 1;
         }
