@@ -43,6 +43,7 @@ void check_beside(const Lent *l);
 
 enum {
     RECEIVING, KEY_RECEIVE, REMOVE_RECEIVE, ENABLE, RELEASE, BEGIN, READ, MASK, OPENED, /* receiving */
+    SENDING, KEY_SEND, SEND, SEALING, SEALED, TAKE, /* sending */
     CALLS
 };
 
@@ -57,5 +58,7 @@ void require(int holds, const char *what);
 
 void receiving_start(void);
 void receiving_history(void);
+void sending_start(void);
+void sending_history(void);
 
 #endif

@@ -19,7 +19,11 @@
 #include <sanitizer/common_interface_defs.h>
 #endif
 
-enum { KINDS = 8, REFUSALS = 24, HANG_SECONDS = 60, ENOUGH = 1000000 };
+#ifndef HANG_SECONDS
+#define HANG_SECONDS 60
+#endif
+
+enum { KINDS = 8, REFUSALS = 24, ENOUGH = 1000000 };
 
 #define R(n) (1u << (n))
 
@@ -37,6 +41,12 @@ static const struct {
     [READ] = {"link_read", {R(12) | R(15), R(0) | R(2) | R(3), R(4) | R(5) | R(6) | R(7), R(0), R(0), 0, R(0), R(0)}},
     [MASK] = {"link_mask", {R(12) | R(15), 0, R(8) | R(9), 0, 0, 0, 0, R(0)}},
     [OPENED] = {"link_opened", {R(12) | R(15), R(3), R(10) | R(11), 0, 0, R(0)}},
+    [SENDING] = {"link_sending", {R(0) | R(12)}},
+    [KEY_SEND] = {"link_key_send", {R(0) | R(12) | R(13) | R(23)}},
+    [SEND] = {"link_send", {R(0) | R(12) | R(13) | R(14) | R(17) | R(19) | R(20)}},
+    [SEALING] = {"link_sealing", {R(12), R(0), R(0)}},
+    [SEALED] = {"link_sealed", {R(0) | R(12) | R(15)}},
+    [TAKE] = {"link_take", {R(12) | R(16) | R(23), R(0), R(0)}},
 };
 
 uint64_t datagrams, replies, calls_made, words_rewritten;
@@ -48,7 +58,7 @@ static volatile int now_calling;
 static void where(void)
 {
     fflush(stdout);
-    fprintf(stderr, "in %s; again by: driver 1 %" PRIu64 " %" PRIu64 "\n", calls[now_calling].name, seed, history);
+    fprintf(stderr, "in %s; again by: target/fuzz/driver 1 %" PRIu64 " %" PRIu64 "\n", calls[now_calling].name, seed, history);
 }
 
 void finding(const char *what)
@@ -123,7 +133,10 @@ static void one_history(void)
     const struct itimerval limit = {{0, 0}, {HANG_SECONDS, 0}};
     setitimer(ITIMER_VIRTUAL, &limit, NULL);
     begin_random(seed, history);
-    receiving_history();
+    if (one_in(3))
+        sending_history();
+    else
+        receiving_history();
 }
 
 int main(int argc, char **argv)
@@ -135,6 +148,7 @@ int main(int argc, char **argv)
     seed = strtoull(argv[2], NULL, 10);
     watch();
     receiving_start();
+    sending_start();
     if (argc > 3) {
         history = strtoull(argv[3], NULL, 10);
         one_history();

@@ -399,9 +399,11 @@ static void step(void)
 void receiving_history(void)
 {
     uint64_t kind = below(8), steps = 8 + below(48);
+    LinkReceiving good;
     state = lend(&states, sizeof(LinkReceiving), one_in(2));
     s = (LinkReceiving *)(void *)state.bytes;
-    last.kind = LINK_END;
+    datagram = lend(&datagram_area, 0, one_in(2));
+    memset(&last, 0, sizeof last);
     reading = 0;
     made = 0;
     if (kind == 0) {
@@ -412,15 +414,18 @@ void receiving_history(void)
     }
     if (kind == 1) {
         forge_state();
-        last.kind = (uint8_t)below(LINK_OPENING);
         reading = 1;
     }
-    for (; steps > 0; steps--) {
-        step();
-        if (kind == 2 && one_in(8))
-            change_state();
+    for (good = *s; steps > 0; steps--) {
         if (kind == 1 && one_in(8))
             forge_state();
+        if (kind == 2 && one_in(6)) {
+            *s = good;
+            change_state();
+        } else if (kind == 2 && one_in(6)) {
+            good = *s;
+        }
+        step();
     }
 }
 
