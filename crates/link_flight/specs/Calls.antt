@@ -1,0 +1,76 @@
+-- The calls that save records, of the C interface: each is the call on the state and the flight that the words stand for. Words that stand
+-- for none are refused by 12, and state, flight and memory stay.
+use mathlib.Core.Bool.{Bool, true, false}
+use mathlib.Core.List.{List}
+use mathlib.Core.Path.{_≡_, refl, sym, ap, subst, _∙_}
+use Prim.Native.Nat.{ℕ, _≤_, _<_}
+use lib.Dec.{leb}
+use lib.ListN.{length, set, replicate}
+use Rattle.base.specs.Choose.{choose, both, if-true, if-false, both-true, both-false}
+use Rattle.outgoing.specs.State.{refusal}
+use Rattle.outgoing.specs.declared.SendAnswer.the-variants.{Done, OutOfRange}
+use Rattle.outgoing.specs.declared.Sending.{Sending}
+use Rattle.flight.specs.declared.Flight.{Flight}
+use Rattle.flight.specs.declared.Begun.{Begun}
+use Rattle.flight.specs.declared.Saved.{Saved}
+use Rattle.flight.specs.Flight.{begun, freshFlight}
+use Rattle.send_words.specs.Words.{stateOf, isFlat}
+use Rattle.send_words.specs.Laws as sent
+use Rattle.flight_words.specs.Words.{entriesOf, flightOf, flatTo}
+use Rattle.flight_words.specs.Laws.{begins}
+use Rattle.flight_words.specs.Laws as flights
+
+-- both words stand for something
+abbrev pub areFlat : List ℕ → List ℕ → Bool
+areFlat w f = both (isFlat w) (flatTo f 12)
+
+-- lent memory: as the call leaves it, or as it was
+abbrev pub either : List ℕ → List ℕ → List ℕ → List ℕ → List ℕ
+either w f x y = choose (areFlat w f) x y
+
+-- f before, g behind, n the numbers beside them
+abbrev pub Begins : ℕ → List ℕ → List ℕ → List ℕ → Type 0
+Begins r g f n =
+    (r ≡ choose (flatTo f 12) (refusal (begun (flightOf f n) .answer)) 12)
+    × (flightOf g n ≡ choose (flatTo f 12) (begun (flightOf f n) .flight) (flightOf f n)) × (flatTo g 12 ≡ flatTo f 12)
+
+-- w, f, n before; v, g, m behind
+abbrev pub Saves : ℕ → List ℕ → List ℕ → List ℕ → List ℕ → List ℕ → List ℕ → Saved → Type 0
+Saves r v w g f m n k =
+    (r ≡ choose (areFlat w f) (refusal (k .answer)) 12)
+    × (stateOf v ≡ choose (areFlat w f) (k .state) (stateOf w)) × (isFlat v ≡ isFlat w)
+    × (flightOf g m ≡ choose (areFlat w f) (k .flight) (flightOf f n)) × (flatTo g 12 ≡ flatTo f 12)
+
+-- ---- from the parts to the whole
+
+pub saves : (r : ℕ) (v w g f m n : List ℕ) (x k : Saved) → isFlat w ≡ true → flatTo f 12 ≡ true → r ≡ refusal (x .answer)
+    → sent.Kept (x .state) v → flights.Kept (x .flight) g → m ≡ x .flight .numbers → x ≡ k → Saves r v w g f m n k
+saves r v w g f m n x k p q a s t z e =
+    let h : areFlat w f ≡ true = both-true p ∙ q in (
+      a ∙ ap (λ (y : Saved). refusal (y .answer)) e ∙ sym (if-true _ _ h),
+      s .0 ∙ ap (λ (y : Saved). y .state) e ∙ sym (if-true _ _ h),
+      s .1 ∙ sym p,
+      ap (flightOf g) z ∙ t .0 ∙ ap (λ (y : Saved). y .flight) e ∙ sym (if-true _ _ h),
+      t .1 ∙ sym q,
+    )
+
+pub begins-to : (f n : List ℕ) → length f ≡ 73 → flatTo f 12 ≡ true → leb (flightOf f n .saved) 12 ≡ true → Begins 0 (set f 72 0) f n
+unfolding begun
+begins-to f n h p l =
+    let b = begins f n 0 h in (
+      ap refusal (sym (ap (λ (y : Begun). y .answer) (if-true _ _ l))) ∙ sym (if-true _ _ p),
+      b .0 ∙ sym (ap (λ (y : Begun). y .flight) (if-true _ _ l)) ∙ sym (if-true _ _ p),
+      b .1,
+    )
+
+pub begins-not : (f n : List ℕ) → flatTo f 12 ≡ true → leb (flightOf f n .saved) 12 ≡ false → Begins 12 f f n
+unfolding begun
+begins-not f n p l = (
+  ap refusal (sym (ap (λ (y : Begun). y .answer) (if-false _ _ l))) ∙ sym (if-true _ _ p),
+  sym (ap (λ (y : Begun). y .flight) (if-false _ _ l)) ∙ sym (if-true _ _ p),
+  refl,
+)
+
+pub starts : (flightOf (replicate 73 0) (replicate 384 0) ≡ freshFlight) × (flatTo (replicate 73 0) 12 ≡ true)
+unfolding entriesOf flatTo freshFlight choose
+starts = (refl, refl)
