@@ -1,24 +1,18 @@
 /* Histories of the sending side. */
 #include <string.h>
 
-#include "fuzz.h"
+#include "sending.h"
 
-enum { WORDS = 59, SLOTS = 16, LONGEST_MTU = 1500, QUEUE = SLOTS * LONGEST_MTU + 100, CONTENT = 17000, BUFFER = 2000 };
-#define LAST_NUMBER 0xFFFFFFFFFFFFu
+enum { WORDS = 59, QUEUE = SLOTS * LONGEST_MTU + 100, CONTENT = 17000, BUFFER = 2000 };
 
-/* The words (crates/send_words/specs/Words.antt). */
-enum { W_MTU, W_LIMIT, W_FIRST, W_COUNT, W_CLOSED, W_WAITS, W_SLOT, W_START, W_LENGTH, W_EPOCH, W_NUMBER, W_PLAINTEXT_NEXT,
-    W_HANDSHAKE, W_HANDSHAKE_NEXT, W_HANDSHAKE_SEALED, W_APPLICATION, W_APPLICATION_NEXT, W_APPLICATION_SEALED, W_MESSAGE, W_LENGTHS,
-    W_IVS = W_LENGTHS + SLOTS };
+Lent queue, content;
+LinkSending *s, before;
+int made;
 
 static Area states, queues, contents, buffers, ivs;
-static Lent state, queue, content, buffer, iv;
-static LinkSending *s;
+static Lent state, buffer, iv;
 static const LinkSending *fixed;
-static LinkSending before;
 static uint8_t queue_before[QUEUE], buffer_before[BUFFER];
-/* Whether calls alone have made the state, from fresh, with a queue that is long enough. */
-static int made;
 
 /* ---- checks */
 
@@ -50,7 +44,7 @@ static void check_kept(void)
     words_rewritten++;
 }
 
-static void done(int call, unsigned kind, unsigned refusal, int refused, int may_be_12)
+void sending_done(int call, unsigned kind, unsigned refusal, int refused, int may_be_12)
 {
     answered(call, kind, refusal);
     check_beside(&state);
@@ -63,8 +57,12 @@ static void done(int call, unsigned kind, unsigned refusal, int refused, int may
     require(refusal != 12 || !made || may_be_12, "12 for a state that calls made");
 }
 
-/* No byte of the queue has changed but n from at on. */
-static void check_queue(size_t at, size_t n)
+void keep_queue(void)
+{
+    memcpy(queue_before, queue.bytes, queue.n);
+}
+
+void check_queue(size_t at, size_t n)
 {
     require(at <= queue.n && n <= queue.n - at, "a record outside the queue");
     require(memcmp(queue_before, queue.bytes, at) == 0, "bytes of the queue before the record have changed");
@@ -77,12 +75,12 @@ static void call_fresh(size_t mtu, size_t limit)
 {
     calling(SENDING);
     uint8_t answer = link_sending(s, mtu, limit);
-    done(SENDING, 0, answer, 0, 1);
+    sending_done(SENDING, 0, answer, 0, 1);
     require((answer == 0) == (mtu >= 576 && mtu <= 1500 && limit >= 1 && limit <= 16), "a setting in range is refused, or one beyond is taken");
     made = answer == 0 && queue.n >= mtu * limit;
 }
 
-static uint16_t some_epoch(void)
+uint16_t some_epoch(void)
 {
     switch (below(4)) {
     case 0:
@@ -104,21 +102,24 @@ static void call_key(void)
     scatter(iv.bytes, 12);
     calling(KEY_SEND);
     uint8_t answer = link_key_send(s, epoch, iv.fixed);
-    done(KEY_SEND, 0, answer, answer != 0, 0);
+    sending_done(KEY_SEND, 0, answer, answer != 0, 0);
 }
 
-static void lend_content(void)
+void lend_content(size_t n)
 {
-    size_t n = one_in(128) ? below(CONTENT) : one_in(4) ? below(1600) : below(60);
-    if (one_in(8) && s->word[W_MTU] <= LONGEST_MTU && s->word[W_MTU] > 40)
-        n = (size_t)s->word[W_MTU] - 24 + below(14);
     content = lend(&contents, n, one_in(2));
     memset(content.bytes, (int)below(256), n);
     scatter(content.bytes, n < 64 ? n : 64);
 }
 
-/* The record lies at the end of the last datagram, as the words then tell. */
-static void check_laid(uint16_t epoch)
+size_t content_length(void)
+{
+    if (one_in(8) && s->word[W_MTU] <= LONGEST_MTU && s->word[W_MTU] > 40)
+        return (size_t)s->word[W_MTU] - 24 + below(14);
+    return one_in(128) ? below(CONTENT) : one_in(4) ? below(1600) : below(60);
+}
+
+void check_laid(uint16_t epoch)
 {
     const uint64_t *w = s->word;
     size_t n = content.n + (epoch == 0 ? 13 : 22);
@@ -128,17 +129,26 @@ static void check_laid(uint16_t epoch)
     check_queue(slot * (size_t)w[W_MTU] + length - n, n);
 }
 
-static void call_send(void)
+uint8_t some_type(void)
 {
     static const uint8_t types[] = {21, 22, 23, 26};
+    return one_in(8) ? (uint8_t)any() : types[below(4)];
+}
+
+const uint8_t *content_bytes(void)
+{
+    return content.n == 0 && one_in(2) ? NULL : content.fixed;
+}
+
+static void call_send(void)
+{
     uint16_t epoch = some_epoch();
-    uint8_t type = one_in(8) ? (uint8_t)any() : types[below(4)];
-    lend_content();
-    memcpy(queue_before, queue.bytes, queue.n);
-    const uint8_t *c = content.n == 0 && one_in(2) ? NULL : content.fixed;
+    uint8_t type = some_type();
+    lend_content(content_length());
+    keep_queue();
     calling(SEND);
-    uint8_t answer = link_send(s, epoch, type, c, content.n, queue.bytes, queue.n);
-    done(SEND, 0, answer, answer != 0, 0);
+    uint8_t answer = link_send(s, epoch, type, content_bytes(), content.n, queue.bytes, queue.n);
+    sending_done(SEND, 0, answer, answer != 0, 0);
     if (answer == 0)
         check_laid(epoch);
     else
@@ -151,7 +161,7 @@ static LinkSealing ask(void)
     static const uint8_t zeros[17];
     calling(SEALING);
     LinkSealing q = link_sealing(fixed);
-    done(SEALING, q.kind, q.refusal, q.kind == 0, 0);
+    sending_done(SEALING, q.kind, q.refusal, q.kind == 0, 0);
     if (q.kind != LINK_SEAL) {
         require(q.epoch == 0 && q.number == 0 && q.start == 0 && q.length == 0, "a field not used is not zero");
         require(memcmp(q.nonce, zeros, 12) == 0 && memcmp(q.header, zeros, 5) == 0, "a field not used is not zero");
@@ -177,11 +187,11 @@ static void call_sealed(void)
         scatter(queue.bytes + q.start + q.length - 16, 16);
     if (!made && one_in(4))
         mutate(queue.bytes, queue.n);
-    memcpy(queue_before, queue.bytes, queue.n);
+    keep_queue();
     calling(SEALED);
     replies++;
     uint8_t answer = link_sealed(s, length, (uint8_t)any(), (uint8_t)any(), queue.bytes, queue.n);
-    done(SEALED, 0, answer, answer != 0, 0);
+    sending_done(SEALED, 0, answer, answer != 0, 0);
     require(answer != 0 || in_queue, "a sealing taken that was not asked");
     if (answer == 0)
         check_queue(q.start - 5, 5);
@@ -202,7 +212,7 @@ static void call_take(void)
     uint8_t *b = n == 0 && one_in(2) ? NULL : buffer.bytes;
     calling(TAKE);
     LinkTake t = link_take(s, b, n, queue.fixed, queue.n);
-    done(TAKE, t.kind, t.refusal, t.kind != LINK_TAKEN, 0);
+    sending_done(TAKE, t.kind, t.refusal, t.kind != LINK_TAKEN, 0);
     require(t.refusal != 16 || (t.length > n && t.length <= before.word[W_MTU]), "a needed length made up");
     require(t.kind == LINK_TAKEN || t.refusal == 16 || t.length == 0, "a field not used is not zero");
     if (t.kind == LINK_TAKEN) {
