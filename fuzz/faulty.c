@@ -12,6 +12,10 @@ uint8_t __real_link_key_send(LinkSending *s, uint16_t epoch, const uint8_t *iv);
 uint8_t __real_link_send(LinkSending *s, uint16_t epoch, uint8_t type, const uint8_t *c, size_t cn, uint8_t *q, size_t qn);
 uint8_t __real_link_sealed(LinkSending *s, size_t length, uint8_t m0, uint8_t m1, uint8_t *q, size_t qn);
 LinkTake __real_link_take(LinkSending *s, uint8_t *b, size_t bn, const uint8_t *q, size_t qn);
+uint8_t __real_link_send_saved(LinkSending *s, LinkFlight *f, LinkNumbers *m, uint16_t epoch, uint8_t type, const uint8_t *c, size_t cn, uint8_t *q,
+    size_t qn, uint8_t *k, size_t kn);
+uint8_t __real_link_create_handshake(LinkSending *s, LinkFlight *f, LinkNumbers *m, uint8_t type, const uint8_t *c, size_t cn, uint8_t *q, size_t qn,
+    uint8_t *k, size_t kn);
 
 LinkReading __wrap_link_read(LinkReceiving *s, const uint8_t *d, size_t n);
 LinkReading __wrap_link_mask(LinkReceiving *s, uint8_t m0, uint8_t m1, uint8_t *d, size_t n);
@@ -21,6 +25,10 @@ uint8_t __wrap_link_key_send(LinkSending *s, uint16_t epoch, const uint8_t *iv);
 uint8_t __wrap_link_send(LinkSending *s, uint16_t epoch, uint8_t type, const uint8_t *c, size_t cn, uint8_t *q, size_t qn);
 uint8_t __wrap_link_sealed(LinkSending *s, size_t length, uint8_t m0, uint8_t m1, uint8_t *q, size_t qn);
 LinkTake __wrap_link_take(LinkSending *s, uint8_t *b, size_t bn, const uint8_t *q, size_t qn);
+uint8_t __wrap_link_send_saved(LinkSending *s, LinkFlight *f, LinkNumbers *m, uint16_t epoch, uint8_t type, const uint8_t *c, size_t cn, uint8_t *q,
+    size_t qn, uint8_t *k, size_t kn);
+uint8_t __wrap_link_create_handshake(LinkSending *s, LinkFlight *f, LinkNumbers *m, uint8_t type, const uint8_t *c, size_t cn, uint8_t *q, size_t qn,
+    uint8_t *k, size_t kn);
 
 static volatile uint8_t sink;
 
@@ -101,4 +109,24 @@ LinkTake __wrap_link_take(LinkSending *s, uint8_t *b, size_t bn, const uint8_t *
     if (t.kind == LINK_TAKEN && t.length < bn && planted(12))
         b[t.length] ^= 1;
     return t;
+}
+
+uint8_t __wrap_link_send_saved(LinkSending *s, LinkFlight *f, LinkNumbers *m, uint16_t epoch, uint8_t type, const uint8_t *c, size_t cn, uint8_t *q,
+    size_t qn, uint8_t *k, size_t kn)
+{
+    uint8_t answer = __real_link_send_saved(s, f, m, epoch, type, c, cn, q, qn, k, kn);
+    if (answer == 0 && planted(13))
+        k[kn - 1] ^= 1;
+    return answer;
+}
+
+uint8_t __wrap_link_create_handshake(LinkSending *s, LinkFlight *f, LinkNumbers *m, uint8_t type, const uint8_t *c, size_t cn, uint8_t *q, size_t qn,
+    uint8_t *k, size_t kn)
+{
+    uint8_t answer = __real_link_create_handshake(s, f, m, type, c, cn, q, qn, k, kn);
+    if (answer == 19 && planted(14))
+        f->word[72]++;
+    if (answer == 0 && planted(15))
+        q[s->word[0] * s->word[1] - 1] ^= 1;
+    return answer;
 }

@@ -44,6 +44,7 @@ void check_beside(const Lent *l);
 enum {
     RECEIVING, KEY_RECEIVE, REMOVE_RECEIVE, ENABLE, RELEASE, BEGIN, READ, MASK, OPENED, /* receiving */
     SENDING, KEY_SEND, SEND, SEALING, SEALED, TAKE, /* sending */
+    FLIGHT, BEGIN_FLIGHT, SEND_SAVED, CREATE_HANDSHAKE, /* the flight */
     CALLS
 };
 
@@ -56,6 +57,8 @@ void answered(int call, unsigned kind, unsigned refusal);
 _Noreturn void finding(const char *what);
 void require(int holds, const char *what);
 
+/* Some answers worked by hand. */
+void known(void);
 void receiving_start(void);
 void receiving_history(void);
 void sending_start(void);

@@ -43,3 +43,9 @@ SIZED(LinkTake, 16, 8);
 PLACED(LinkTake, kind, 0);
 PLACED(LinkTake, refusal, 1);
 PLACED(LinkTake, length, 8);
+
+SIZED(LinkFlight, 73 * 8, 8);
+PLACED(LinkFlight, word, 0);
+
+SIZED(LinkNumbers, 384 * 8, 8);
+PLACED(LinkNumbers, word, 0);

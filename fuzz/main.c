@@ -47,6 +47,10 @@ static const struct {
     [SEALING] = {"link_sealing", {R(12), R(0), R(0)}},
     [SEALED] = {"link_sealed", {R(0) | R(12) | R(15)}},
     [TAKE] = {"link_take", {R(12) | R(16) | R(23), R(0), R(0)}},
+    [FLIGHT] = {"link_flight", {R(0)}},
+    [BEGIN_FLIGHT] = {"link_begin_flight", {R(0) | R(12)}},
+    [SEND_SAVED] = {"link_send_saved", {R(0) | R(12) | R(13) | R(14) | R(17) | R(18) | R(19) | R(20)}},
+    [CREATE_HANDSHAKE] = {"link_create_handshake", {R(0) | R(12) | R(14) | R(17) | R(18) | R(19) | R(20) | R(21)}},
 };
 
 uint64_t datagrams, replies, calls_made, words_rewritten;
@@ -147,6 +151,7 @@ int main(int argc, char **argv)
     count = strtoull(argv[1], NULL, 10);
     seed = strtoull(argv[2], NULL, 10);
     watch();
+    known();
     receiving_start();
     sending_start();
     if (argc > 3) {

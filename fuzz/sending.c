@@ -62,6 +62,12 @@ void keep_queue(void)
     memcpy(queue_before, queue.bytes, queue.n);
 }
 
+void forgive_queue(size_t at, size_t n)
+{
+    require(at <= queue.n && n <= queue.n - at, "a record outside the queue");
+    memcpy(queue_before + at, queue.bytes + at, n);
+}
+
 void check_queue(size_t at, size_t n)
 {
     require(at <= queue.n && n <= queue.n - at, "a record outside the queue");
@@ -284,6 +290,10 @@ static void forge_state(void)
 static void step(void)
 {
     before = *s;
+    if (one_in(3)) {
+        flight_step();
+        return;
+    }
     switch (below(12)) {
     case 0: call_key(); break;
     case 1: case 2: call_take(); break;
@@ -302,6 +312,7 @@ void sending_history(void)
     fixed = (const LinkSending *)(const void *)state.fixed;
     made = 0;
     make_state();
+    flight_fresh();
     if (kind == 0) {
         scatter((uint8_t *)s->word, sizeof s->word);
         made = 0;
@@ -312,6 +323,10 @@ void sending_history(void)
     for (good = *s; steps > 0; steps--) {
         if (kind == 1 && one_in(4))
             forge_state();
+        if (kind == 1 && one_in(6))
+            flight_forge();
+        if (kind == 3 && one_in(8))
+            flight_change();
         if (kind == 2 && one_in(6)) {
             *s = good;
             change_state();
@@ -329,6 +344,7 @@ void sending_start(void)
     contents = area(CONTENT);
     buffers = area(BUFFER);
     ivs = area(12);
+    flight_start();
     content = lend(&contents, 0, 1);
     buffer = lend(&buffers, 0, 1);
     iv = lend(&ivs, 12, 1);

@@ -23,6 +23,8 @@ void sending_done(int call, unsigned kind, unsigned refusal, int refused, int ma
 
 /* The queue as it is before a call. */
 void keep_queue(void);
+/* These n bytes from at on may have changed. */
+void forgive_queue(size_t at, size_t n);
 /* No byte of the queue has changed but n from at on. */
 void check_queue(size_t at, size_t n);
 /* One record lies at the end of the last datagram, as the words then tell, and nothing else is written. */
@@ -34,5 +36,12 @@ size_t content_length(void);
 void lend_content(size_t n);
 /* An empty content may be lent without a place. */
 const uint8_t *content_bytes(void);
+
+/* The flight: its memory, fresh; one call; changed or forged words. */
+void flight_start(void);
+void flight_fresh(void);
+void flight_step(void);
+void flight_change(void);
+void flight_forge(void);
 
 #endif

@@ -1,5 +1,6 @@
 /* The record link's C interface. Receiving is in target/staticlib/liblink.a, made by `rt staticlib link`, sending in
- * target/staticlib/liblink_sending.a, made by `rt staticlib link_sending`.
+ * target/staticlib/liblink_sending.a, made by `rt staticlib link_sending`, saving in target/staticlib/liblink_flight.a, made by
+ * `rt staticlib link_flight`.
  * Plain functions over memory that the host lends: no allocation, no global state, no requirement on the caller but that each pointer
  * leads to what its type or the length beside it says, and that no two of them overlap. A state is words whose meaning the library
  * keeps; whatever stands in them, a call ends with an answer, and refuses by 12 what is no state. Refusals have the numbers of the
@@ -104,6 +105,29 @@ LinkSealing link_sealing(const LinkSending *s);
 uint8_t link_sealed(LinkSending *s, size_t length, uint8_t mask_0, uint8_t mask_1, uint8_t *queue, size_t queue_len);
 /* The front datagram, copied to the start of a buffer. */
 LinkTake link_take(LinkSending *s, uint8_t *buffer, size_t buffer_len, const uint8_t *queue, size_t queue_len);
+
+/* ---- the flight */
+
+/* The records saved: type, epoch, number, length of each, whether it is acknowledged, how many earlier numbers it remembers. */
+typedef struct {
+    uint64_t word[73];
+} LinkFlight;
+
+/* The remembered numbers, 32 for each of the 12 records. */
+typedef struct {
+    uint64_t word[384];
+} LinkNumbers;
+
+/* Nothing saved. The contents are kept in a buffer of the host with at least 12 times the MTU bytes, the same in every call. */
+void link_flight(LinkFlight *f, LinkNumbers *numbers);
+/* A new flight: it is empty. */
+uint8_t link_begin_flight(LinkFlight *f);
+/* As link_send, and the record is saved; 18 where 12 are. */
+uint8_t link_send_saved(LinkSending *s, LinkFlight *f, LinkNumbers *numbers, uint16_t epoch, uint8_t content_type,
+    const uint8_t *content, size_t content_len, uint8_t *queue, size_t queue_len, uint8_t *kept, size_t kept_len);
+/* A handshake message, cut into records that are sent and saved, wholly or not at all: 12, 14, 17, 21, 18, 19, 20. */
+uint8_t link_create_handshake(LinkSending *s, LinkFlight *f, LinkNumbers *numbers, uint8_t type, const uint8_t *body, size_t body_len,
+    uint8_t *queue, size_t queue_len, uint8_t *kept, size_t kept_len);
 
 #ifdef __cplusplus
 }
