@@ -8,19 +8,28 @@ enum { WORDS = 73, NUMBERS = 384, ENTRIES = 12, SAVED = 72, KEPT = ENTRIES * LON
 /* The words of an entry (crates/flight_words/specs/Words.antt). */
 enum { E_TYPE, E_EPOCH, E_NUMBER, E_LENGTH, E_MARKED, E_REMEMBERED, E_WORDS };
 
+/* The two parts of a LinkFlight, lent apart. */
+typedef struct {
+    uint64_t word[WORDS];
+} Records;
+
+typedef struct {
+    uint64_t word[NUMBERS];
+} Numbers;
+
 static Area flights, tables, kept_area;
 static Lent flight, table, kept;
-static LinkFlight *f, flight_before;
-static LinkNumbers *numbers, numbers_before;
+static Records *f, flight_before;
+static Numbers *numbers, numbers_before;
 static uint8_t kept_before[KEPT];
 /* Whether calls alone have made the flight, from fresh, with a buffer that is long enough. */
 static int flight_made;
 
 /* ---- checks */
 
-static LinkFlight plain(const LinkFlight *x)
+static Records plain(const Records *x)
 {
-    LinkFlight p = *x;
+    Records p = *x;
     for (int i = 0; i < ENTRIES; i++) {
         p.word[E_WORDS * i + E_TYPE] %= 256;
         p.word[E_WORDS * i + E_EPOCH] %= 65536;
@@ -37,7 +46,7 @@ static void keep(void)
 
 static void check_flight_kept(void)
 {
-    LinkFlight a, b;
+    Records a, b;
     if (memcmp(&flight_before, f, sizeof flight_before) == 0)
         return;
     require(!flight_made, "a refused call has changed the flight");
@@ -99,7 +108,7 @@ static void call_begin(void)
 {
     keep();
     calling(BEGIN_FLIGHT);
-    uint8_t answer = link_begin_flight(f);
+    uint8_t answer = link_begin_flight(f->word);
     done(BEGIN_FLIGHT, answer);
     require(answer != 0 || f->word[SAVED] == 0, "a flight begun is not empty");
     require(answer != 12 || !flight_made, "12 for a flight that calls made");
@@ -113,7 +122,8 @@ static void call_send_saved(void)
     keep();
     keep_queue();
     calling(SEND_SAVED);
-    uint8_t answer = link_send_saved(s, f, numbers, epoch, type, content_bytes(), content.n, queue.bytes, queue.n, kept.bytes, kept.n);
+    uint8_t answer = link_send_saved(s, f->word, numbers->word, epoch, type, content_bytes(), content.n, queue.bytes, queue.n,
+        kept.bytes, kept.n);
     done(SEND_SAVED, answer);
     if (answer == 0) {
         check_laid(epoch);
@@ -131,7 +141,8 @@ static void call_handshake(void)
     keep();
     keep_queue();
     calling(CREATE_HANDSHAKE);
-    uint8_t answer = link_create_handshake(s, f, numbers, type, content_bytes(), content.n, queue.bytes, queue.n, kept.bytes, kept.n);
+    uint8_t answer = link_create_handshake(s, f->word, numbers->word, type, content_bytes(), content.n, queue.bytes, queue.n,
+        kept.bytes, kept.n);
     done(CREATE_HANDSHAKE, answer);
     if (answer == 0) {
         check_grown();
@@ -161,16 +172,16 @@ void flight_fresh(void)
     size_t mtu = s->word[W_MTU] <= LONGEST_MTU ? (size_t)s->word[W_MTU] : LONGEST_MTU, n = ENTRIES * mtu;
     if (one_in(16))
         n = one_in(2) ? below(n + 1) : n + below(100);
-    flight = lend(&flights, sizeof(LinkFlight), one_in(2));
-    table = lend(&tables, sizeof(LinkNumbers), one_in(2));
+    flight = lend(&flights, sizeof(Records), one_in(2));
+    table = lend(&tables, sizeof(Numbers), one_in(2));
     kept = lend(&kept_area, n, one_in(2));
-    f = (LinkFlight *)(void *)flight.bytes;
-    numbers = (LinkNumbers *)(void *)table.bytes;
+    f = (Records *)(void *)flight.bytes;
+    numbers = (Numbers *)(void *)table.bytes;
     scatter(flight.bytes, flight.n);
     scatter(table.bytes, table.n);
     memset(kept.bytes, (int)below(256), n);
     calling(FLIGHT);
-    link_flight(f, numbers);
+    link_flight(f->word, numbers->word);
     answered(FLIGHT, 0, 0);
     for (int i = 0; i < NUMBERS; i++)
         require(numbers->word[i] == 0, "a table that does not start as zeros");
@@ -198,7 +209,7 @@ void flight_forge(void)
 
 void flight_start(void)
 {
-    flights = area(sizeof(LinkFlight));
-    tables = area(sizeof(LinkNumbers));
+    flights = area(sizeof(Records));
+    tables = area(sizeof(Numbers));
     kept_area = area(KEPT);
 }

@@ -44,8 +44,6 @@ PLACED(LinkTake, kind, 0);
 PLACED(LinkTake, refusal, 1);
 PLACED(LinkTake, length, 8);
 
-SIZED(LinkFlight, 73 * 8, 8);
+SIZED(LinkFlight, (73 + 384) * 8, 8);
 PLACED(LinkFlight, word, 0);
-
-SIZED(LinkNumbers, 384 * 8, 8);
-PLACED(LinkNumbers, word, 0);
+PLACED(LinkFlight, numbers, 73 * 8);

@@ -1,6 +1,5 @@
-/* The record link's C interface. Receiving is in target/staticlib/liblink.a, made by `rt staticlib link`, sending in
- * target/staticlib/liblink_sending.a, made by `rt staticlib link_sending`, saving in target/staticlib/liblink_flight.a, made by
- * `rt staticlib link_flight`.
+/* The record link's C interface, in three static libraries: `rt staticlib link` makes target/staticlib/liblink.a (receiving), and so
+ * link_sending (sending) and link_flight (saved records and handshake messages).
  * Plain functions over memory that the host lends: no allocation, no global state, no requirement on the caller but that each pointer
  * leads to what its type or the length beside it says, and that no two of them overlap. A state is words whose meaning the library
  * keeps; whatever stands in them, a call ends with an answer, and refuses by 12 what is no state. Refusals have the numbers of the
@@ -107,28 +106,24 @@ uint8_t link_sealed(LinkSending *s, size_t length, uint8_t mask_0, uint8_t mask_
 /* The front datagram, copied to the start of a buffer. */
 LinkTake link_take(LinkSending *s, uint8_t *buffer, size_t buffer_len, const uint8_t *queue, size_t queue_len);
 
-/* ---- the flight */
+/* ---- saved records and handshake messages */
 
-/* The records saved: type, epoch, number, length of each, whether it is acknowledged, how many earlier numbers it remembers. */
+/* The flight: twelve saved records, and 32 remembered numbers for each. The contents are in a buffer of the host with at least 12 times
+ * mtu bytes, the same in every call. */
 typedef struct {
-    uint64_t word[73];
+    uint64_t word[73], numbers[384];
 } LinkFlight;
 
-/* The remembered numbers, 32 for each of the 12 records. */
-typedef struct {
-    uint64_t word[384];
-} LinkNumbers;
-
-/* Nothing saved. The contents are kept in a buffer of the host with at least 12 times the MTU bytes, the same in every call. */
-void link_flight(LinkFlight *f, LinkNumbers *numbers);
+/* Nothing saved. */
+void link_flight(uint64_t word[73], uint64_t numbers[384]);
 /* A new flight: it is empty. */
-uint8_t link_begin_flight(LinkFlight *f);
-/* As link_send, and the record is saved; 18 where 12 are. */
-uint8_t link_send_saved(LinkSending *s, LinkFlight *f, LinkNumbers *numbers, uint16_t epoch, uint8_t content_type,
+uint8_t link_begin_flight(uint64_t word[73]);
+/* A record sent and saved. */
+uint8_t link_send_saved(LinkSending *s, uint64_t word[73], uint64_t numbers[384], uint16_t epoch, uint8_t content_type,
     const uint8_t *content, size_t content_len, uint8_t *queue, size_t queue_len, uint8_t *kept, size_t kept_len);
-/* A handshake message, cut into records that are sent and saved, wholly or not at all: 12, 14, 17, 21, 18, 19, 20. */
-uint8_t link_create_handshake(LinkSending *s, LinkFlight *f, LinkNumbers *numbers, uint8_t type, const uint8_t *body, size_t body_len,
-    uint8_t *queue, size_t queue_len, uint8_t *kept, size_t kept_len);
+/* A handshake message of a type, cut, sent and saved, wholly or not at all. */
+uint8_t link_create_handshake(LinkSending *s, uint64_t word[73], uint64_t numbers[384], uint8_t msg_type, const uint8_t *body,
+    size_t body_len, uint8_t *queue, size_t queue_len, uint8_t *kept, size_t kept_len);
 
 #ifdef __cplusplus
 }
