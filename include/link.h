@@ -3,7 +3,8 @@
  * Plain functions over memory that the host lends: no allocation, no global state, no requirement on the caller but that each pointer
  * leads to what its type or the length beside it says, and that no two of them overlap. A state is words whose meaning the library
  * keeps; whatever stands in them, a call ends with an answer, and refuses by 12 what is no state. Refusals have the numbers of the
- * specification. */
+ * specification. A refused call leaves words that calls made, and every buffer, as they are; words that no call made it may write
+ * anew with the same meaning. */
 #ifndef LINK_H
 #define LINK_H
 

@@ -1,0 +1,132 @@
+/* Faults planted around the calls, one by the environment's FAULT, each of which the driver must find. Linked with --wrap,
+ * and like the libraries built without sanitizers. */
+#include <stdlib.h>
+
+#include "link.h"
+
+LinkReading __real_link_read(LinkReceiving *s, const uint8_t *d, size_t n);
+LinkReading __real_link_mask(LinkReceiving *s, uint8_t m0, uint8_t m1, uint8_t *d, size_t n);
+LinkReading __real_link_opened(LinkReceiving *s, uint8_t opened, size_t length, const uint8_t *d, size_t n);
+uint8_t __real_link_begin(LinkReceiving *s, size_t n);
+uint8_t __real_link_key_send(LinkSending *s, uint16_t epoch, const uint8_t *iv);
+uint8_t __real_link_send(LinkSending *s, uint16_t epoch, uint8_t type, const uint8_t *c, size_t cn, uint8_t *q, size_t qn);
+uint8_t __real_link_sealed(LinkSending *s, size_t length, uint8_t m0, uint8_t m1, uint8_t *q, size_t qn);
+LinkTake __real_link_take(LinkSending *s, uint8_t *b, size_t bn, const uint8_t *q, size_t qn);
+uint8_t __real_link_send_saved(LinkSending *s, uint64_t *f, uint64_t *m, uint16_t epoch, uint8_t type, const uint8_t *c, size_t cn, uint8_t *q,
+    size_t qn, uint8_t *k, size_t kn);
+uint8_t __real_link_create_handshake(LinkSending *s, uint64_t *f, uint64_t *m, uint8_t type, const uint8_t *c, size_t cn, uint8_t *q, size_t qn,
+    uint8_t *k, size_t kn);
+
+LinkReading __wrap_link_read(LinkReceiving *s, const uint8_t *d, size_t n);
+LinkReading __wrap_link_mask(LinkReceiving *s, uint8_t m0, uint8_t m1, uint8_t *d, size_t n);
+LinkReading __wrap_link_opened(LinkReceiving *s, uint8_t opened, size_t length, const uint8_t *d, size_t n);
+uint8_t __wrap_link_begin(LinkReceiving *s, size_t n);
+uint8_t __wrap_link_key_send(LinkSending *s, uint16_t epoch, const uint8_t *iv);
+uint8_t __wrap_link_send(LinkSending *s, uint16_t epoch, uint8_t type, const uint8_t *c, size_t cn, uint8_t *q, size_t qn);
+uint8_t __wrap_link_sealed(LinkSending *s, size_t length, uint8_t m0, uint8_t m1, uint8_t *q, size_t qn);
+LinkTake __wrap_link_take(LinkSending *s, uint8_t *b, size_t bn, const uint8_t *q, size_t qn);
+uint8_t __wrap_link_send_saved(LinkSending *s, uint64_t *f, uint64_t *m, uint16_t epoch, uint8_t type, const uint8_t *c, size_t cn, uint8_t *q,
+    size_t qn, uint8_t *k, size_t kn);
+uint8_t __wrap_link_create_handshake(LinkSending *s, uint64_t *f, uint64_t *m, uint8_t type, const uint8_t *c, size_t cn, uint8_t *q, size_t qn,
+    uint8_t *k, size_t kn);
+
+static volatile uint8_t sink;
+
+static int planted(int fault)
+{
+    static int chosen;
+    if (chosen == 0)
+        chosen = atoi(getenv("FAULT"));
+    return chosen == fault;
+}
+
+LinkReading __wrap_link_read(LinkReceiving *s, const uint8_t *d, size_t n)
+{
+    LinkReading r = __real_link_read(s, d, n);
+    if (n > 0 && planted(1))
+        sink = ((const volatile uint8_t *)d)[n];
+    if (n > 0 && planted(2))
+        sink = *((const volatile uint8_t *)d - 1);
+    if (n > 0 && planted(3))
+        *(uint8_t *)(uintptr_t)d = 0;
+    if (r.kind == LINK_UNOPENED && planted(4))
+        r.length++;
+    for (uint64_t i = 0; r.kind == LINK_DROPPED && planted(5); i++)
+        sink = (uint8_t)i;
+    return r;
+}
+
+LinkReading __wrap_link_mask(LinkReceiving *s, uint8_t m0, uint8_t m1, uint8_t *d, size_t n)
+{
+    LinkReading r = __real_link_mask(s, m0, m1, d, n);
+    if (n > 0 && planted(6))
+        d[n - 1] ^= 1;
+    return r;
+}
+
+LinkReading __wrap_link_opened(LinkReceiving *s, uint8_t opened, size_t length, const uint8_t *d, size_t n)
+{
+    LinkReading r = __real_link_opened(s, opened, length, d, n);
+    if (r.kind == LINK_DROPPED && planted(7))
+        r.refusal = 9;
+    return r;
+}
+
+uint8_t __wrap_link_begin(LinkReceiving *s, size_t n)
+{
+    uint8_t answer = __real_link_begin(s, n);
+    if (answer == 1 && planted(8))
+        s->word[21] = 0;
+    return answer;
+}
+
+uint8_t __wrap_link_key_send(LinkSending *s, uint16_t epoch, const uint8_t *iv)
+{
+    if (planted(9))
+        (*((volatile uint8_t *)s + sizeof *s))++;
+    return __real_link_key_send(s, epoch, iv);
+}
+
+uint8_t __wrap_link_send(LinkSending *s, uint16_t epoch, uint8_t type, const uint8_t *c, size_t cn, uint8_t *q, size_t qn)
+{
+    uint8_t answer = __real_link_send(s, epoch, type, c, cn, q, qn);
+    if (answer == 0 && planted(10))
+        q[qn - 1] ^= 1;
+    return answer;
+}
+
+uint8_t __wrap_link_sealed(LinkSending *s, size_t length, uint8_t m0, uint8_t m1, uint8_t *q, size_t qn)
+{
+    uint8_t answer = __real_link_sealed(s, length, m0, m1, q, qn);
+    if (planted(11))
+        sink = ((volatile uint8_t *)q)[qn];
+    return answer;
+}
+
+LinkTake __wrap_link_take(LinkSending *s, uint8_t *b, size_t bn, const uint8_t *q, size_t qn)
+{
+    LinkTake t = __real_link_take(s, b, bn, q, qn);
+    if (t.kind == LINK_TAKEN && t.length < bn && planted(12))
+        b[t.length] ^= 1;
+    return t;
+}
+
+uint8_t __wrap_link_send_saved(LinkSending *s, uint64_t *f, uint64_t *m, uint16_t epoch, uint8_t type, const uint8_t *c, size_t cn, uint8_t *q,
+    size_t qn, uint8_t *k, size_t kn)
+{
+    uint8_t answer = __real_link_send_saved(s, f, m, epoch, type, c, cn, q, qn, k, kn);
+    if (answer == 0 && planted(13))
+        k[kn - 1] ^= 1;
+    return answer;
+}
+
+uint8_t __wrap_link_create_handshake(LinkSending *s, uint64_t *f, uint64_t *m, uint8_t type, const uint8_t *c, size_t cn, uint8_t *q, size_t qn,
+    uint8_t *k, size_t kn)
+{
+    uint8_t answer = __real_link_create_handshake(s, f, m, type, c, cn, q, qn, k, kn);
+    if (answer == 19 && planted(14))
+        f[72]++;
+    if (answer == 0 && planted(15))
+        q[s->word[0] * s->word[1] - 1] ^= 1;
+    return answer;
+}

@@ -1,0 +1,215 @@
+/* The calls that save records in the flight, within the histories of the sending side. */
+#include <string.h>
+
+#include "sending.h"
+
+enum { WORDS = 73, NUMBERS = 384, ENTRIES = 12, SAVED = 72, KEPT = ENTRIES * LONGEST_MTU + 100, BODY = 17000 };
+
+/* The words of an entry (crates/flight_words/specs/Words.antt). */
+enum { E_TYPE, E_EPOCH, E_NUMBER, E_LENGTH, E_MARKED, E_REMEMBERED, E_WORDS };
+
+/* The two parts of a LinkFlight, lent apart. */
+typedef struct {
+    uint64_t word[WORDS];
+} Records;
+
+typedef struct {
+    uint64_t word[NUMBERS];
+} Numbers;
+
+static Area flights, tables, kept_area;
+static Lent flight, table, kept;
+static Records *f, flight_before;
+static Numbers *numbers, numbers_before;
+static uint8_t kept_before[KEPT];
+/* Whether calls alone have made the flight, from fresh, with a buffer that is long enough. */
+static int flight_made;
+
+/* ---- checks */
+
+static Records plain(const Records *x)
+{
+    Records p = *x;
+    for (int i = 0; i < ENTRIES; i++) {
+        p.word[E_WORDS * i + E_TYPE] %= 256;
+        p.word[E_WORDS * i + E_EPOCH] %= 65536;
+    }
+    return p;
+}
+
+static void keep(void)
+{
+    flight_before = *f;
+    numbers_before = *numbers;
+    memcpy(kept_before, kept.bytes, kept.n);
+}
+
+static void check_flight_kept(void)
+{
+    Records a, b;
+    if (memcmp(&flight_before, f, sizeof flight_before) == 0)
+        return;
+    require(!flight_made, "a refused call has changed the flight");
+    for (int i = 0; i < ENTRIES; i++)
+        require(flight_before.word[E_WORDS * i + E_MARKED] <= 1, "a refused call has changed what is no flight");
+    a = plain(&flight_before);
+    b = plain(f);
+    require(memcmp(&a, &b, sizeof a) == 0, "a refused call has changed what the flight means");
+    words_rewritten++;
+}
+
+static void done(int call, uint8_t answer)
+{
+    sending_done(call, 0, answer, answer != 0, !flight_made);
+    check_beside(&flight);
+    check_beside(&table);
+    check_beside(&kept);
+    if (answer != 0)
+        check_flight_kept();
+    require(memcmp(&numbers_before, numbers, sizeof numbers_before) == 0, "the remembered numbers have changed");
+}
+
+/* The contents of the records saved are written, each at its place; all else is as it was. */
+static void check_saved(void)
+{
+    uint64_t from = flight_before.word[SAVED], to = f->word[SAVED], mtu = s->word[W_MTU];
+    require(from <= to && to <= ENTRIES && ENTRIES * mtu <= kept.n, "a flight out of range");
+    for (uint64_t i = from; i < to; i++) {
+        uint64_t length = f->word[E_WORDS * i + E_LENGTH];
+        require(length <= mtu, "a saved record over the MTU");
+        memcpy(kept_before + i * mtu, kept.bytes + i * mtu, (size_t)length);
+    }
+    require(memcmp(kept_before, kept.bytes, kept.n) == 0, "bytes of the flight beside its records have changed");
+}
+
+static uint64_t length_of(const LinkSending *x, uint64_t datagram)
+{
+    return x->word[W_LENGTHS + (x->word[W_FIRST] + datagram) % x->word[W_LIMIT]] % 65536;
+}
+
+/* Datagrams have grown at their ends, or are new; all else in the queue is as it was. */
+static void check_grown(void)
+{
+    uint64_t mtu = s->word[W_MTU], count = before.word[W_COUNT];
+    require(s->word[W_FIRST] == before.word[W_FIRST] && count <= s->word[W_COUNT] && s->word[W_COUNT] <= s->word[W_LIMIT], "a queue out of range");
+    for (uint64_t j = count == 0 ? 0 : count - 1; j < s->word[W_COUNT]; j++) {
+        uint64_t slot = (s->word[W_FIRST] + j) % s->word[W_LIMIT], from = j < count ? length_of(&before, j) : 0, to = length_of(s, j);
+        if (from == to)
+            continue;
+        require(from < to && to <= mtu, "a datagram over the MTU");
+        forgive_queue((size_t)(slot * mtu + from), (size_t)(to - from));
+    }
+    check_queue(0, 0);
+}
+
+/* ---- calls */
+
+static void call_begin(void)
+{
+    keep();
+    calling(BEGIN_FLIGHT);
+    uint8_t answer = link_begin_flight(f->word);
+    done(BEGIN_FLIGHT, answer);
+    require(answer != 0 || f->word[SAVED] == 0, "a flight begun is not empty");
+    require(answer != 12 || !flight_made, "12 for a flight that calls made");
+}
+
+static void call_send_saved(void)
+{
+    uint16_t epoch = some_epoch();
+    uint8_t type = some_type();
+    lend_content(content_length());
+    keep();
+    keep_queue();
+    calling(SEND_SAVED);
+    uint8_t answer = link_send_saved(s, f->word, numbers->word, epoch, type, content_bytes(), content.n, queue.bytes, queue.n,
+        kept.bytes, kept.n);
+    done(SEND_SAVED, answer);
+    if (answer == 0) {
+        check_laid(epoch);
+        check_saved();
+    } else {
+        check_queue(0, 0);
+        require(memcmp(kept_before, kept.bytes, kept.n) == 0, "a refused call has written to the flight");
+    }
+}
+
+static void call_handshake(void)
+{
+    uint8_t type = one_in(3) ? (uint8_t)(1 + below(2)) : (uint8_t)any();
+    lend_content(one_in(16) ? 16380 + below(8) : one_in(8) ? below(BODY) : content_length());
+    keep();
+    keep_queue();
+    calling(CREATE_HANDSHAKE);
+    uint8_t answer = link_create_handshake(s, f->word, numbers->word, type, content_bytes(), content.n, queue.bytes, queue.n,
+        kept.bytes, kept.n);
+    done(CREATE_HANDSHAKE, answer);
+    if (answer == 0) {
+        check_grown();
+        check_saved();
+    } else {
+        check_queue(0, 0);
+        require(memcmp(kept_before, kept.bytes, kept.n) == 0, "a refused call has written to the flight");
+    }
+}
+
+void flight_step(void)
+{
+    uint64_t call = below(8);
+    if (call == 0)
+        call_begin();
+    else if (call < 4)
+        call_handshake();
+    else
+        call_send_saved();
+}
+
+/* ---- states */
+
+/* A fresh flight for the state's MTU, with a buffer mostly of the length it needs. */
+void flight_fresh(void)
+{
+    size_t mtu = s->word[W_MTU] <= LONGEST_MTU ? (size_t)s->word[W_MTU] : LONGEST_MTU, n = ENTRIES * mtu;
+    if (one_in(16))
+        n = one_in(2) ? below(n + 1) : n + below(100);
+    flight = lend(&flights, sizeof(Records), one_in(2));
+    table = lend(&tables, sizeof(Numbers), one_in(2));
+    kept = lend(&kept_area, n, one_in(2));
+    f = (Records *)(void *)flight.bytes;
+    numbers = (Numbers *)(void *)table.bytes;
+    scatter(flight.bytes, flight.n);
+    scatter(table.bytes, table.n);
+    memset(kept.bytes, (int)below(256), n);
+    calling(FLIGHT);
+    link_flight(f->word, numbers->word);
+    answered(FLIGHT, 0, 0);
+    for (int i = 0; i < NUMBERS; i++)
+        require(numbers->word[i] == 0, "a table that does not start as zeros");
+    flight_made = n >= ENTRIES * mtu;
+}
+
+void flight_change(void)
+{
+    uint64_t i = one_in(3) ? SAVED : below(WORDS);
+    f->word[i] = edge_word(f->word[i]);
+    flight_made = 0;
+}
+
+void flight_forge(void)
+{
+    scatter(flight.bytes, flight.n);
+    for (int i = 0; i < ENTRIES && !one_in(16); i++) {
+        f->word[E_WORDS * i + E_LENGTH] = one_in(8) ? edge_word(s->word[W_MTU]) : below(LONGEST_MTU);
+        f->word[E_WORDS * i + E_MARKED] = below(2);
+        f->word[E_WORDS * i + E_REMEMBERED] = below(34);
+    }
+    f->word[SAVED] = below(one_in(8) ? 20 : 13);
+    flight_made = 0;
+}
+
+void flight_start(void)
+{
+    flights = area(sizeof(Records));
+    tables = area(sizeof(Numbers));
+    kept_area = area(KEPT);
+}

@@ -1,0 +1,439 @@
+/* Histories of the receive side. */
+#include <string.h>
+
+#include "fuzz.h"
+
+enum { LONGEST = 17000, WORDS = 89, TAG = 16 };
+#define LAST_NUMBER 0xFFFFFFFFFFFFu
+
+/* The words (crates/link_words/specs/Words.antt). */
+enum { W_COUNT = 15, W_HIGHEST, W_ENCRYPTION, W_RELEASED, W_MIN, W_SIZE, W_CURSOR, W_READINGS, W_ASKED, W_EPOCH, W_TWO, W_HEADER,
+    W_LENGTH, W_NUMBER, W_IVS };
+
+static Area states, datagram_area, ivs;
+static Lent state, datagram, iv;
+static LinkReceiving *s;
+static LinkReceiving before;
+static uint8_t copy[LONGEST];
+static LinkReading last;
+/* Whether a datagram is begun and its end not yet told. */
+static int reading;
+/* Whether calls alone have made the state, from fresh. */
+static int made;
+
+/* ---- checks */
+
+static int is_flat(const uint64_t *w)
+{
+    return w[W_ENCRYPTION] <= 1 && w[W_RELEASED] <= 1 && w[W_ASKED] <= 2 && w[W_TWO] <= 1;
+}
+
+/* The words of the same meaning in which no bit is without one. */
+static LinkReceiving plain(const LinkReceiving *x)
+{
+    LinkReceiving p = *x;
+    for (int i = 0; i < 5; i++)
+        p.word[i] %= 65536;
+    p.word[W_HIGHEST] %= 65536;
+    p.word[W_EPOCH] %= 65536;
+    for (int i = W_IVS; i < WORDS; i++)
+        p.word[i] %= 256;
+    if (p.word[W_ASKED] == 0)
+        memset(&p.word[W_EPOCH], 0, (W_NUMBER - W_EPOCH) * sizeof(uint64_t));
+    if (p.word[W_ASKED] != 2)
+        p.word[W_NUMBER] = 0;
+    return p;
+}
+
+/* Words that calls made stay as they are; forged ones may be written anew with the same meaning. */
+static void check_kept(void)
+{
+    LinkReceiving a, b;
+    if (memcmp(&before, s, sizeof before) == 0)
+        return;
+    require(!made && is_flat(before.word), "a refused call has changed the state");
+    a = plain(&before);
+    b = plain(s);
+    require(memcmp(&a, &b, sizeof a) == 0, "a refused call has changed what the state means");
+    words_rewritten++;
+}
+
+static void done(int call, unsigned kind, unsigned refusal, int refused, int may_be_12)
+{
+    answered(call, kind, refusal);
+    check_beside(&state);
+    check_beside(&datagram);
+    check_beside(&iv);
+    if (refused)
+        check_kept();
+    require(refusal != 12 || !made || may_be_12, "12 for a state that calls made");
+}
+
+static void number_answer(int call, uint8_t answer)
+{
+    done(call, 0, answer, answer != 0 && answer != 6, 0);
+}
+
+/* Fields that the kind does not use are zeros; places lie in the datagram. */
+static void check_reading(const LinkReading *r, size_t n)
+{
+    static const uint8_t zeros[12];
+    int named = r->kind == LINK_PLAINTEXT || r->kind >= LINK_OPENED, sealed = r->kind >= LINK_UNOPENED;
+    size_t head = r->kind == LINK_OPENING ? r->header_len : 0;
+    require(r->start <= n && head <= n - r->start && r->length <= n - r->start - head, "a place outside the datagram");
+    require(r->kind == LINK_OPENING || (r->header_len == 0 && memcmp(r->nonce, zeros, 12) == 0), "a field not used is not zero");
+    require(sealed || r->epoch == 0, "an epoch that is not used is not zero");
+    require((named && r->kind <= LINK_OPENED) || r->content_type == 0, "a type that is not used is not zero");
+    require(r->kind < LINK_PLAINTEXT ? r->number == 0 && r->start == 0 && r->length == 0 : r->refusal == 0, "fields beside a refusal");
+    require(r->number <= LAST_NUMBER, "a number of more than 48 bits");
+    if (r->kind == LINK_PLAINTEXT)
+        require(r->start >= 13 && (r->content_type == 21 || r->content_type == 22 || r->content_type == 26), "a plaintext type");
+    if (r->kind == LINK_UNOPENED)
+        require((r->epoch == 2 || r->epoch == 3) && r->number < 65536 && r->start >= 2, "an unopened record");
+    if (r->kind == LINK_OPENED)
+        require(r->content_type != 0 && r->start >= 2 && (!made || r->epoch >= 2), "an opened record");
+    if (r->kind == LINK_MASK)
+        require(r->length == 16 && r->number == 0 && r->start >= 2 && (!made || r->epoch >= 2), "a mask question");
+    if (r->kind == LINK_OPENING)
+        require(r->header_len >= 2 && r->length >= 16 && (!made || (r->header_len <= 5 && r->epoch >= 2)), "an opening question");
+}
+
+static void reading_answer(int call, LinkReading r, size_t n, int may_be_12)
+{
+    done(call, r.kind, r.refusal, r.kind == LINK_REFUSED, may_be_12);
+    check_reading(&r, n);
+    reading = reading && r.kind != LINK_END && (r.kind != LINK_REFUSED || !one_in(4));
+    last = r;
+}
+
+/* ---- datagrams */
+
+static size_t plaintext(uint8_t *p)
+{
+    static const uint8_t types[] = {21, 22, 26};
+    size_t n = below(40);
+    scatter(p, 13 + n);
+    p[0] = one_in(16) ? p[0] : types[below(3)];
+    p[1] = 0xFE;
+    p[2] = one_in(4) ? 0xFF : 0xFD;
+    memset(p + 3, 0, one_in(16) ? 1 : 2);
+    memset(p + 5, 0, below(7));
+    p[11] = 0;
+    p[12] = (uint8_t)n;
+    return 13 + n;
+}
+
+/* A sealed record; the last of its datagram if it has no length. */
+static size_t sealed(uint8_t *p, int *ends)
+{
+    size_t n = one_in(8) ? below(20) : 16 + below(40), head = 1;
+    int two = !one_in(4), length = !one_in(8);
+    p[0] = (uint8_t)(0x20 | (two ? 8 : 0) | (length ? 4 : 0) | (one_in(8) ? below(4) : 2 + below(2)) | (one_in(64) ? 0x10 : 0));
+    if (two)
+        p[head++] = one_in(8) ? (uint8_t)any() : 0;
+    p[head++] = one_in(2) ? (uint8_t)any() : (uint8_t)below(20);
+    if (length) {
+        p[head++] = 0;
+        p[head++] = (uint8_t)n;
+    }
+    scatter(p + head, n);
+    *ends = !length;
+    return head + n;
+}
+
+static size_t records(uint8_t *p, size_t room)
+{
+    size_t n = 0;
+    int ends = 0;
+    uint64_t most = one_in(4) ? 24 : 1 + below(4);
+    for (uint64_t k = 0; k < most && !ends && n + 80 < room; k++)
+        n += one_in(3) ? plaintext(p + n) : sealed(p + n, &ends);
+    return n;
+}
+
+/* A datagram built of records, then perhaps cut or changed; or random bytes; rarely at the longest length. */
+static size_t build(uint8_t *p)
+{
+    size_t n;
+    if (one_in(12)) {
+        n = below(120);
+        scatter(p, n);
+        if (n > 0 && one_in(2))
+            p[0] = (uint8_t)(0x20 + below(32));
+        return n;
+    }
+    if (one_in(256)) {
+        n = records(p, 200);
+        scatter(p + n, LONGEST - n);
+        return one_in(2) ? 16380 + below(8) : below(LONGEST);
+    }
+    n = records(p, 2000);
+    if (one_in(4))
+        n = below(n + 1);
+    if (one_in(3))
+        mutate(p, n);
+    return n;
+}
+
+/* ---- calls */
+
+static void call_begin(void)
+{
+    static uint8_t built[LONGEST];
+    size_t n = datagram.n;
+    if (!one_in(6)) {
+        n = build(built);
+        datagram = lend(&datagram_area, n, one_in(2));
+        memcpy(datagram.bytes, built, n);
+    }
+    if (one_in(32))
+        n = one_in(2) ? n + 1 : (size_t)edge_word(n);
+    calling(BEGIN);
+    datagrams++;
+    uint8_t answer = link_begin(s, n);
+    number_answer(BEGIN, answer);
+    require((answer == 1) <= (n > 16384), "1 for a datagram that is not too long");
+    if (answer == 0)
+        reading = 1;
+}
+
+static size_t length_lent(void)
+{
+    return one_in(24) && datagram.n > 0 ? below(datagram.n) : datagram.n;
+}
+
+/* An empty part may be lent without a place. */
+static uint8_t *bytes_lent(size_t n)
+{
+    return n == 0 && one_in(2) ? NULL : datagram.bytes + (datagram.beside < datagram.bytes ? datagram.n - n : 0);
+}
+
+static const uint8_t *fixed_lent(size_t n)
+{
+    return n == 0 && one_in(2) ? NULL : datagram.fixed + (datagram.beside < datagram.bytes ? datagram.n - n : 0);
+}
+
+static void call_read(void)
+{
+    size_t n = length_lent();
+    const uint8_t *d = fixed_lent(n);
+    calling(READ);
+    reading_answer(READ, link_read(s, d, n), n, 0);
+}
+
+/* Only the number bytes are written, by the mask. */
+static void check_masked(const LinkReading *r, const uint8_t *d, size_t n, uint8_t m0, uint8_t m1)
+{
+    if (r->kind != LINK_REFUSED) {
+        size_t at = (size_t)before.word[W_CURSOR];
+        require(at < n && n - at > 2, "a mask beyond the datagram");
+        copy[at + 1] ^= m0;
+        if (before.word[W_TWO])
+            copy[at + 2] ^= m1;
+    }
+    require(n == 0 || memcmp(copy, d, n) == 0, "the datagram has other bytes than its mask gives");
+}
+
+static void call_mask(void)
+{
+    size_t n = length_lent();
+    uint8_t *d = bytes_lent(n), m0 = one_in(2) ? 0 : (uint8_t)any(), m1 = one_in(2) ? 0 : (uint8_t)below(8);
+    LinkReading r;
+    if (n > 0)
+        memcpy(copy, d, n);
+    calling(MASK);
+    replies++;
+    r = link_mask(s, m0, m1, d, n);
+    reading_answer(MASK, r, n, 0);
+    check_masked(&r, d, n, m0, m1);
+}
+
+/* The host's plaintext: content, type, zeros; or nothing but zeros. */
+static void put_plaintext(void)
+{
+    size_t n = last.length - TAG, zeros = one_in(2) ? 0 : below(n + 1);
+    uint8_t *p = datagram.bytes + last.start + last.header_len;
+    if (last.start + last.header_len + last.length > datagram.n)
+        return;
+    if (zeros < n && p[n - zeros - 1] == 0)
+        p[n - zeros - 1] = 23;
+    memset(p + n - zeros, 0, zeros);
+}
+
+static void call_opened(void)
+{
+    size_t n = length_lent(), length = (size_t)any();
+    uint8_t yes = one_in(32) ? (uint8_t)any() : (uint8_t)!one_in(4);
+    const uint8_t *d = fixed_lent(n);
+    if (last.kind == LINK_OPENING) {
+        put_plaintext();
+        length = one_in(16) ? (size_t)edge_word(last.length) : last.length - TAG;
+    }
+    calling(OPENED);
+    replies++;
+    reading_answer(OPENED, link_opened(s, yes, length, d, n), n, yes > 1);
+}
+
+static uint16_t some_epoch(void)
+{
+    if (one_in(3) && s->word[W_COUNT] <= 5 && s->word[W_COUNT] > 0)
+        return (uint16_t)s->word[below(s->word[W_COUNT])];
+    return one_in(8) ? (uint16_t)any() : (uint16_t)below(12);
+}
+
+static void call_key(void)
+{
+    uint64_t least = s->word[W_HIGHEST] < 2 ? 2 : s->word[W_HIGHEST] + 1;
+    uint16_t epoch = one_in(6) ? some_epoch() : (uint16_t)(least + (one_in(2) ? 0 : below(4)));
+    iv = lend(&ivs, 12, one_in(2));
+    scatter(iv.bytes, 12);
+    calling(KEY_RECEIVE);
+    number_answer(KEY_RECEIVE, link_key_receive(s, epoch, iv.fixed));
+}
+
+static void call_remove(void)
+{
+    uint16_t epoch = last.kind >= LINK_MASK && one_in(2) ? last.epoch : some_epoch();
+    calling(REMOVE_RECEIVE);
+    number_answer(REMOVE_RECEIVE, link_remove_receive(s, epoch));
+}
+
+static void call_fresh(void)
+{
+    size_t min = one_in(32) ? (size_t)edge_word(17) : below(18);
+    calling(RECEIVING);
+    uint8_t answer = link_receiving(s, min);
+    done(RECEIVING, 0, answer, 0, 1);
+    require((answer == 12) == (min > 17), "a setting in range is refused, or one beyond is taken");
+    made = answer == 0;
+}
+
+static void call_flag(int call)
+{
+    calling(call);
+    number_answer(call, call == ENABLE ? link_enable_peer_encryption(s) : link_release_application_data(s));
+}
+
+/* ---- states */
+
+static void make_state(void)
+{
+    call_fresh();
+    for (uint64_t k = below(6); k > 0; k--) {
+        before = *s;
+        call_key();
+    }
+    before = *s;
+    if (!one_in(6))
+        call_flag(ENABLE);
+    before = *s;
+    if (one_in(3))
+        call_flag(RELEASE);
+}
+
+/* A few words changed, those that lead the calls more often than others. */
+static void change_state(void)
+{
+    for (uint64_t k = 1 + below(3); k > 0; k--) {
+        uint64_t i = one_in(4) ? below(WORDS) : below(W_IVS);
+        s->word[i] = edge_word(s->word[i]);
+    }
+    made = 0;
+}
+
+/* Words of which most are in range, for the datagram lent. */
+static void forge_state(void)
+{
+    uint64_t *w = s->word;
+    uint64_t n = datagram.n;
+    scatter((uint8_t *)w, sizeof s->word);
+    for (int i = 0; i < 5; i++) {
+        w[i] = below(8) | (one_in(8) ? any() << 16 : 0);
+        w[5 + i] = one_in(2) ? below(70) : LAST_NUMBER - below(4);
+    }
+    w[W_COUNT] = below(one_in(16) ? 8 : 6);
+    w[W_HIGHEST] = below(8);
+    w[W_ENCRYPTION] = !one_in(4);
+    w[W_RELEASED] = below(2);
+    w[W_MIN] = below(19);
+    w[W_SIZE] = n;
+    w[W_CURSOR] = n == 0 ? 0 : below(n);
+    w[W_READINGS] = below(18);
+    w[W_ASKED] = below(3);
+    w[W_EPOCH] = w[below(5)];
+    w[W_TWO] = below(2);
+    w[W_HEADER] = one_in(8) ? below(n + 2) : 2 + below(4);
+    w[W_LENGTH] = one_in(8) ? edge_word(n) : 16 + below(40);
+    w[W_NUMBER] = one_in(2) ? below(100) : edge_word(LAST_NUMBER);
+    made = 0;
+}
+
+/* ---- histories */
+
+static void step(void)
+{
+    before = *s;
+    if (last.kind == LINK_MASK && !one_in(5)) {
+        call_mask();
+        return;
+    }
+    if (last.kind == LINK_OPENING && !one_in(5)) {
+        call_opened();
+        return;
+    }
+    switch (below(24)) {
+    case 0: call_key(); break;
+    case 1: call_remove(); break;
+    case 2: call_mask(); break;
+    case 3: call_opened(); break;
+    case 4: call_flag(one_in(2) ? ENABLE : RELEASE); break;
+    case 5: call_begin(); break;
+    default:
+        if (reading)
+            call_read();
+        else
+            call_begin();
+    }
+}
+
+void receiving_history(void)
+{
+    uint64_t kind = below(8), steps = 8 + below(48);
+    LinkReceiving good;
+    state = lend(&states, sizeof(LinkReceiving), one_in(2));
+    s = (LinkReceiving *)(void *)state.bytes;
+    datagram = lend(&datagram_area, 0, one_in(2));
+    memset(&last, 0, sizeof last);
+    reading = 0;
+    made = 0;
+    if (kind == 0) {
+        scatter((uint8_t *)s->word, sizeof s->word);
+        steps = 4;
+    } else {
+        make_state();
+    }
+    if (kind == 1) {
+        forge_state();
+        reading = 1;
+    }
+    for (good = *s; steps > 0; steps--) {
+        if (kind == 1 && one_in(8))
+            forge_state();
+        if (kind == 2 && one_in(6)) {
+            *s = good;
+            change_state();
+        } else if (kind == 2 && one_in(6)) {
+            good = *s;
+        }
+        step();
+    }
+}
+
+void receiving_start(void)
+{
+    states = area(sizeof(LinkReceiving));
+    datagram_area = area(LONGEST);
+    ivs = area(12);
+    datagram = lend(&datagram_area, 0, 1);
+    iv = lend(&ivs, 12, 1);
+}

@@ -1,0 +1,351 @@
+/* Histories of the sending side. */
+#include <string.h>
+
+#include "sending.h"
+
+enum { WORDS = 59, QUEUE = SLOTS * LONGEST_MTU + 100, CONTENT = 17000, BUFFER = 2000 };
+
+Lent queue, content;
+LinkSending *s, before;
+int made;
+
+static Area states, queues, contents, buffers, ivs;
+static Lent state, buffer, iv;
+static const LinkSending *fixed;
+static uint8_t queue_before[QUEUE], buffer_before[BUFFER];
+
+/* ---- checks */
+
+/* The words of the same meaning in which no bit is without one. */
+static LinkSending plain(const LinkSending *x)
+{
+    LinkSending p = *x;
+    p.word[W_EPOCH] %= 65536;
+    p.word[W_HANDSHAKE] %= 65536;
+    p.word[W_APPLICATION] %= 65536;
+    p.word[W_MESSAGE] %= 65536;
+    for (int i = W_LENGTHS; i < W_IVS; i++)
+        p.word[i] %= 65536;
+    for (int i = W_IVS; i < WORDS; i++)
+        p.word[i] %= 256;
+    return p;
+}
+
+/* Words that calls made stay as they are; forged ones may be written anew with the same meaning. */
+static void check_kept(void)
+{
+    LinkSending a, b;
+    if (memcmp(&before, s, sizeof before) == 0)
+        return;
+    require(!made && before.word[W_CLOSED] <= 1 && before.word[W_WAITS] <= 1, "a refused call has changed the state");
+    a = plain(&before);
+    b = plain(s);
+    require(memcmp(&a, &b, sizeof a) == 0, "a refused call has changed what the state means");
+    words_rewritten++;
+}
+
+void sending_done(int call, unsigned kind, unsigned refusal, int refused, int may_be_12)
+{
+    answered(call, kind, refusal);
+    check_beside(&state);
+    check_beside(&queue);
+    check_beside(&content);
+    check_beside(&buffer);
+    check_beside(&iv);
+    if (refused)
+        check_kept();
+    require(refusal != 12 || !made || may_be_12, "12 for a state that calls made");
+}
+
+void keep_queue(void)
+{
+    memcpy(queue_before, queue.bytes, queue.n);
+}
+
+void forgive_queue(size_t at, size_t n)
+{
+    require(at <= queue.n && n <= queue.n - at, "a record outside the queue");
+    memcpy(queue_before + at, queue.bytes + at, n);
+}
+
+void check_queue(size_t at, size_t n)
+{
+    require(at <= queue.n && n <= queue.n - at, "a record outside the queue");
+    require(memcmp(queue_before, queue.bytes, at) == 0, "bytes of the queue before the record have changed");
+    require(memcmp(queue_before + at + n, queue.bytes + at + n, queue.n - at - n) == 0, "bytes of the queue behind the record have changed");
+}
+
+/* ---- calls */
+
+static void call_fresh(size_t mtu, size_t limit)
+{
+    calling(SENDING);
+    uint8_t answer = link_sending(s, mtu, limit);
+    sending_done(SENDING, 0, answer, 0, 1);
+    require((answer == 0) == (mtu >= 576 && mtu <= 1500 && limit >= 1 && limit <= 16), "a setting in range is refused, or one beyond is taken");
+    made = answer == 0 && queue.n >= mtu * limit;
+}
+
+uint16_t some_epoch(void)
+{
+    switch (below(4)) {
+    case 0:
+        return (uint16_t)s->word[W_APPLICATION];
+    case 1:
+        return one_in(4) ? (uint16_t)any() : (uint16_t)below(8);
+    case 2:
+        return 2;
+    default:
+        return one_in(2) ? 0 : (uint16_t)s->word[W_APPLICATION];
+    }
+}
+
+static void call_key(void)
+{
+    uint64_t highest = s->word[W_APPLICATION] > 2 ? s->word[W_APPLICATION] : s->word[W_HANDSHAKE] < 2 ? 1 : 2;
+    uint16_t epoch = one_in(6) ? some_epoch() : (uint16_t)(highest + 1 + (one_in(2) ? 0 : below(4)));
+    iv = lend(&ivs, 12, one_in(2));
+    scatter(iv.bytes, 12);
+    calling(KEY_SEND);
+    uint8_t answer = link_key_send(s, epoch, iv.fixed);
+    sending_done(KEY_SEND, 0, answer, answer != 0, 0);
+}
+
+void lend_content(size_t n)
+{
+    content = lend(&contents, n, one_in(2));
+    memset(content.bytes, (int)below(256), n);
+    scatter(content.bytes, n < 64 ? n : 64);
+}
+
+size_t content_length(void)
+{
+    if (one_in(8) && s->word[W_MTU] <= LONGEST_MTU && s->word[W_MTU] > 40)
+        return (size_t)s->word[W_MTU] - 24 + below(14);
+    return one_in(128) ? below(CONTENT) : one_in(4) ? below(1600) : below(60);
+}
+
+void check_laid(uint16_t epoch)
+{
+    const uint64_t *w = s->word;
+    size_t n = content.n + (epoch == 0 ? 13 : 22);
+    require(w[W_COUNT] >= 1 && w[W_COUNT] <= w[W_LIMIT] && w[W_LIMIT] <= SLOTS && w[W_FIRST] < w[W_LIMIT], "a queue out of range");
+    size_t slot = (size_t)((w[W_FIRST] + w[W_COUNT] - 1) % w[W_LIMIT]), length = (size_t)w[W_LENGTHS + slot];
+    require(length >= n && length <= w[W_MTU], "a datagram over the MTU");
+    check_queue(slot * (size_t)w[W_MTU] + length - n, n);
+}
+
+uint8_t some_type(void)
+{
+    static const uint8_t types[] = {21, 22, 23, 26};
+    return one_in(8) ? (uint8_t)any() : types[below(4)];
+}
+
+const uint8_t *content_bytes(void)
+{
+    return content.n == 0 && one_in(2) ? NULL : content.fixed;
+}
+
+static void call_send(void)
+{
+    uint16_t epoch = some_epoch();
+    uint8_t type = some_type();
+    lend_content(content_length());
+    keep_queue();
+    calling(SEND);
+    uint8_t answer = link_send(s, epoch, type, content_bytes(), content.n, queue.bytes, queue.n);
+    sending_done(SEND, 0, answer, answer != 0, 0);
+    if (answer == 0)
+        check_laid(epoch);
+    else
+        check_queue(0, 0);
+}
+
+/* The oldest sealing that waits; the state is lent through the view that cannot be written. */
+static LinkSealing ask(void)
+{
+    static const uint8_t zeros[17];
+    calling(SEALING);
+    LinkSealing q = link_sealing(fixed);
+    sending_done(SEALING, q.kind, q.refusal, q.kind == 0, 0);
+    if (q.kind != LINK_SEAL) {
+        require(q.epoch == 0 && q.number == 0 && q.start == 0 && q.length == 0, "a field not used is not zero");
+        require(memcmp(q.nonce, zeros, 12) == 0 && memcmp(q.header, zeros, 5) == 0, "a field not used is not zero");
+        return q;
+    }
+    size_t mtu = (size_t)s->word[W_MTU], room = mtu * (size_t)s->word[W_LIMIT];
+    require(q.start >= 5 && q.start <= room && q.length <= room - q.start, "a part outside the queue");
+    require((q.start - 5) / mtu == (q.start + q.length - 1) / mtu, "a part in two datagrams");
+    require(q.length >= 17 && q.refusal == 0, "a part too short");
+    require(q.header[0] == 0x2C + q.epoch % 4 && q.header[3] * 256u + q.header[4] == q.length, "a header of another record");
+    require(q.header[1] * 256u + q.header[2] == q.number % 65536, "a header of another number");
+    require(!made || (q.epoch >= 2 && q.number < LAST_NUMBER), "a sealing of no record");
+    return q;
+}
+
+/* The host seals in place, or leaves what stands there, or writes anything anywhere. */
+static void call_sealed(void)
+{
+    LinkSealing q = ask();
+    size_t length = one_in(12) ? (size_t)edge_word(q.length) : q.length;
+    int in_queue = q.kind == LINK_SEAL && q.start + q.length <= queue.n;
+    if (in_queue && !one_in(4))
+        scatter(queue.bytes + q.start + q.length - 16, 16);
+    if (!made && one_in(4))
+        mutate(queue.bytes, queue.n);
+    keep_queue();
+    calling(SEALED);
+    replies++;
+    uint8_t answer = link_sealed(s, length, (uint8_t)any(), (uint8_t)any(), queue.bytes, queue.n);
+    sending_done(SEALED, 0, answer, answer != 0, 0);
+    require(answer != 0 || in_queue, "a sealing taken that was not asked");
+    if (answer == 0)
+        check_queue(q.start - 5, 5);
+    else
+        check_queue(0, 0);
+}
+
+static void call_take(void)
+{
+    size_t n = one_in(8) ? below(BUFFER) : one_in(8) ? 0 : LONGEST_MTU, from = 0;
+    if (one_in(4) && s->word[W_FIRST] < SLOTS) {
+        n = (size_t)(s->word[W_LENGTHS + s->word[W_FIRST]] % LONGEST_MTU);
+        n = one_in(2) && n > 0 ? n - 1 : n;
+    }
+    buffer = lend(&buffers, n, one_in(2));
+    memset(buffer.bytes, (int)below(256), n);
+    memcpy(buffer_before, buffer.bytes, n);
+    uint8_t *b = n == 0 && one_in(2) ? NULL : buffer.bytes;
+    calling(TAKE);
+    LinkTake t = link_take(s, b, n, queue.fixed, queue.n);
+    sending_done(TAKE, t.kind, t.refusal, t.kind != LINK_TAKEN, 0);
+    require(t.refusal != 16 || (t.length > n && t.length <= before.word[W_MTU]), "a needed length made up");
+    require(t.kind == LINK_TAKEN || t.refusal == 16 || t.length == 0, "a field not used is not zero");
+    if (t.kind == LINK_TAKEN) {
+        from = (size_t)(before.word[W_FIRST] * before.word[W_MTU]);
+        require(t.length <= n && from + t.length <= queue.n, "a datagram outside the buffer");
+        require(memcmp(buffer.bytes, queue.bytes + from, t.length) == 0, "another datagram than the front one");
+        from = t.length;
+    }
+    require(memcmp(buffer.bytes + from, buffer_before + from, n - from) == 0, "bytes behind the datagram have changed");
+}
+
+/* ---- states */
+
+static void make_state(void)
+{
+    size_t mtu = one_in(3) ? 576 + below(925) : 576, limit = one_in(4) ? 1 + below(16) : 1 + below(3), n = mtu * limit;
+    if (one_in(16))
+        n = one_in(2) ? n - 1 - below(n) : n + below(100);
+    queue = lend(&queues, n, one_in(2));
+    memset(queue.bytes, (int)below(256), n);
+    if (one_in(32))
+        mtu = (size_t)edge_word(mtu);
+    if (one_in(32))
+        limit = (size_t)edge_word(limit);
+    call_fresh(mtu, limit);
+    for (uint64_t k = below(4); k > 0; k--) {
+        before = *s;
+        call_key();
+    }
+}
+
+/* A few words changed, those that lead the calls more often than others. */
+static void change_state(void)
+{
+    for (uint64_t k = 1 + below(3); k > 0; k--) {
+        uint64_t i = one_in(4) ? below(WORDS) : below(W_LENGTHS + 3);
+        s->word[i] = edge_word(s->word[i]);
+    }
+    made = 0;
+}
+
+/* Words of which most are in range, for the queue lent. */
+static void forge_state(void)
+{
+    uint64_t *w = s->word, mtu = 576 + below(925), limit = queue.n / mtu;
+    scatter((uint8_t *)w, sizeof s->word);
+    w[W_MTU] = mtu;
+    w[W_LIMIT] = limit > SLOTS ? SLOTS : limit;
+    w[W_FIRST] = below(w[W_LIMIT] + 1);
+    w[W_COUNT] = below(w[W_LIMIT] + 2);
+    w[W_CLOSED] = below(2);
+    w[W_WAITS] = below(2);
+    w[W_SLOT] = below(w[W_LIMIT] + 1);
+    w[W_START] = one_in(4) ? edge_word(mtu) : below(mtu);
+    w[W_LENGTH] = one_in(4) ? edge_word(mtu) : 17 + below(mtu);
+    w[W_EPOCH] = 2 + below(4);
+    w[W_NUMBER] = one_in(2) ? below(100) : any();
+    for (int i = W_PLAINTEXT_NEXT; i < W_MESSAGE; i++)
+        w[i] = one_in(2) ? below(100) : LAST_NUMBER - below(3);
+    w[W_HANDSHAKE] = below(4);
+    w[W_APPLICATION] = below(8);
+    for (int i = W_LENGTHS; i < W_IVS; i++)
+        w[i] = one_in(8) ? edge_word(mtu) : below(mtu);
+    made = 0;
+}
+
+/* ---- histories */
+
+static void step(void)
+{
+    before = *s;
+    if (one_in(3)) {
+        flight_step();
+        return;
+    }
+    switch (below(12)) {
+    case 0: call_key(); break;
+    case 1: case 2: call_take(); break;
+    case 3: case 4: case 5: call_sealed(); break;
+    case 6: ask(); break;
+    default: call_send(); break;
+    }
+}
+
+void sending_history(void)
+{
+    uint64_t kind = below(8), steps = 8 + below(64);
+    LinkSending good;
+    state = lend(&states, sizeof(LinkSending), one_in(2));
+    s = (LinkSending *)(void *)state.bytes;
+    fixed = (const LinkSending *)(const void *)state.fixed;
+    made = 0;
+    make_state();
+    flight_fresh();
+    if (kind == 0) {
+        scatter((uint8_t *)s->word, sizeof s->word);
+        made = 0;
+        steps = 4;
+    }
+    if (kind == 1)
+        scatter(queue.bytes, queue.n);
+    for (good = *s; steps > 0; steps--) {
+        if (kind == 1 && one_in(4))
+            forge_state();
+        if (kind == 1 && one_in(6))
+            flight_forge();
+        if (kind == 3 && one_in(8))
+            flight_change();
+        if (kind == 2 && one_in(6)) {
+            *s = good;
+            change_state();
+        } else if (kind == 2 && one_in(6)) {
+            good = *s;
+        }
+        step();
+    }
+}
+
+void sending_start(void)
+{
+    states = area(sizeof(LinkSending));
+    queues = area(QUEUE);
+    contents = area(CONTENT);
+    buffers = area(BUFFER);
+    ivs = area(12);
+    flight_start();
+    content = lend(&contents, 0, 1);
+    buffer = lend(&buffers, 0, 1);
+    iv = lend(&ivs, 12, 1);
+}
