@@ -1,0 +1,255 @@
+// The sending side of a link as C functions: a static library for hosts. The state is 59 words that the host keeps and lends, and the
+// queue a buffer of its own. Whatever stands in the words, a call ends with an answer.
+ghost use mathlib.Core.Path.{_≡_};
+ghost use mathlib.Core.Bool.{true};
+ghost use lib.ListN.{length};
+ghost use Rattle.send_keys.specs.Keys as keying;
+ghost use Rattle.outgoing.specs.State.{refusal, started, keyingState};
+ghost use Rattle.outgoing.specs.Send.{sendAnswer, sendState, sendMemory};
+ghost use Rattle.sealing.specs.Sealing as sealings;
+ghost use Rattle.sealing.specs.Take as takes;
+ghost use Rattle.send_words.specs.Words.{stateOf, isFlat};
+ghost use Rattle.link_sending.specs.Calls.{
+  masks,
+  flatSealing,
+  noSealing,
+  flatTake,
+  noTake,
+  Sends,
+  Keys,
+  Seals,
+  Takes,
+  Taken,
+  either,
+};
+use outgoing::SendAnswer;
+use outgoing::Sending;
+use sealing::SealAnswer;
+use sealing::SealQuestion;
+use sealing::TakeAnswer;
+use send_keys::KeyAnswer;
+
+// The sealing that is asked for, by kind: 0 refused by 12, 1 none waits, 2 a record's full epoch and number, nonce, header with its
+// number not masked, and the place in the queue of what is to be sealed.
+#[repr(C)]
+pub struct LinkSealing {
+    pub kind: u8,
+    pub refusal: u8,
+    pub epoch: u16,
+    pub number: u64,
+    pub start: usize,
+    pub length: usize,
+    pub nonce: [u8; 12],
+    pub header: [u8; 5],
+}
+
+// A datagram taken, by kind: 0 refused by 12, 16 or 23, 1 the queue is empty, 2 a datagram of so many bytes. For 16 the length is
+// what is needed.
+#[repr(C)]
+pub struct LinkTake {
+    pub kind: u8,
+    pub refusal: u8,
+    pub length: usize,
+}
+
+// ---- answers as numbers
+
+fn answer_of(a: SendAnswer) -> u8
+    ensures { λ r. ⌜ r ≡ refusal a ⌝ }
+{
+    match a {
+        SendAnswer::Done => 0,
+        SendAnswer::OutOfRange => 12,
+        SendAnswer::BadEpoch => 13,
+        SendAnswer::BadRecord => 14,
+        SendAnswer::KeysAbsent => 17,
+        SendAnswer::MessagesSpent => 21,
+        SendAnswer::FlightFull => 18,
+        SendAnswer::QueueFull => 19,
+        SendAnswer::NumbersSpent => 20,
+    }
+}
+
+fn key_answer_of(a: KeyAnswer) -> u8
+    ensures { λ r. ⌜ r ≡ keying.refusal a ⌝ }
+{
+    match a {
+        KeyAnswer::Keyed => 0,
+        KeyAnswer::OutOfRange => 12,
+        KeyAnswer::BadEpoch => 13,
+        KeyAnswer::SealingWaits => 23,
+    }
+}
+
+fn seal_answer_of(a: SealAnswer) -> u8
+    ensures { λ r. ⌜ r ≡ sealings.refusal a ⌝ }
+{
+    match a {
+        SealAnswer::Done => 0,
+        SealAnswer::OutOfRange => 12,
+        SealAnswer::NoQuestion => 15,
+    }
+}
+
+fn no_sealing(kind: u8, refusal: u8) -> LinkSealing
+    ensures { λ r. ⌜ r ≡ noSealing kind refusal ⌝ }
+{
+    LinkSealing {
+        kind: kind,
+        refusal: refusal,
+        epoch: 0,
+        number: 0,
+        start: 0,
+        length: 0,
+        nonce: [0u8; 12],
+        header: [0u8; 5],
+    }
+}
+
+fn flat_sealing(q: SealQuestion, nonce: [u8; 12], header: [u8; 5]) -> LinkSealing
+    ensures { λ r. ⌜ r ≡ flatSealing q nonce header ⌝ }
+{
+    match q {
+        SealQuestion::OutOfRange => no_sealing(0, 12),
+        SealQuestion::Nothing => no_sealing(1, 0),
+        SealQuestion::Seal {
+            epoch,
+            number,
+            start,
+            length,
+        } => LinkSealing {
+            kind: 2,
+            refusal: 0,
+            epoch: epoch,
+            number: number,
+            start: start,
+            length: length,
+            nonce: nonce,
+            header: header,
+        },
+    }
+}
+
+fn no_take(kind: u8, refusal: u8, length: usize) -> LinkTake
+    ensures { λ r. ⌜ r ≡ noTake kind refusal length ⌝ }
+{
+    LinkTake {
+        kind: kind,
+        refusal: refusal,
+        length: length,
+    }
+}
+
+fn flat_take(a: TakeAnswer) -> LinkTake
+    ensures { λ r. ⌜ r ≡ flatTake a ⌝ }
+{
+    match a {
+        TakeAnswer::Taken(n) => no_take(2, 0, n),
+        TakeAnswer::OutOfRange => no_take(0, 12, 0),
+        TakeAnswer::Nothing => no_take(1, 0, 0),
+        TakeAnswer::Unsealed => no_take(0, 23, 0),
+        TakeAnswer::Short(n) => no_take(0, 16, n),
+    }
+}
+
+// ---- the calls
+
+// Nothing keyed, nothing queued, whatever stood in the words. MTU 576 to 1,500, at most 1 to 16 datagrams.
+#[no_mangle]
+pub extern "C" fn link_sending(w: &mut [u64; 59], mtu: usize, limit: usize) -> u8
+    ensures { λ r. ⌜ (r ≡ refusal (started mtu limit .answer)) × (stateOf (now (w .exit)) ≡ started mtu limit .state) × (isFlat (now (w .exit)) ≡ true) ⌝ }
+{
+    let k = Sending::fresh(mtu, limit);
+    let a = k.answer;
+    send_words::save(w, k.state);
+    answer_of(a)
+}
+
+// Keys an epoch to send, with its IV.
+#[no_mangle]
+pub extern "C" fn link_key_send(w: &mut [u64; 59], epoch: u16, iv: &[u8; 12]) -> u8
+    ensures { λ r. ⌜ Keys r (now (w .exit)) (now (w .entry)) (keyingState (stateOf (now (w .entry))) epoch (now (iv .entry))) ⌝ }
+{
+    if send_words::is_flat(w) {
+        let v = *iv;
+        let s = send_words::load(w);
+        let k = s.key_send(epoch, v);
+        let a = k.answer;
+        send_words::save(w, k.state);
+        return key_answer_of(a);
+    }
+    12
+}
+
+// A record that is not saved: in plaintext in epoch 0, else to be sealed.
+#[no_mangle]
+pub extern "C" fn link_send(
+    w: &mut [u64; 59],
+    epoch: u16,
+    content_type: u8,
+    content: &[u8],
+    queue: &mut [u8],
+) -> u8
+    ensures { λ r. ⌜ Sends r (now (w .exit)) (now (w .entry)) (sendState (sendAnswer (stateOf (now (w .entry))) (length (now (queue .entry))) epoch «content_type» (length (now (content .entry)))) (stateOf (now (w .entry))) epoch (length (now (content .entry)))) ⌝ }
+    ensures { λ r. ⌜ now (queue .exit) ≡ either (now (w .entry)) (sendMemory (sendAnswer (stateOf (now (w .entry))) (length (now (queue .entry))) epoch «content_type» (length (now (content .entry)))) (stateOf (now (w .entry))) epoch «content_type» (now (content .entry)) (now (queue .entry))) (now (queue .entry)) ⌝ }
+{
+    if send_words::is_flat(w) {
+        let s = send_words::load(w);
+        let k = s.send(epoch, content_type, content, queue);
+        let a = k.answer;
+        send_words::save(w, k.state);
+        return answer_of(a);
+    }
+    12
+}
+
+// The oldest sealing that waits.
+#[no_mangle]
+pub extern "C" fn link_sealing(w: &[u64; 59]) -> LinkSealing
+    ensures { λ r. ⌜ r ≡ Seals (now (w .entry)) (sealings.questionOf (stateOf (now (w .entry)))) ⌝ }
+{
+    if send_words::is_flat(w) {
+        let q = sealing::sealing(send_words::load(w));
+        let k = q.question;
+        let nonce = q.nonce;
+        let header = q.header;
+        return flat_sealing(k, nonce, header);
+    }
+    no_sealing(0, 12)
+}
+
+// The host has sealed so many bytes in place, and this is the mask of the two number bytes.
+#[no_mangle]
+pub extern "C" fn link_sealed(
+    w: &mut [u64; 59],
+    length: usize,
+    mask_0: u8,
+    mask_1: u8,
+    queue: &mut [u8],
+) -> u8
+    ensures { λ r. ⌜ Takes r (now (w .exit)) (now (w .entry)) (sealings.sealedState (sealings.sealAnswer (stateOf (now (w .entry))) (lib.ListN.length (now (queue .entry))) length) (stateOf (now (w .entry))) (now (queue .entry))) ⌝ }
+    ensures { λ r. ⌜ now (queue .exit) ≡ either (now (w .entry)) (sealings.sealedMemory (sealings.sealAnswer (stateOf (now (w .entry))) (lib.ListN.length (now (queue .entry))) length) (stateOf (now (w .entry))) (masks «mask_0» «mask_1») (now (queue .entry))) (now (queue .entry)) ⌝ }
+{
+    if send_words::is_flat(w) {
+        let k = sealing::sealed(send_words::load(w), length, [mask_0, mask_1], queue);
+        let a = k.answer;
+        send_words::save(w, k.state);
+        return seal_answer_of(a);
+    }
+    12
+}
+
+// The front datagram, if it is wholly sealed, copied to the start of a buffer.
+#[no_mangle]
+pub extern "C" fn link_take(w: &mut [u64; 59], buffer: &mut [u8], queue: &[u8]) -> LinkTake
+    ensures { λ r. ⌜ Taken r (now (w .exit)) (now (w .entry)) (takes.takeState (takes.takeAnswer (stateOf (now (w .entry))) (length (now (queue .entry))) (length (now (buffer .entry)))) (stateOf (now (w .entry)))) ⌝ }
+    ensures { λ r. ⌜ now (buffer .exit) ≡ either (now (w .entry)) (takes.takeBuffer (takes.takeAnswer (stateOf (now (w .entry))) (length (now (queue .entry))) (length (now (buffer .entry)))) (stateOf (now (w .entry))) (now (queue .entry)) (now (buffer .entry))) (now (buffer .entry)) ⌝ }
+{
+    if send_words::is_flat(w) {
+        let k = sealing::poll_packet_tx(send_words::load(w), buffer, queue);
+        let a = k.answer;
+        send_words::save(w, k.state);
+        return flat_take(a);
+    }
+    no_take(0, 12, 0)
+}
