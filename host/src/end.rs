@@ -1,0 +1,215 @@
+//! What both ends have: socket, link, ciphers, and a log of what happens for the process that started them.
+
+use std::collections::VecDeque;
+use std::io::{self, BufWriter, Stdout, Write};
+use std::net::UdpSocket;
+use std::os::fd::AsRawFd;
+use std::process;
+use std::time::{Duration, Instant};
+
+use huskelapse::{Cipher, Reading, Receiver, Refusal, Sender};
+
+use crate::crypto::Keys;
+use crate::options::Options;
+use crate::system;
+
+pub const MTU: usize = 1200;
+/// Datagrams on their way to the link at once, so that no socket's buffer overflows.
+pub const PACE: usize = 64;
+
+/// A record that is handed over.
+pub struct Record {
+    pub epoch: u16,
+    pub number: u64,
+    pub content_type: u8,
+    pub content: Vec<u8>,
+}
+
+pub struct End {
+    socket: UdpSocket,
+    pub sender: Sender,
+    pub receiver: Receiver,
+    keys_out: Keys,
+    keys_in: Keys,
+    secrets: [String; 2],
+    pub log: BufWriter<Stdout>,
+    pub outstanding: usize,
+    moved: Instant,
+    pub arrived: VecDeque<Record>,
+    started: Instant,
+    limit: Duration,
+}
+
+/// The keys of the sending direction, each sealing logged.
+struct Logged<'a> {
+    keys: &'a mut Keys,
+    log: &'a mut BufWriter<Stdout>,
+}
+
+fn log_record(log: &mut impl Write, what: char, epoch: u16, number: u64, content_type: u8, content: &[u8]) {
+    const DIGITS: &[u8; 16] = b"0123456789abcdef";
+    let mut hex = Vec::with_capacity(2 * content.len() + 1);
+    for byte in content {
+        hex.extend([DIGITS[usize::from(byte >> 4)], DIGITS[usize::from(byte & 15)]]);
+    }
+    hex.push(b'\n');
+    let _ = write!(log, "{what} {epoch} {number} {content_type} ");
+    let _ = log.write_all(&hex);
+}
+
+impl Cipher for Logged<'_> {
+    fn mask(&mut self, epoch: u16, sample: &[u8; 16]) -> [u8; 2] {
+        self.keys.mask(epoch, sample)
+    }
+
+    fn open(&mut self, epoch: u16, number: u64, nonce: &[u8; 12], header: &[u8], part: &mut [u8]) -> bool {
+        self.keys.open(epoch, number, nonce, header, part)
+    }
+
+    fn seal(&mut self, epoch: u16, number: u64, nonce: &[u8; 12], header: &[u8; 5], part: &mut [u8]) {
+        let n = part.len() - 17;
+        log_record(self.log, 's', epoch, number, part[n], &part[..n]);
+        self.keys.seal(epoch, number, nonce, header, part);
+    }
+}
+
+impl End {
+    pub fn new(options: &Options, name: &str, port: u16) -> io::Result<End> {
+        let socket = UdpSocket::bind("127.0.0.1:0")?;
+        socket.connect(("127.0.0.1", port))?;
+        socket.set_nonblocking(true)?;
+        let secret = |from: &str| format!("{} from the {from}", options.seed);
+        let other = if name == "post" { "gateway" } else { "post" };
+        let refused = |why: Refusal| io::Error::other(why);
+        let mut log = BufWriter::with_capacity(1 << 16, io::stdout());
+        writeln!(log, "port {}", socket.local_addr()?.port())?;
+        log.flush()?;
+        Ok(End {
+            socket,
+            sender: Sender::new(MTU, 16).map_err(refused)?,
+            receiver: Receiver::new(16).map_err(refused)?,
+            keys_out: Keys::new(options.suite),
+            keys_in: Keys::new(options.suite),
+            secrets: [secret(name), secret(other)],
+            log,
+            outstanding: 0,
+            moved: Instant::now(),
+            arrived: VecDeque::new(),
+            started: Instant::now(),
+            limit: Duration::from_secs(options.seconds),
+        })
+    }
+
+    /// A refusal that this host never meets.
+    pub fn must<T>(&mut self, answer: Result<T, Refusal>) -> T {
+        answer.unwrap_or_else(|why| self.stop(&why.to_string()))
+    }
+
+    fn stop(&mut self, why: &str) -> ! {
+        let _ = writeln!(self.log, "stopped {why}");
+        let _ = self.log.flush();
+        process::exit(2)
+    }
+
+    /// Says something to the process that started this one.
+    pub fn say(&mut self, line: std::fmt::Arguments<'_>) {
+        let _ = writeln!(self.log, "{line}");
+    }
+
+    /// Keys an epoch to send.
+    pub fn key_send(&mut self, epoch: u16) {
+        let iv = self.keys_out.add(epoch, &self.secrets[0]);
+        let keyed = self.sender.key(epoch, &iv);
+        self.must(keyed);
+    }
+
+    /// Keys an epoch to receive.
+    pub fn key_receive(&mut self, epoch: u16) {
+        let iv = self.keys_in.add(epoch, &self.secrets[1]);
+        let keyed = self.receiver.key(epoch, &iv);
+        self.must(keyed);
+        self.receiver.enable_peer_encryption();
+        self.say(format_args!("k {epoch}"));
+    }
+
+    /// Seals what waits and sends every queued datagram; how many there were.
+    pub fn flush(&mut self) -> usize {
+        self.sender.seal(&mut Logged { keys: &mut self.keys_out, log: &mut self.log });
+        let mut buffer = [0; MTU];
+        for sent in 0.. {
+            let taken = self.sender.take(&mut buffer).map(|taken| taken.map(|datagram| datagram.len()));
+            match self.must(taken) {
+                Some(n) => {
+                    let _ = self.socket.send(&buffer[..n]);
+                    self.outstanding += 1;
+                }
+                None => return sent,
+            }
+        }
+        unreachable!()
+    }
+
+    fn read(&mut self, datagram: &mut [u8]) {
+        let readings = match self.receiver.read(datagram, &mut self.keys_in) {
+            Ok(readings) => readings,
+            Err(why) => return writeln!(self.log, "x {}\ng", why.number()).unwrap_or(()),
+        };
+        for reading in readings {
+            let record = match reading {
+                Reading::Opened { epoch, number, content_type, content } => {
+                    log_record(&mut self.log, 'r', epoch, number, content_type, content);
+                    Record { epoch, number, content_type, content: content.to_vec() }
+                }
+                Reading::Plaintext { number, content_type, content } => {
+                    let _ = writeln!(self.log, "p");
+                    Record { epoch: 0, number, content_type, content: content.to_vec() }
+                }
+                Reading::Unopened { .. } => {
+                    let _ = writeln!(self.log, "u");
+                    continue;
+                }
+                Reading::Dropped(why) | Reading::Fault(why) => {
+                    let _ = writeln!(self.log, "x {}", why.number());
+                    continue;
+                }
+            };
+            self.arrived.push_back(record);
+        }
+        let _ = writeln!(self.log, "g");
+    }
+
+    /// Waits for datagrams, at most so many milliseconds, and reads them. False when this process is to end.
+    pub fn wait(&mut self, milliseconds: i32) -> bool {
+        if milliseconds > 0 {
+            let _ = self.log.flush();
+        }
+        let ready = system::wait([Some(self.socket.as_raw_fd()), Some(0)], milliseconds);
+        if ready[1] {
+            let mut credits = [0; 4096];
+            match system::read_some(0, &mut credits) {
+                Ok(n) if n > 0 && !credits[..n].contains(&b'q') => {
+                    self.outstanding = self.outstanding.saturating_sub(n);
+                    self.moved = Instant::now();
+                }
+                _ => return false,
+            }
+        }
+        if self.outstanding > 0 && self.moved.elapsed() > Duration::from_millis(500) {
+            // Datagrams are gone between the sockets.
+            self.outstanding = 0;
+        }
+        if ready[0] {
+            let mut buffer = [0; 2048];
+            for _ in 0..PACE {
+                match self.socket.recv(&mut buffer) {
+                    Ok(n) => self.read(&mut buffer[..n]),
+                    Err(_) => break,
+                }
+            }
+        }
+        if self.started.elapsed() > self.limit {
+            self.stop("the time is over");
+        }
+        true
+    }
+}
