@@ -1,4 +1,5 @@
-/* The record link's C interface: target/staticlib/liblink.a, made by `rt staticlib link`.
+/* The record link's C interface. Receiving is in target/staticlib/liblink.a, made by `rt staticlib link`, sending in
+ * target/staticlib/liblink_sending.a, made by `rt staticlib link_sending`.
  * Plain functions over memory that the host lends: no allocation, no global state, no requirement on the caller but that each pointer
  * leads to what its type or the length beside it says, and that no two of them overlap. A state is words whose meaning the library
  * keeps; whatever stands in them, a call ends with an answer, and refuses by 12 what is no state. Refusals have the numbers of the
@@ -58,6 +59,51 @@ uint8_t link_begin(LinkReceiving *s, size_t n);
 LinkReading link_read(LinkReceiving *s, const uint8_t *d, size_t n);
 LinkReading link_mask(LinkReceiving *s, uint8_t mask_0, uint8_t mask_1, uint8_t *d, size_t n);
 LinkReading link_opened(LinkReceiving *s, uint8_t opened, size_t length, const uint8_t *d, size_t n);
+
+/* ---- sending */
+
+/* The sending side: settings, the queue's lengths, the oldest sealing that waits, epochs with their IVs and next numbers. */
+typedef struct {
+    uint64_t word[59];
+} LinkSending;
+
+enum {
+    LINK_NO_SEALING = 1, /* none waits */
+    LINK_SEAL = 2        /* seal length bytes of the queue from start on, for epoch and number under nonce, header beside them */
+};
+
+/* kind 0 is refused, by 12. The part to seal is the content, its type and room for the tag of 16. */
+typedef struct {
+    uint8_t kind, refusal;
+    uint16_t epoch;
+    uint64_t number;
+    size_t start, length;
+    uint8_t nonce[12], header[5];
+} LinkSealing;
+
+enum {
+    LINK_EMPTY = 1, /* the queue is empty */
+    LINK_TAKEN = 2  /* a datagram of length bytes is at the start of the buffer */
+};
+
+/* kind 0 is refused: 12, 23 (the front datagram is not wholly sealed), 16 (length bytes are needed). */
+typedef struct {
+    uint8_t kind, refusal;
+    size_t length;
+} LinkTake;
+
+/* Nothing keyed, nothing queued: MTU 576 to 1,500, at most limit datagrams, 1 to 16. The queue is a buffer of the host with at least
+ * limit times mtu bytes, the same in every call. */
+uint8_t link_sending(LinkSending *s, size_t mtu, size_t limit);
+uint8_t link_key_send(LinkSending *s, uint16_t epoch, const uint8_t iv[12]);
+/* A record: in plaintext in epoch 0, else to be sealed. */
+uint8_t link_send(LinkSending *s, uint16_t epoch, uint8_t content_type, const uint8_t *content, size_t content_len, uint8_t *queue,
+    size_t queue_len);
+/* The oldest sealing that waits; the host seals it in place in the queue, then says so, with the mask of the two number bytes. */
+LinkSealing link_sealing(const LinkSending *s);
+uint8_t link_sealed(LinkSending *s, size_t length, uint8_t mask_0, uint8_t mask_1, uint8_t *queue, size_t queue_len);
+/* The front datagram, copied to the start of a buffer. */
+LinkTake link_take(LinkSending *s, uint8_t *buffer, size_t buffer_len, const uint8_t *queue, size_t queue_len);
 
 #ifdef __cplusplus
 }

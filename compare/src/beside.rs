@@ -13,6 +13,13 @@ pub struct Line {
     pub answered: String,
 }
 
+impl Line {
+    /// 01's number of a refusal, or 0: the first byte of every answer.
+    pub fn refusal(&self) -> usize {
+        usize::from_str_radix(&self.answered[2..4], 16).unwrap()
+    }
+}
+
 pub fn script(lines: &[Line]) -> String {
     lines.iter().map(|line| line.asked.clone() + "\n").collect()
 }

@@ -10,7 +10,7 @@ use std::{env, io};
 use dimpl::beside::{self, Batch};
 use dimpl::dice::Dice;
 use dimpl::histories::generate::random;
-use dimpl::histories::{History, Step, limits, reference};
+use dimpl::histories::{History, Step, between, limits, reference};
 
 fn fails(program: &str, history: &History) -> io::Result<bool> {
     beside::fails(program, &reference::run(history).lines)
@@ -40,10 +40,11 @@ fn without(history: &History, step: usize, taken: Range<usize>, first: usize) ->
 fn shrink(program: &str, mut history: History) -> io::Result<History> {
     loop {
         let before = history.clone();
-        let min_protected = history.min_protected;
+        let (min_protected, between) = (history.min_protected, history.between);
         beside::drop_steps(&mut history.steps, |steps| {
             let other = History {
                 min_protected,
+                between,
                 steps: steps.to_vec(),
             };
             fails(program, &other)
@@ -122,7 +123,8 @@ fn compare(program: &str, count: u64, seed: u64) -> io::Result<bool> {
     let fixed = histories.len();
     // Each history has its own random numbers.
     histories.extend((0..count).map(|i| random(&mut Dice::new(seed << 32 ^ i))));
-    let (mut steps, mut kinds, mut reasons) = (0, [0; 10], [0; 12]);
+    let (mut steps, mut kinds, mut reasons, mut refusals) = (0, [0; 10], [0; 12], [0; 24]);
+    let mut early = 0;
     let mut batch = Batch::default();
     let mut failed = None;
     let total = histories.len();
@@ -135,6 +137,10 @@ fn compare(program: &str, count: u64, seed: u64) -> io::Result<bool> {
         for (sum, n) in reasons.iter_mut().zip(run.reasons) {
             *sum += n;
         }
+        for line in &run.lines {
+            refusals[line.refusal()] += 1;
+        }
+        early += between::at_questions(&run.lines);
         failed = batch.add(program, history, run.lines)?;
         if failed.is_some() {
             break;
@@ -167,6 +173,10 @@ fn compare(program: &str, count: u64, seed: u64) -> io::Result<bool> {
     }
     for (reason, n) in reasons.iter().enumerate().skip(4) {
         println!("  dropped by {reason:<7} {n:>9}");
+    }
+    println!("  keyed, removed or released while a question waits {early:>9}");
+    for refusal in [1, 13, 15, 23] {
+        println!("  refused by {refusal:<7} {:>9}", refusals[refusal]);
     }
     Ok(true)
 }

@@ -350,6 +350,11 @@ pub fn random(dice: &mut Dice) -> History {
     }
     History {
         min_protected: min,
+        between: if dice.once_in(2) {
+            dice.below(usize::MAX) as u64
+        } else {
+            0
+        },
         steps,
     }
 }

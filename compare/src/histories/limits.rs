@@ -74,6 +74,7 @@ pub fn all() -> Vec<History> {
     let mut add = |min: u8, steps: Vec<Step>| {
         all.push(History {
             min_protected: min,
+            between: 0,
             steps,
         })
     };
@@ -551,6 +552,7 @@ pub fn longest() -> Vec<History> {
     let text = |n: usize| -> Vec<u8> { (0..n).map(|i| (i * 7) as u8).collect() };
     let history = |steps| History {
         min_protected: 16,
+        between: 0,
         steps,
     };
     vec![

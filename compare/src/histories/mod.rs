@@ -1,6 +1,7 @@
 //! Whole histories of receiving: their steps, and what the Rust answers to them as lines of text.
 //! compare/README.md has the layout of the lines.
 
+pub mod between;
 pub mod generate;
 pub mod limits;
 pub mod reference;
@@ -36,6 +37,8 @@ pub enum Step {
 #[derive(Debug, Clone, PartialEq, Eq)]
 pub struct History {
     pub min_protected: u8,
+    /// Where the random numbers begin for the calls between the steps that change nothing; 0: none.
+    pub between: u64,
     pub steps: Vec<Step>,
 }
 

@@ -36,7 +36,7 @@ pub fn run(history: &History) -> Run {
         let keyed = engine::probe::receive_epochs(&engine);
         match step {
             Step::Key { epoch, iv } => {
-                // X11, X12: the Rust evicts the oldest epoch for a fifth, and replaces one.
+                // Differences 15 and 16: the Rust evicts the oldest epoch for a fifth, and replaces one.
                 let applications = keyed.iter().filter(|epoch| **epoch >= 3).count();
                 if *epoch < 2 || *epoch <= highest || *epoch >= 3 && applications >= 4 {
                     continue;
@@ -53,12 +53,12 @@ pub fn run(history: &History) -> Run {
             }
             Step::Remove(_) => {}
             Step::Encrypt => {
-                // X14: nothing is stored to be read again, for `parse_records` stores nothing.
+                // Difference 18: nothing is stored to be read again, for `parse_records` stores nothing.
                 engine.enable_peer_encryption().unwrap();
                 run.say('e', &[], Answer::default());
             }
             Step::Release => {
-                // X13: the call that keeps the keys of epoch 2.
+                // Difference 17: the call that keeps the keys of epoch 2.
                 engine.release_application_data_retaining_handshake_keys();
                 run.say('l', &[], Answer::default());
             }
@@ -76,6 +76,9 @@ pub fn run(history: &History) -> Run {
                 datagram(&mut engine, history.min_protected, bytes, replies, &mut run)
             }
         }
+    }
+    if history.between != 0 {
+        run.lines = between::add(run.lines, history.between);
     }
     run
 }
@@ -211,7 +214,7 @@ impl RecordHandler for Tap<'_> {
         seq: Sequence,
         ciphertext: &mut TmpBuf,
     ) -> Result<(), Error> {
-        // X9: the Rust asks the cipher for numbers above 2^48 - 1; it is told no.
+        // Difference 14: the Rust asks the cipher for numbers above 2^48 - 1; it is told no.
         if seq.sequence_number > LAST_NUMBER && !self.above {
             return Err(Error::CryptoError(CryptoError::NotOpened));
         }
@@ -245,7 +248,7 @@ fn datagram(engine: &mut Engine, min: u8, bytes: &[u8], replies: &[Reply], run: 
         above: false,
     };
     let mut records: ArrayVec<Record, 16> = ArrayVec::new();
-    // X15: the readings before a fault stand; the wrapper `Records::parse` discards them.
+    // Difference 19: the readings before a fault stand; the wrapper `Records::parse` discards them.
     let result = incoming::probe::parse_records(bytes, &mut tap, &mut records);
     let seen = tap.seen.into_inner();
     let too_many = result == Err(InternalError::TooManyRecords);
@@ -282,7 +285,7 @@ fn datagram(engine: &mut Engine, min: u8, bytes: &[u8], replies: &[Reply], run: 
         } else {
             one.sealed(&keyed, min as usize, run);
         }
-        // X16: the Rust unmasks and opens in a copy of each record. X1: there with a least length
+        // Difference 20: the Rust unmasks and opens in a copy of each record. Difference 11: there with a least length
         // of 17 also one that has 16.
         if one.short(min as usize) {
             after.extend_from_slice(before);
@@ -375,12 +378,12 @@ impl One<'_> {
     fn sealed(&self, keyed: &[u16], min: usize, run: &mut Run) {
         let seen = self.seen;
         let epoch = seen.epoch.unwrap();
-        // X2: where no keyed epoch fits, the Rust answers the bits, and drops the record later.
+        // Difference 12: where no keyed epoch fits, the Rust answers the bits, and drops the record later.
         if !keyed.contains(&epoch) {
             assert!(self.dropped() && seen.mask.is_none() && !seen.updated);
             return run.say('r', &[], Answer::dropped(6));
         }
-        // X1: the Rust tests the length after the window, with a least length of 17 after the mask.
+        // Difference 11: the Rust tests the length after the window, with a least length of 17 after the mask.
         if self.short(min) {
             assert!(self.dropped() && !seen.updated);
             return run.say('r', &[], Answer::dropped(7));

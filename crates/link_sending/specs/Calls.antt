@@ -16,9 +16,9 @@ use Rattle.sealing.specs.declared.Question.{Question}
 use Rattle.sealing.specs.declared.SealQuestion.{SealQuestion}
 use Rattle.sealing.specs.declared.SealQuestion.the-variants as ask
 use Rattle.sealing.specs.declared.Reply.{Reply}
-use Rattle.sealing.specs.declared.Take.{Take}
-use Rattle.sealing.specs.declared.TakeAnswer.{TakeAnswer}
-use Rattle.sealing.specs.declared.TakeAnswer.the-variants as take
+use Rattle.taking.specs.declared.Take.{Take}
+use Rattle.taking.specs.declared.TakeAnswer.{TakeAnswer}
+use Rattle.taking.specs.declared.TakeAnswer.the-variants as take
 use Rattle.send_words.specs.Words.{stateOf, isFlat}
 use Rattle.send_words.specs.Laws.{Kept}
 use Rattle.link_sending.specs.declared.LinkSealing.{LinkSealing}

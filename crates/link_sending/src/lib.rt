@@ -7,7 +7,7 @@ ghost use Rattle.send_keys.specs.Keys as keying;
 ghost use Rattle.outgoing.specs.State.{refusal, started, keyingState};
 ghost use Rattle.outgoing.specs.Send.{sendAnswer, sendState, sendMemory};
 ghost use Rattle.sealing.specs.Sealing as sealings;
-ghost use Rattle.sealing.specs.Take as takes;
+ghost use Rattle.taking.specs.Take as takes;
 ghost use Rattle.send_words.specs.Words.{stateOf, isFlat};
 ghost use Rattle.link_sending.specs.Calls.{
   masks,
@@ -26,7 +26,7 @@ use outgoing::SendAnswer;
 use outgoing::Sending;
 use sealing::SealAnswer;
 use sealing::SealQuestion;
-use sealing::TakeAnswer;
+use taking::TakeAnswer;
 use send_keys::KeyAnswer;
 
 // The sealing that is asked for, by kind: 0 refused by 12, 1 none waits, 2 a record's full epoch and number, nonce, header with its
@@ -246,7 +246,7 @@ pub extern "C" fn link_take(w: &mut [u64; 59], buffer: &mut [u8], queue: &[u8]) 
     ensures { λ r. ⌜ now (buffer .exit) ≡ either (now (w .entry)) (takes.takeBuffer (takes.takeAnswer (stateOf (now (w .entry))) (length (now (queue .entry))) (length (now (buffer .entry)))) (stateOf (now (w .entry))) (now (queue .entry)) (now (buffer .entry))) (now (buffer .entry)) ⌝ }
 {
     if send_words::is_flat(w) {
-        let k = sealing::poll_packet_tx(send_words::load(w), buffer, queue);
+        let k = taking::poll_packet_tx(send_words::load(w), buffer, queue);
         let a = k.answer;
         send_words::save(w, k.state);
         return flat_take(a);

@@ -264,7 +264,11 @@ fn host_step(s: Receiving, letter: u8, input: &[u8]) -> Kept {
     }
 }
 
+// A datagram that is too long does not take the place of the one before.
 fn begin(s: Receiving, input: &[u8], d: &mut [u8]) -> Kept {
+    if 16384 < input.len() {
+        return s.begin(input);
+    }
     let n = lines::push_all(d, 0, input);
     s.begin(base::fragment(d, 0, n))
 }

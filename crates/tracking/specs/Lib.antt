@@ -3,3 +3,6 @@ pub mod Marks
 pub mod Tracked
 pub mod Again
 pub mod Numbers
+pub mod Account
+pub mod Heard
+pub mod Laid

@@ -109,8 +109,11 @@ module _ (k : SendKeys) (e : ℕ) (u : isUsable k e ≡ true) (y : isKeyed k e �
       let new : Sent = record { epoch = e; number = nextOf k e; kind = t; content = x } in
       let old : Numbers (used k e) log = numbers-later k (used k e) log used-later n in
       record {
-        once = (λ h m p q. let l : h .number < nextOf k (h .epoch) = n .below h m (subst (λ (c : ℕ). isUsable k c ≡ true) (sym p) u) in
-            let z : nextOf k (h .epoch) ≡ nextOf k e = ap (nextOf k) p in omega arith, n .once);
+        once = (
+          λ h m p q. let l : h .number < nextOf k (h .epoch) = n .below h m (subst (λ (c : ℕ). isUsable k c ≡ true) (sym p) u) in
+              let z : nextOf k (h .epoch) ≡ nextOf k e = ap (nextOf k) p in omega arith,
+          n .once,
+        );
         below = λ r m v. ⊎-elim (λ (p : r ≡ new). subst (λ (c : Sent). c .number < nextOf (used k e) (c .epoch)) (sym p) (omega (arith, used-next k e))) (λ (p : Mem r log). old .below r p v) (mem-cases m);
         early = λ r m. ⊎-elim (λ (p : r ≡ new). subst (λ (c : Sent). (c .epoch ≤ used k e .handshake .epoch) ⊎ (c .epoch ≤ used k e .application .epoch)) (sym p)
             (⊎-elim (λ (h : e ≤ k .handshake .epoch). inl (omega (arith, used-epochs k e .0))) (λ (h : e ≤ k .application .epoch). inr (omega (arith, used-epochs k e .1))) sent-early))
@@ -171,9 +174,10 @@ module _ (k : SendKeys) (e : ℕ) (iv : List ℕ) where
       (λ h.
       let two : e ≡ 2 = eqb-true e 2 h in
       let nt : d ≡ 2 → ⊥ = λ w. omega arith in
-      let app : keyed k e iv .application ≡ k .application = keyed-two-application two in
-      (sym (usable-same k (keyed k e iv) d (ap (λ (x : SendEpoch). x .epoch) app)) ∙ u,
-      next-application (keyed k e iv) y nt ∙ ap (λ (x : SendEpoch). x .next) app ∙ sym (next-application k y nt)))
+      let app : keyed k e iv .application ≡ k .application = keyed-two-application two in (
+        sym (usable-same k (keyed k e iv) d (ap (λ (x : SendEpoch). x .epoch) app)) ∙ u,
+        next-application (keyed k e iv) y nt ∙ ap (λ (x : SendEpoch). x .next) app ∙ sym (next-application k y nt),
+      ))
       (λ h.
       let ne : e ≡ 2 → ⊥ = eqb-false e 2 h in
       test-cases (eqb d 2)

@@ -3,7 +3,3 @@ pub mod Leaves
 pub mod Queued
 pub mod Whole
 pub mod Example
-pub mod Calls
-pub mod Ranges
-pub mod Found
-pub mod Twelve

@@ -1,6 +1,7 @@
 //! The C interface of the Rattle library, as far as it is timed.
 
 pub type LinkReceiving = [u64; 89];
+pub type LinkSending = [u64; 59];
 
 #[repr(C)]
 pub struct LinkReading {
@@ -13,6 +14,25 @@ pub struct LinkReading {
     pub header_len: usize,
     pub length: usize,
     pub nonce: [u8; 12],
+}
+
+#[repr(C)]
+pub struct LinkSealing {
+    pub kind: u8,
+    pub refusal: u8,
+    pub epoch: u16,
+    pub number: u64,
+    pub start: usize,
+    pub length: usize,
+    pub nonce: [u8; 12],
+    pub header: [u8; 5],
+}
+
+#[repr(C)]
+pub struct LinkTake {
+    pub kind: u8,
+    pub refusal: u8,
+    pub length: usize,
 }
 
 unsafe extern "C" {
@@ -30,4 +50,31 @@ unsafe extern "C" {
         d: *const u8,
         n: usize,
     ) -> LinkReading;
+    pub safe fn link_sending(s: &mut LinkSending, mtu: usize, limit: usize) -> u8;
+    pub safe fn link_key_send(s: &mut LinkSending, epoch: u16, iv: &[u8; 12]) -> u8;
+    pub fn link_send(
+        s: &mut LinkSending,
+        epoch: u16,
+        content_type: u8,
+        content: *const u8,
+        content_len: usize,
+        queue: *mut u8,
+        queue_len: usize,
+    ) -> u8;
+    pub safe fn link_sealing(s: &LinkSending) -> LinkSealing;
+    pub fn link_sealed(
+        s: &mut LinkSending,
+        length: usize,
+        m0: u8,
+        m1: u8,
+        queue: *mut u8,
+        queue_len: usize,
+    ) -> u8;
+    pub fn link_take(
+        s: &mut LinkSending,
+        buffer: *mut u8,
+        buffer_len: usize,
+        queue: *const u8,
+        queue_len: usize,
+    ) -> LinkTake;
 }

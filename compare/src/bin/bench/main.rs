@@ -7,7 +7,7 @@ use arrayvec::ArrayVec;
 use dimpl::crypto::null;
 use dimpl::dtls13::engine::{self, Engine};
 use dimpl::dtls13::incoming::{self, Record, RecordHandler};
-use dimpl::types::Dtls13CipherSuite;
+use dimpl::types::{ContentType, Dtls13CipherSuite};
 use dimpl::{Config, DtlsCertificate};
 
 mod link;
@@ -105,6 +105,45 @@ fn read_rattle(n: usize, count: u32) -> f64 {
     })
 }
 
+fn send_rust(n: usize, count: u32) -> f64 {
+    let mut engine = engine(1500);
+    let content = vec![0x55; n];
+    let mut out = [0; 1500];
+    time(count, |_| {
+        let content = black_box(&content);
+        engine
+            .create_ciphertext_record(ContentType::ApplicationData, 3, false, |fragment| {
+                fragment.extend_from_slice(content)
+            })
+            .unwrap();
+        let len = engine::probe::take(&mut engine, &mut out).unwrap();
+        assert!(len == n + 22);
+        black_box(&out[..len]);
+    })
+}
+
+fn send_rattle(n: usize, count: u32) -> f64 {
+    let mut s = [0; 59];
+    link_sending(&mut s, 1500, 16);
+    link_key_send(&mut s, 2, &IV);
+    link_key_send(&mut s, 3, &IV);
+    let content = vec![0x55; n];
+    let mut queue = vec![0; 16 * 1500];
+    let mut out = [0; 1500];
+    time(count, |_| unsafe {
+        let content = black_box(&content);
+        let (q, room) = (queue.as_mut_ptr(), queue.len());
+        let sent = link_send(&mut s, 3, 23, content.as_ptr(), n, q, room);
+        let ask = link_sealing(&s);
+        // What the cipher that does nothing leaves: a tag of 16 zeros.
+        queue[ask.start + ask.length - 16..ask.start + ask.length].fill(0);
+        let sealed = link_sealed(&mut s, ask.length, 0, 0, q, room);
+        let taken = link_take(&mut s, out.as_mut_ptr(), out.len(), q, room);
+        assert!(sent == 0 && sealed == 0 && taken.kind == 2 && taken.length == n + 22);
+        black_box(&out[..taken.length]);
+    })
+}
+
 fn compare(what: &str, runs: u32, rust: impl Fn() -> f64, rattle: impl Fn() -> f64) {
     let mut rows: Vec<(f64, f64, f64)> = (0..runs)
         .map(|_| {
@@ -133,6 +172,15 @@ fn main() {
             runs,
             || read_rust(n, count),
             || read_rattle(n, count),
+        );
+    }
+    for n in [16, 200, 1200] {
+        let count = 100_000;
+        compare(
+            &format!("send a record of {n}"),
+            runs,
+            || send_rust(n, count),
+            || send_rattle(n, count),
         );
     }
 }

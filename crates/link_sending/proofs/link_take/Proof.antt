@@ -3,7 +3,7 @@ use borrow.Author.Needs.{needs}
 use mathlib.Core.Path.{_≡_, refl, sym, ap, _∙_}
 use Rattle.base.specs.Choose.{if-true, if-false, both-true, both-false}
 use Rattle.link_sending.specs.Calls.{after, flatTake}
-use Rattle.sealing.specs.declared.Take.{Take}
+use Rattle.taking.specs.declared.Take.{Take}
 use Rattle.sealing.specs.Sealing as sealings
 use Rattle.outgoing.specs.State.{refusal}
 use Rattle.link_sending.proofs.link_take.Statement.{statement}
