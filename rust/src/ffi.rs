@@ -2,6 +2,8 @@
 
 pub const RECEIVING_WORDS: usize = 89;
 pub const SENDING_WORDS: usize = 59;
+pub const FLIGHT_WORDS: usize = 73;
+pub const FLIGHT_NUMBERS: usize = 384;
 
 pub const REFUSED: u8 = 0;
 pub const END: u8 = 1;
@@ -87,6 +89,34 @@ extern "C" {
         queue: *const u8,
         queue_len: usize,
     ) -> LinkTake;
+
+    pub fn link_flight(f: *mut [u64; FLIGHT_WORDS], numbers: *mut [u64; FLIGHT_NUMBERS]);
+    pub fn link_begin_flight(f: *mut [u64; FLIGHT_WORDS]) -> u8;
+    pub fn link_send_saved(
+        s: *mut [u64; SENDING_WORDS],
+        f: *mut [u64; FLIGHT_WORDS],
+        numbers: *mut [u64; FLIGHT_NUMBERS],
+        epoch: u16,
+        content_type: u8,
+        content: *const u8,
+        content_len: usize,
+        queue: *mut u8,
+        queue_len: usize,
+        kept: *mut u8,
+        kept_len: usize,
+    ) -> u8;
+    pub fn link_create_handshake(
+        s: *mut [u64; SENDING_WORDS],
+        f: *mut [u64; FLIGHT_WORDS],
+        numbers: *mut [u64; FLIGHT_NUMBERS],
+        kind: u8,
+        body: *const u8,
+        body_len: usize,
+        queue: *mut u8,
+        queue_len: usize,
+        kept: *mut u8,
+        kept_len: usize,
+    ) -> u8;
 }
 
 const _: () = {

@@ -2,9 +2,9 @@ use std::fmt;
 
 use crate::{ffi, Cipher, Refusal};
 
-/// The sending side of a link: epochs with their IVs and next numbers, and the queue of datagrams.
+/// The sending side of a link: epochs with their IVs and next numbers, the queue of datagrams and the flight of saved records.
 ///
-/// The queue is memory that the sender owns ([`Sender::new`]) or borrows ([`Sender::with_queue`]).
+/// Queue and flight are memory that the sender owns ([`Sender::new`]) or borrows ([`Sender::with_memory`]).
 ///
 /// ```
 /// use huskelapse::{content_type, Refusal, Sender};
@@ -26,52 +26,90 @@ use crate::{ffi, Cipher, Refusal};
 /// # Ok::<(), Refusal>(())
 /// ```
 ///
-/// A host without an allocator lends the queue, at least `limit` times `mtu` bytes:
+/// A handshake message is cut into pieces that fit, and saved:
+///
+/// ```
+/// # use huskelapse::test_cipher::Xor;
+/// # use huskelapse::{Refusal, Sender};
+/// let mut sender = Sender::new(576, 4)?;
+/// sender.key(2, &[7; 12])?;
+/// sender.message(11, &[0; 1000])?;
+/// assert_eq!(sender.seal(&mut Xor(5)), 2);
+/// let mut buffer = [0; 576];
+/// assert_eq!(sender.take(&mut buffer)?.map(|datagram| datagram.len()), Some(576));
+/// assert_eq!(sender.take(&mut buffer)?.map(|datagram| datagram.len()), Some(492));
+/// assert_eq!(sender.message(11, &[0; 6000]), Err(Refusal::FlightFull)); // a flight has 12 records at most
+/// sender.begin_flight();
+/// # Ok::<(), Refusal>(())
+/// ```
+///
+/// A host without an allocator lends the memory, `limit` times `mtu` bytes for the queue and 12 times `mtu` for the flight:
 ///
 /// ```
 /// # use huskelapse::{Refusal, Sender};
-/// let mut memory = [0; 2 * 600];
-/// assert_eq!(Sender::with_queue(600, 3, &mut memory[..]).err(), Some(Refusal::OutOfRange));
-/// let mut sender = Sender::with_queue(600, 2, &mut memory[..])?;
+/// let (mut queue, mut flight) = ([0; 2 * 600], [0; 12 * 600]);
+/// assert_eq!(Sender::with_memory(600, 3, &mut queue[..], &mut flight[..]).err(), Some(Refusal::OutOfRange));
+/// let mut sender = Sender::with_memory(600, 2, &mut queue[..], &mut flight[..])?;
 /// sender.send(0, 22, b"hello")?;
 /// # Ok::<(), Refusal>(())
 /// ```
 ///
-/// That memory cannot be touched, or taken into, while the sender has it:
+/// Memory that a sender has cannot be lent twice, touched or taken into:
 ///
 /// ```compile_fail,E0499
 /// # use huskelapse::Sender;
-/// let mut memory = [0; 1200];
-/// let mut sender = Sender::with_queue(600, 2, &mut memory[..]).unwrap();
-/// sender.take(&mut memory[..]);
+/// let mut memory = [0; 8400];
+/// let mut sender = Sender::with_memory(600, 2, &mut memory[..], &mut memory[..]);
+/// ```
+///
+/// ```compile_fail,E0499
+/// # use huskelapse::Sender;
+/// let (mut queue, mut flight) = ([0; 1200], [0; 7200]);
+/// let mut sender = Sender::with_memory(600, 2, &mut queue[..], &mut flight[..]).unwrap();
+/// sender.take(&mut queue[..]);
 /// ```
 ///
 /// The state is private:
 ///
 /// ```compile_fail,E0451
-/// let sender = huskelapse::Sender { state: [0; 59], queue: vec![0; 1200] };
+/// let sender = huskelapse::Sender { state: [0; 59], ..huskelapse::Sender::new(600, 2).unwrap() };
 /// ```
-pub struct Sender<Q = Vec<u8>> {
+pub struct Sender<M = Vec<u8>> {
     state: [u64; ffi::SENDING_WORDS],
-    queue: Q,
+    flight: [u64; ffi::FLIGHT_WORDS],
+    numbers: [u64; ffi::FLIGHT_NUMBERS],
+    queue: M,
+    kept: M,
 }
 
+/// Records that a flight has at most.
+const FLIGHT: usize = 12;
+
 impl Sender {
-    /// Nothing keyed, nothing queued: MTU 576 to 1,500, at most `limit` datagrams, 1 to 16; else the refusal is 12.
+    /// Nothing keyed, queued or saved: MTU 576 to 1,500, at most `limit` datagrams, 1 to 16; else the refusal is 12.
     pub fn new(mtu: usize, limit: usize) -> Result<Sender, Refusal> {
-        Sender::with_queue(mtu, limit, vec![0; mtu.min(1500) * limit.min(16)])
+        let most = mtu.min(1500);
+        Sender::with_memory(mtu, limit, vec![0; most * limit.min(16)], vec![0; most * FLIGHT])
     }
 }
 
-impl<Q: AsRef<[u8]> + AsMut<[u8]>> Sender<Q> {
-    /// As [`Sender::new`], with the queue's memory: at least `limit` times `mtu` bytes, else the refusal is 12.
-    pub fn with_queue(mtu: usize, limit: usize, queue: Q) -> Result<Sender<Q>, Refusal> {
-        let mut state = [0; ffi::SENDING_WORDS];
-        Refusal::done(unsafe { ffi::link_sending(&mut state, mtu, limit) })?;
-        if queue.as_ref().len() < mtu * limit {
+impl<M: AsRef<[u8]> + AsMut<[u8]>> Sender<M> {
+    /// As [`Sender::new`], with the memory: at least `limit` times `mtu` bytes for the queue and 12 times `mtu` for the flight, else the
+    /// refusal is 12.
+    pub fn with_memory(mtu: usize, limit: usize, queue: M, flight: M) -> Result<Sender<M>, Refusal> {
+        let mut s = Sender {
+            state: [0; ffi::SENDING_WORDS],
+            flight: [0; ffi::FLIGHT_WORDS],
+            numbers: [0; ffi::FLIGHT_NUMBERS],
+            queue,
+            kept: flight,
+        };
+        Refusal::done(unsafe { ffi::link_sending(&mut s.state, mtu, limit) })?;
+        unsafe { ffi::link_flight(&mut s.flight, &mut s.numbers) };
+        if s.queue.as_ref().len() < mtu * limit || s.kept.as_ref().len() < mtu * FLIGHT {
             return Err(Refusal::OutOfRange);
         }
-        Ok(Sender { state, queue })
+        Ok(s)
     }
 
     /// Keys an epoch, 2 or above and above every earlier one (13). One of 3 or above replaces the application epoch, which must not wait
@@ -87,6 +125,52 @@ impl<Q: AsRef<[u8]> + AsMut<[u8]>> Sender<Q> {
         Refusal::done(unsafe {
             ffi::link_send(&mut self.state, epoch, content_type, content.as_ptr(), content.len(), queue.as_mut_ptr(), queue.len())
         })
+    }
+
+    /// As [`Sender::send`], and saves the record in the flight (18).
+    pub fn send_saved(&mut self, epoch: u16, content_type: u8, content: &[u8]) -> Result<(), Refusal> {
+        let (queue, kept) = (self.queue.as_mut(), self.kept.as_mut());
+        Refusal::done(unsafe {
+            ffi::link_send_saved(
+                &mut self.state,
+                &mut self.flight,
+                &mut self.numbers,
+                epoch,
+                content_type,
+                content.as_ptr(),
+                content.len(),
+                queue.as_mut_ptr(),
+                queue.len(),
+                kept.as_mut_ptr(),
+                kept.len(),
+            )
+        })
+    }
+
+    /// Queues a handshake message, cut into pieces that are saved in the flight: ClientHello (1) and ServerHello (2) in epoch 0, other
+    /// types in epoch 2. Refused by 14, 17, 21, 18, 19, 20, then nothing has changed.
+    pub fn message(&mut self, message_type: u8, body: &[u8]) -> Result<(), Refusal> {
+        let (queue, kept) = (self.queue.as_mut(), self.kept.as_mut());
+        Refusal::done(unsafe {
+            ffi::link_create_handshake(
+                &mut self.state,
+                &mut self.flight,
+                &mut self.numbers,
+                message_type,
+                body.as_ptr(),
+                body.len(),
+                queue.as_mut_ptr(),
+                queue.len(),
+                kept.as_mut_ptr(),
+                kept.len(),
+            )
+        })
+    }
+
+    /// Begins a new flight: nothing is saved. What is queued stays queued.
+    pub fn begin_flight(&mut self) {
+        let answer = unsafe { ffi::link_begin_flight(&mut self.flight) };
+        debug_assert_eq!(answer, 0);
     }
 
     /// Has the cipher seal every record that waits, oldest first. The answer is how many.
@@ -122,7 +206,7 @@ impl<Q: AsRef<[u8]> + AsMut<[u8]>> Sender<Q> {
     }
 }
 
-impl<Q> fmt::Debug for Sender<Q> {
+impl<M> fmt::Debug for Sender<M> {
     fn fmt(&self, f: &mut fmt::Formatter<'_>) -> fmt::Result {
         f.debug_struct("Sender").finish_non_exhaustive()
     }
