@@ -7,9 +7,11 @@ use std::os::fd::AsRawFd;
 use std::process;
 use std::time::{Duration, Instant};
 
+use huskelapse::content_type::ACK;
 use huskelapse::{Cipher, Reading, Receiver, Refusal, Sender};
 
 use crate::crypto::Keys;
+use crate::flight::{Flight, Notes, Saved};
 use crate::options::Options;
 use crate::system;
 
@@ -35,6 +37,12 @@ pub struct End {
     pub log: BufWriter<Stdout>,
     pub outstanding: usize,
     moved: Instant,
+    flight: Flight,
+    notes: Notes,
+    /// The application epoch is keyed to send.
+    application: bool,
+    pub resent: usize,
+    pub marked: usize,
     pub arrived: VecDeque<Record>,
     started: Instant,
     limit: Duration,
@@ -44,6 +52,7 @@ pub struct End {
 struct Logged<'a> {
     keys: &'a mut Keys,
     log: &'a mut BufWriter<Stdout>,
+    sealed: &'a mut Vec<Record>,
 }
 
 fn log_record(log: &mut impl Write, what: char, epoch: u16, number: u64, content_type: u8, content: &[u8]) {
@@ -55,6 +64,22 @@ fn log_record(log: &mut impl Write, what: char, epoch: u16, number: u64, content
     hex.push(b'\n');
     let _ = write!(log, "{what} {epoch} {number} {content_type} ");
     let _ = log.write_all(&hex);
+}
+
+/// The plaintext records of a datagram that this end wrote.
+fn plaintext_records(mut bytes: &[u8]) -> Vec<Record> {
+    let mut records = Vec::new();
+    while !bytes.is_empty() {
+        let sealed = bytes[0] & 0xE0 == 0x20;
+        let header = if sealed { 5 } else { 13 };
+        let length = usize::from(u16::from_be_bytes([bytes[header - 2], bytes[header - 1]]));
+        if !sealed {
+            let number = u64::from_be_bytes(*bytes[3..].first_chunk().unwrap());
+            records.push(Record { epoch: 0, number, content_type: bytes[0], content: bytes[header..][..length].to_vec() });
+        }
+        bytes = &bytes[header + length..];
+    }
+    records
 }
 
 impl Cipher for Logged<'_> {
@@ -69,6 +94,7 @@ impl Cipher for Logged<'_> {
     fn seal(&mut self, epoch: u16, number: u64, nonce: &[u8; 12], header: &[u8; 5], part: &mut [u8]) {
         let n = part.len() - 17;
         log_record(self.log, 's', epoch, number, part[n], &part[..n]);
+        self.sealed.push(Record { epoch, number, content_type: part[n], content: part[..n].to_vec() });
         self.keys.seal(epoch, number, nonce, header, part);
     }
 }
@@ -94,6 +120,11 @@ impl End {
             log,
             outstanding: 0,
             moved: Instant::now(),
+            flight: Flight::default(),
+            notes: Notes::default(),
+            application: false,
+            resent: 0,
+            marked: 0,
             arrived: VecDeque::new(),
             started: Instant::now(),
             limit: Duration::from_secs(options.seconds),
@@ -116,11 +147,19 @@ impl End {
         let _ = writeln!(self.log, "{line}");
     }
 
+    /// Says what there is to say at the end.
+    pub fn finish(&mut self) {
+        let (resent, marked) = (self.resent, self.marked);
+        self.say(format_args!("resent {resent}\nmarked {marked}\ndone"));
+        let _ = self.log.flush();
+    }
+
     /// Keys an epoch to send.
     pub fn key_send(&mut self, epoch: u16) {
         let iv = self.keys_out.add(epoch, &self.secrets[0]);
         let keyed = self.sender.key(epoch, &iv);
         self.must(keyed);
+        self.application |= epoch >= 3;
     }
 
     /// Keys an epoch to receive.
@@ -132,27 +171,107 @@ impl End {
         self.say(format_args!("k {epoch}"));
     }
 
-    /// Seals what waits and sends every queued datagram; how many there were.
-    pub fn flush(&mut self) -> usize {
-        self.sender.seal(&mut Logged { keys: &mut self.keys_out, log: &mut self.log });
+    /// Seals what waits and sends every queued datagram. The records in them, those in plaintext first.
+    pub fn flush(&mut self) -> Vec<Record> {
+        let mut sealed = Vec::new();
+        self.sender.seal(&mut Logged { keys: &mut self.keys_out, log: &mut self.log, sealed: &mut sealed });
+        let mut records = Vec::new();
         let mut buffer = [0; MTU];
-        for sent in 0.. {
+        loop {
             let taken = self.sender.take(&mut buffer).map(|taken| taken.map(|datagram| datagram.len()));
-            match self.must(taken) {
-                Some(n) => {
-                    let _ = self.socket.send(&buffer[..n]);
-                    self.outstanding += 1;
-                }
-                None => return sent,
+            let Some(n) = self.must(taken) else { break };
+            records.extend(plaintext_records(&buffer[..n]));
+            let _ = self.socket.send(&buffer[..n]);
+            self.outstanding += 1;
+        }
+        records.append(&mut sealed);
+        records
+    }
+
+    /// Sends application data.
+    pub fn send(&mut self, content: &[u8]) {
+        let answer = self.sender.send(3, huskelapse::content_type::APPLICATION_DATA, content);
+        self.must(answer);
+    }
+
+    pub fn begin_flight(&mut self) {
+        self.sender.begin_flight();
+        self.flight = Flight::default();
+    }
+
+    fn save(&mut self) {
+        for record in self.flush() {
+            let Record { epoch, number, content_type, content } = record;
+            self.flight.saved.push(Saved { epoch, content_type, content, numbers: vec![number], acknowledged: false });
+        }
+    }
+
+    /// Sends a handshake message in the flight.
+    pub fn message(&mut self, kind: u8, body: &[u8]) {
+        let answer = self.sender.message(kind, body);
+        self.must(answer);
+        self.save();
+    }
+
+    /// Sends application data in the flight.
+    pub fn send_saved(&mut self, content: &[u8]) {
+        let answer = self.sender.send_saved(3, huskelapse::content_type::APPLICATION_DATA, content);
+        self.must(answer);
+        self.save();
+    }
+
+    /// Sends what is not acknowledged of the flight again.
+    pub fn resend(&mut self) {
+        for i in 0..self.flight.saved.len() {
+            let saved = &self.flight.saved[i];
+            if saved.acknowledged {
+                continue;
+            }
+            let answer = self.sender.send(saved.epoch, saved.content_type, &saved.content);
+            self.must(answer);
+            self.resent += 1;
+            for record in self.flush() {
+                self.flight.saved[i].numbers.push(record.number);
             }
         }
-        unreachable!()
+    }
+
+    /// Acts on an ACK.
+    pub fn acts(&mut self, content: &[u8]) {
+        self.marked += self.flight.acts(content);
+        let log = &mut self.log;
+        for saved in self.flight.saved.iter().filter(|saved| saved.acknowledged) {
+            log_record(log, 'a', saved.epoch, saved.numbers[0], saved.content_type, &saved.content);
+        }
+    }
+
+    /// Whether every sealed record of the flight is acknowledged.
+    pub fn acknowledged(&self) -> bool {
+        self.flight.is_acknowledged()
+    }
+
+    /// Notes a record for the next ACK.
+    pub fn note(&mut self, epoch: u16, number: u64) {
+        self.notes.note(epoch, number);
+    }
+
+    pub fn forget_notes(&mut self) {
+        self.notes = Notes::default();
+    }
+
+    pub fn send_ack(&mut self) {
+        if let Some(content) = self.notes.content() {
+            let answer = self.sender.send(if self.application { 3 } else { 2 }, ACK, &content);
+            self.must(answer);
+            self.flush();
+        }
     }
 
     fn read(&mut self, datagram: &mut [u8]) {
+        let check = crate::ledger::check(datagram);
         let readings = match self.receiver.read(datagram, &mut self.keys_in) {
             Ok(readings) => readings,
-            Err(why) => return writeln!(self.log, "x {}\ng", why.number()).unwrap_or(()),
+            Err(why) => return writeln!(self.log, "x {}\ng {check}", why.number()).unwrap_or(()),
         };
         for reading in readings {
             let record = match reading {
@@ -175,7 +294,7 @@ impl End {
             };
             self.arrived.push_back(record);
         }
-        let _ = writeln!(self.log, "g");
+        let _ = writeln!(self.log, "g {check}");
     }
 
     /// Waits for datagrams, at most so many milliseconds, and reads them. False when this process is to end.

@@ -1,67 +1,56 @@
-//! The gateway: it counts the energy of the meter records handed over and gives orders, the stop order last.
+//! The gateway: a handshake, then it counts the energy of the meter records handed over and gives orders, the stop order last.
 
-use std::time::{Duration, Instant};
-
-use huskelapse::content_type::APPLICATION_DATA;
+use huskelapse::content_type::{ACK, APPLICATION_DATA};
 
 use crate::end::End;
+use crate::handshake::{Handshake, Timer};
 use crate::meter::Word;
 use crate::options::Options;
 
-const AGAIN: Duration = Duration::from_millis(20);
-
-/// An order that is given and not yet answered.
-struct Given {
-    number: u32,
-    stop: bool,
-    told: Option<Instant>,
-}
-
 pub fn run(options: &Options, mut end: End) {
-    let (mut counted, mut energy, mut charged) = (0, 0, false);
-    let mut highest = 0;
+    let (mut counted, mut energy, mut highest, mut charged) = (0, 0, 0, false);
     let mut orders = 0;
-    let mut given: Option<Given> = None;
+    // The order that is not acknowledged, sent again by this timer.
+    let mut given: Option<Timer> = None;
     let step = options.records / (options.orders + 1) + 1;
-    end.key_send(3);
-    end.key_receive(3);
-    let mut going = true;
-    while going && end.wait(5) {
+    let mut handshake = Handshake::begin(&mut end, false);
+    while orders <= options.orders || given.is_some() {
+        if !end.wait(5) {
+            break;
+        }
         while let Some(record) = end.arrived.pop_front() {
-            if record.epoch < 3 || record.content_type != APPLICATION_DATA {
-                continue;
-            }
-            match Word::of(&record.content) {
-                Some(Word::Meter { index, wh }) => {
-                    counted += 1;
-                    energy += u64::from(wh);
-                    highest = highest.max(index as usize);
+            if record.content_type == ACK && record.epoch >= 3 && given.is_some() {
+                end.acts(&record.content);
+                if end.acknowledged() {
+                    given = None;
                 }
-                Some(Word::Charged { .. }) => charged = true,
-                Some(Word::Obeyed { number }) => {
-                    if given.as_ref().is_some_and(|order| order.number == number) {
-                        going &= !given.take().is_some_and(|order| order.stop);
+            } else if record.content_type != APPLICATION_DATA || record.epoch < 3 {
+                handshake.record(&mut end, &record);
+            } else {
+                match Word::of(&record.content) {
+                    Some(Word::Meter { index, wh }) => {
+                        counted += 1;
+                        energy += u64::from(wh);
+                        highest = highest.max(index as usize);
                     }
+                    Some(Word::Charged { .. }) => charged = true,
+                    _ => {}
                 }
-                _ => {}
             }
         }
-        let limits = (highest / step).min(options.orders);
-        if given.is_none() && going && (orders < limits || charged) {
+        handshake.act(&mut end);
+        if given.as_mut().is_some_and(|timer| timer.fires()) {
+            end.resend();
+        }
+        if given.is_none() && orders <= options.orders && (orders < highest / step || charged) {
             orders += 1;
-            given = Some(Given { number: orders as u32, stop: orders > options.orders, told: None });
             end.say(format_args!("i {orders}"));
-        }
-        if let Some(order) = &mut given {
-            if order.told.is_none_or(|told| told.elapsed() > AGAIN) {
-                order.told = Some(Instant::now());
-                let word = Word::Order { number: order.number, stop: order.stop, ampere: 6 + order.number % 26 };
-                let answer = end.sender.send(3, APPLICATION_DATA, &word.bytes());
-                end.must(answer);
-                end.flush();
-            }
+            let word = Word::Order { number: orders as u32, stop: orders > options.orders, ampere: 6 + orders as u32 % 26 };
+            end.begin_flight();
+            end.send_saved(&word.bytes());
+            given = Some(Timer::new());
         }
     }
     end.say(format_args!("total {counted} {energy}"));
-    end.say(format_args!("done"));
+    end.finish();
 }

@@ -13,7 +13,18 @@ pub struct Record {
 enum Event {
     Keyed(u16),
     Handed(Record),
-    Read,
+    Read(u64),
+}
+
+/// A value by which a datagram is known again (FNV-1a).
+pub fn check(datagram: &[u8]) -> u64 {
+    datagram.iter().fold(0xCBF2_9CE4_8422_2325, |sum, byte| (sum ^ u64::from(*byte)).wrapping_mul(0x100_0000_01B3))
+}
+
+/// A datagram delivered; `records` are the sealed records in it, if it was undamaged.
+struct Delivery {
+    check: u64,
+    records: Option<Range<usize>>,
 }
 
 /// One direction.
@@ -21,8 +32,8 @@ enum Event {
 pub struct Ledger {
     sealed: Vec<Record>,
     events: Vec<Event>,
-    /// For each datagram delivered, in order, the sealed records in it, if it was undamaged.
-    delivered: Vec<Option<Range<usize>>>,
+    delivered: Vec<Delivery>,
+    acknowledged: Vec<Record>,
     pub handed: usize,
     pub read: usize,
     pub plaintext: usize,
@@ -36,8 +47,10 @@ pub struct Verdict {
     pub changed: usize,
     pub invented: usize,
     pub left_out: usize,
-    /// Whether every datagram delivered was read, so that `left_out` is known.
-    pub complete: bool,
+    /// Marked acknowledged though no sending of it was handed over.
+    pub unacknowledged: usize,
+    /// Datagrams delivered and not read: on their way when the far end ended, or lost between the sockets.
+    pub unread: usize,
     /// For each record sealed, whether it was handed over.
     pub handed: Vec<bool>,
 }
@@ -83,8 +96,13 @@ impl Ledger {
         &self.sealed
     }
 
-    pub fn delivers(&mut self, records: Option<Range<usize>>) {
-        self.delivered.push(records);
+    /// The sending end's line on a saved record that is marked acknowledged.
+    pub fn acknowledges(&mut self, words: &mut std::str::SplitAsciiWhitespace<'_>) {
+        self.acknowledged.extend(record_of(words));
+    }
+
+    pub fn delivers(&mut self, datagram: &[u8], records: Option<Range<usize>>) {
+        self.delivered.push(Delivery { check: check(datagram), records });
     }
 
     pub fn delivered(&self) -> usize {
@@ -100,7 +118,7 @@ impl Ledger {
             }
             "g" => {
                 self.read += 1;
-                self.events.push(Event::Read);
+                self.events.push(Event::Read(words.next().and_then(|n| n.parse().ok()).unwrap_or(0)));
             }
             "k" => self.events.extend(words.next().and_then(|epoch| epoch.parse().ok()).map(Event::Keyed)),
             "p" => self.plaintext += 1,
@@ -117,7 +135,7 @@ impl Ledger {
     /// Goes through all that was read in order.
     pub fn judge(&self) -> Verdict {
         let index: HashMap<_, _> = self.sealed.iter().enumerate().map(|(i, r)| ((r.epoch, r.number), i)).collect();
-        let mut verdict = Verdict { handed: vec![false; self.sealed.len()], complete: self.read == self.delivered.len(), ..Verdict::default() };
+        let mut verdict = Verdict { handed: vec![false; self.sealed.len()], ..Verdict::default() };
         let mut used: HashMap<u16, Used> = HashMap::new();
         let mut delivered = self.delivered.iter();
         let mut here = Vec::new();
@@ -137,9 +155,8 @@ impl Ledger {
                         here.push(i);
                     }
                 },
-                Event::Read => {
-                    let records = delivered.next().cloned().flatten();
-                    if let (Some(records), true) = (records, verdict.complete) {
+                Event::Read(check) => {
+                    if let Some(records) = delivered.find(|delivery| delivery.check == *check).and_then(|d| d.records.clone()) {
                         verdict.left_out += self.left_out(records, &here, &used);
                     }
                     for i in here.drain(..) {
@@ -149,6 +166,12 @@ impl Ledger {
                 }
             }
         }
+        let was_handed = |a: &Record| {
+            let same = |r: &Record| r.epoch == a.epoch && r.content_type == a.content_type && r.content == a.content;
+            self.sealed.iter().zip(&verdict.handed).any(|(record, handed)| *handed && same(record))
+        };
+        verdict.unacknowledged = self.acknowledged.iter().filter(|a| a.epoch >= 2 && !was_handed(a)).count();
+        verdict.unread = self.delivered.len() - self.read;
         verdict
     }
 

@@ -2,7 +2,9 @@
 
 mod crypto;
 mod end;
+mod flight;
 mod gateway;
+mod handshake;
 mod ledger;
 mod link;
 mod meter;
@@ -39,6 +41,9 @@ pub struct Told {
     pub orders_obeyed: Vec<usize>,
     pub counted: usize,
     pub energy: u64,
+    /// Records sent again and records marked acknowledged, at the post and at the gateway.
+    pub resent: [usize; 2],
+    pub marked: [usize; 2],
     pub stopped: Vec<String>,
     pub done: usize,
 }
@@ -92,6 +97,9 @@ impl Run {
         let number = |words: &mut std::str::SplitAsciiWhitespace<'_>| words.next().and_then(|n| n.parse::<u64>().ok()).unwrap_or(0);
         match kind {
             "s" => self.ledgers[side].seals(&mut words),
+            "a" => self.ledgers[side].acknowledges(&mut words),
+            "resent" => self.told.resent[side] = number(&mut words) as usize,
+            "marked" => self.told.marked[side] = number(&mut words) as usize,
             "port" => self.peers[side].address = Some(SocketAddr::from(([127, 0, 0, 1], number(&mut words) as u16))),
             "i" => self.told.orders_given += 1,
             "o" => self.told.orders_obeyed.push(number(&mut words) as usize),
@@ -147,7 +155,7 @@ impl Run {
         while self.ledgers[side].delivered() - self.ledgers[side].read < PACE {
             let Some(datagram) = self.directions[side].due(now) else { return };
             if self.peers[1 - side].socket.send_to(&datagram.bytes, address).is_ok() {
-                self.ledgers[side].delivers(datagram.records);
+                self.ledgers[side].delivers(&datagram.bytes, datagram.records);
             }
         }
     }

@@ -7,8 +7,6 @@ pub enum Word {
     Charged { records: u32 },
     /// An order by its number: a limit in A, or stop.
     Order { number: u32, stop: bool, ampere: u32 },
-    /// The order is obeyed.
-    Obeyed { number: u32 },
 }
 
 fn laid(kind: u8, a: u32, b: u32, c: u32) -> [u8; 32] {
@@ -26,7 +24,6 @@ impl Word {
             Word::Meter { index, wh } => laid(1, index, wh, 0),
             Word::Charged { records } => laid(2, records, 0, 0),
             Word::Order { number, stop, ampere } => laid(3, number, stop.into(), ampere),
-            Word::Obeyed { number } => laid(4, number, 0, 0),
         }
     }
 
@@ -37,7 +34,6 @@ impl Word {
             1 => Some(Word::Meter { index: at(4), wh: at(8) }),
             2 => Some(Word::Charged { records: at(4) }),
             3 => Some(Word::Order { number: at(4), stop: at(8) == 1, ampere: at(12) }),
-            4 => Some(Word::Obeyed { number: at(4) }),
             _ => None,
         }
     }
