@@ -26,8 +26,8 @@ use outgoing::SendAnswer;
 use outgoing::Sending;
 use sealing::SealAnswer;
 use sealing::SealQuestion;
-use taking::TakeAnswer;
 use send_keys::KeyAnswer;
+use taking::TakeAnswer;
 
 // The sealing that is asked for, by kind: 0 refused by 12, 1 none waits, 2 a record's full epoch and number, nonce, header with its
 // number not masked, and the place in the queue of what is to be sealed.

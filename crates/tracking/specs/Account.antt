@@ -1,9 +1,10 @@
 -- An account of what was sent and of the saved records, written from the calls' arguments and answers; from the state only the next numbers,
--- and which records a resend passes over. It agrees with the flight behind every list of calls. Assumes nothing.
+-- which records a resend passes over, and whether an ACK emptied the flight. It agrees with the flight behind every list of calls. Assumes
+-- nothing.
 use mathlib.Core.Bool.{Bool, true, false}
 use mathlib.Core.List.{List, [], _∷_, _++_, List·Memᴰ·head as here, List·Memᴰ·tail as there}
 use mathlib.Core.Path.{_≡_, refl, sym, subst}
-use Prim.Native.Nat.{ℕ, zero, suc, _+_, _-_, _*_, _≤_}
+use Prim.Native.Nat.{ℕ, zero, suc, _+_, _-_, _*_, _<_, _≤_}
 use native.Mathlib.Omega.{arith}
 use lib.Dec.{eqb}
 use lib.ListN.{length}
@@ -19,7 +20,7 @@ use Rattle.outgoing.specs.Send.{laidState, sendAnswer, sendState}
 use Rattle.flight.specs.declared.Flight.{Flight}
 use Rattle.flight.specs.declared.Begun.{Begun}
 use Rattle.flight.specs.declared.Saved.{Saved}
-use Rattle.flight.specs.Flight.{freshFlight, withSaved, begun, savedWith, savedMemory}
+use Rattle.flight.specs.Flight.{entryAt, freshFlight, withSaved, begun, savedWith, savedMemory}
 use Rattle.flight.specs.Save.{saveAnswer, saveState, saveKept, save-safe}
 use Rattle.messages.specs.Cut.{epochOf, overhead, size-rest}
 use Rattle.messages.specs.Message.{contentOf, Laid, pieceOf, sizeNow, sendAll, beginning, messageAnswer, messageState, messageKept, length-content}
@@ -41,7 +42,7 @@ use Rattle.waiting.specs.Calls.{End, Call, does, run, AllNarrow, fresh, after, 
 use Rattle.waiting.specs.Calls.Call.{key, send, save, message, begin, put, reply, take, resend, act, ack}
 use Rattle.waiting.specs.Fresh.{fresh-holds}
 use Rattle.tracking.specs.Marks.{stays, empties, marked, Acting, unformed, formed, acts}
-use Rattle.tracking.specs.Tracked.{Saving, savingOf, Tracked, tracked-grows, saved-tracked, none-tracked, marks-tracked}
+use Rattle.tracking.specs.Tracked.{Saving, savingOf, Tracked, tracked-grows, saved-tracked, none-tracked, marks-tracked, slot-inside}
 use Rattle.tracking.specs.Again.{savingsAgain, resend-tracked}
 use Rattle.tracking.specs.Numbers.{Sent, Was, Numbers, Later, fresh-numbers, numbers-later, used-numbers, next-unused, keyed-numbers, logAgain, again-grows, again-logged, again-numbers}
 
@@ -359,3 +360,21 @@ pub always-agrees : (mtu limit : ℕ) (queue kept : List ℕ) → isSetting mtu 
     → Agrees (run (fresh mtu limit queue kept) cs .state) (run (fresh mtu limit queue kept) cs .flight) (run (fresh mtu limit queue kept) cs .kept) (accounts (fresh mtu limit queue kept) cs noAccount)
 always-agrees mtu limit queue kept s l k cs n =
     run-agrees (fresh mtu limit queue kept) cs noAccount [] n (fresh-holds mtu limit queue s l) (fresh-agrees mtu limit kept k)
+
+-- so the flight never leaves its ranges: 12 records, 32 numbers each, each content in its slot of the buffer
+pub record Ranges (mtu : ℕ) (f : Flight) (m : List ℕ) : Type 0 where
+  pub few : f .saved ≤ 12
+  pub remembered : (i : ℕ) → i < f .saved → entryAt f i .remembered ≤ 32
+  pub slots : (i : ℕ) → i < f .saved → (i * mtu + entryAt f i .length ≤ (i + 1) * mtu) × ((i + 1) * mtu ≤ length m)
+
+pub agrees-ranges : (s : Sending) (f : Flight) (m : List ℕ) (c : Account) → Agrees s f m c → Ranges (s .queue .mtu) f m
+agrees-ranges s f m c g = record {
+  few = g .tracked .few;
+  remembered = λ i h. g .tracked .each i h .few;
+  slots = slot-inside (Was (c .sent)) (s .queue .mtu) f m (c .saved) (g .tracked);
+}
+
+pub always-ranges : (mtu limit : ℕ) (queue kept : List ℕ) → isSetting mtu limit ≡ true → limit * mtu ≤ length queue → 12 * mtu ≤ length kept → (cs : List Call) → AllNarrow cs
+    → Ranges (run (fresh mtu limit queue kept) cs .state .queue .mtu) (run (fresh mtu limit queue kept) cs .flight) (run (fresh mtu limit queue kept) cs .kept)
+always-ranges mtu limit queue kept s l k cs n =
+    let w : End = run (fresh mtu limit queue kept) cs in agrees-ranges (w .state) (w .flight) (w .kept) (accounts (fresh mtu limit queue kept) cs noAccount) (always-agrees mtu limit queue kept s l k cs n)

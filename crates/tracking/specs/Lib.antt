@@ -6,3 +6,4 @@ pub mod Numbers
 pub mod Account
 pub mod Heard
 pub mod Laid
+pub mod Example

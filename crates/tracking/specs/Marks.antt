@@ -163,6 +163,25 @@ module _ (f : Flight) where
       ∙ ap (λ (u : Tally). u .unmarked) (if-true some t (eq-eqb (entryAt f k .epoch) 2 two) ∙ if-false (record { any = true; unmarked = t .unmarked }) (record { any = true; unmarked = true }) m)))))
       (λ e. let w = eqb-false i k e in tally-all k before i (omega arith) z)
 
+  -- and the other way round
+  any-tally : (k i : ℕ) → i < k → entryAt f i .epoch ≡ 2 → tallyAfter f k .any ≡ true
+  unfolding tallyAfter tallyWith
+  any-tally zero i l z = absurd (omega arith)
+  any-tally (suc k) i l z =
+      test-cases (eqb (entryAt f k .epoch) 2)
+      (λ y. ap (λ (t : Tally). t .any) (if-true _ (tallyAfter f k) y) ∙ by-test (λ (t : Tally). t .any ≡ true) (λ m. refl) (λ m. refl))
+      (λ y. ap (λ (t : Tally). t .any) (if-false _ (tallyAfter f k) y)
+      ∙ test-cases (eqb i k) (λ e. absurd (eqb-false (entryAt f k .epoch) 2 y (ap (λ (j : ℕ). entryAt f j .epoch) (sym (eqb-true i k e)) ∙ z)))
+      (λ e. let w = eqb-false i k e in any-tally k i (omega arith) z))
+
+  all-tally : (k : ℕ) → ((i : ℕ) → i < k → entryAt f i .epoch ≡ 2 → entryAt f i .marked ≡ true) → tallyAfter f k .unmarked ≡ false
+  unfolding tallyAfter tallyWith
+  all-tally zero all = refl
+  all-tally (suc k) all =
+      let before : tallyAfter f k .unmarked ≡ false = all-tally k (λ i l. all i (omega arith)) in
+      by-test (λ (t : Tally). t .unmarked ≡ false)
+      (λ y. by-test (λ (t : Tally). t .unmarked ≡ false) (λ m. before) (λ m. absurd (false≢true (sym m ∙ all k (omega arith) (eqb-true (entryAt f k .epoch) 2 y))))) (λ y. before)
+
 -- behind marking: the flight as it is then, or emptied, which needs a record of epoch 2 and every one of epoch 2 marked
 pub data Left (f g : Flight) : Type 0 where
   stays : g ≡ f → Left f g
@@ -175,6 +194,11 @@ emptied-left f =
     (λ y. by-test (Left f) (λ z. stays refl)
     (λ z. empties refl (tally-any f (f .saved) y (λ i l e. record { at = i; below = l; epoch = e })) (tally-all f (f .saved) z)))
     (λ y. stays refl)
+
+-- "If records of epoch 2 exist and all are marked, the flight empties"
+pub must-empty : (f : Flight) → OfTwo f → ((i : ℕ) → i < f .saved → entryAt f i .epoch ≡ 2 → entryAt f i .marked ≡ true) → emptied f ≡ withSaved f (f .entries) 0
+unfolding emptied
+must-empty f o all = if-true _ _ (any-tally f (f .saved) (o .at) (o .below) (o .epoch)) ∙ if-false _ _ (all-tally f (f .saved) all)
 
 -- ---- the call
 
@@ -192,3 +216,19 @@ unfolding acked
 acts f d h =
     subst (λ (a : Acked). (a .answer ≡ Done) × Acting f d (a .flight)) (sym (if-false _ _ (le-ltb 12 (f .saved) h)))
     (refl, by-test (Acting f d) (λ y. formed y (emptied-left (marked f d))) (λ y. unformed y refl))
+
+-- behind an ACK's marking, the i-th saved record is marked exactly if it was, or a pair has its epoch and one of its numbers
+module _ (f : Flight) (d : List ℕ) (i : ℕ) (below : i < f .saved) (long : f .saved ≤ length (f .entries)) (few : entryAt f i .remembered ≤ 32) where
+  mark-is : entryAt (marked f d) i .marked ≡ isAcked d (pairsIn d) (f .numbers) i (entryAt f i)
+  unfolding withMark
+  mark-is = ap (λ (e : Entry). e .marked) (marks-entry d (pairsIn d) f (f .saved) i below long)
+
+  pub marked-only : entryAt (marked f d) i .marked ≡ true → (entryAt f i .marked ≡ true) ⊎ Names d f i
+  marked-only y = acked-names d f i few (sym mark-is ∙ y)
+
+  pub marked-if : (entryAt f i .marked ≡ true) ⊎ Names d f i → entryAt (marked f d) i .marked ≡ true
+  marked-if o = mark-is ∙ names-acked d f i few o
+
+  -- and has all else as before
+  pub marked-else : entryAt (marked f d) i ≡ withMark (entryAt f i) (entryAt (marked f d) i .marked)
+  marked-else = marks-entry d (pairsIn d) f (f .saved) i below long ∙ ap (λ (y : Bool). withMark (entryAt f i) y) (sym mark-is)

@@ -241,3 +241,9 @@ module _ (Was : ℕ → ℕ → ℕ → List ℕ → Type 0) (mtu : ℕ) (f : Fl
             (λ k b. ap (λ (c : List ℕ). getD c (i * 32 + k) 0) (marks-numbers d (pairsIn d) f (f .saved))) refl (t .each i l);
         apart = λ i j n hi hj. t .apart i j n (omega (arith, same)) (omega (arith, same));
       }
+
+  -- ---- the buffer: each content lies in its own slot of MTU bytes
+
+  pub slot-inside : (i : ℕ) → i < f .saved → (i * mtu + entryAt f i .length ≤ (i + 1) * mtu) × ((i + 1) * mtu ≤ length m)
+  slot-inside i h =
+      let row : (i + 1) * mtu ≤ 12 * mtu = mul-le-mul-right mtu (omega (arith, t .few)) in (omega (arith, t .each i h .fits), omega (arith, row, t .space))
