@@ -1,0 +1,334 @@
+//! What both ends have: socket, link, ciphers, and a log of what happens for the process that started them.
+
+use std::collections::VecDeque;
+use std::io::{self, BufWriter, Stdout, Write};
+use std::net::UdpSocket;
+use std::os::fd::AsRawFd;
+use std::process;
+use std::time::{Duration, Instant};
+
+use huskelapse::content_type::ACK;
+use huskelapse::{Cipher, Reading, Receiver, Refusal, Sender};
+
+use crate::crypto::Keys;
+use crate::flight::{Flight, Notes, Saved};
+use crate::options::Options;
+use crate::system;
+
+pub const MTU: usize = 1200;
+/// Datagrams on their way to the link at once, so that no socket's buffer overflows.
+pub const PACE: usize = 64;
+
+/// A record that is handed over.
+pub struct Record {
+    pub epoch: u16,
+    pub number: u64,
+    pub content_type: u8,
+    pub content: Vec<u8>,
+}
+
+pub struct End {
+    socket: UdpSocket,
+    pub sender: Sender,
+    pub receiver: Receiver,
+    keys_out: Keys,
+    keys_in: Keys,
+    secrets: [String; 2],
+    pub log: BufWriter<Stdout>,
+    pub outstanding: usize,
+    moved: Instant,
+    flight: Flight,
+    notes: Notes,
+    /// The application epoch is keyed to send.
+    application: bool,
+    pub resent: usize,
+    pub marked: usize,
+    pub arrived: VecDeque<Record>,
+    started: Instant,
+    limit: Duration,
+}
+
+/// The keys of the sending direction, each sealing logged.
+struct Logged<'a> {
+    keys: &'a mut Keys,
+    log: &'a mut BufWriter<Stdout>,
+    sealed: &'a mut Vec<Record>,
+}
+
+fn log_record(log: &mut impl Write, what: char, epoch: u16, number: u64, content_type: u8, content: &[u8]) {
+    const DIGITS: &[u8; 16] = b"0123456789abcdef";
+    let mut hex = Vec::with_capacity(2 * content.len() + 1);
+    for byte in content {
+        hex.extend([DIGITS[usize::from(byte >> 4)], DIGITS[usize::from(byte & 15)]]);
+    }
+    hex.push(b'\n');
+    let _ = write!(log, "{what} {epoch} {number} {content_type} ");
+    let _ = log.write_all(&hex);
+}
+
+/// The plaintext records of a datagram that this end wrote.
+fn plaintext_records(mut bytes: &[u8]) -> Vec<Record> {
+    let mut records = Vec::new();
+    while !bytes.is_empty() {
+        let sealed = bytes[0] & 0xE0 == 0x20;
+        let header = if sealed { 5 } else { 13 };
+        let length = usize::from(u16::from_be_bytes([bytes[header - 2], bytes[header - 1]]));
+        if !sealed {
+            let number = u64::from_be_bytes(*bytes[3..].first_chunk().unwrap());
+            records.push(Record { epoch: 0, number, content_type: bytes[0], content: bytes[header..][..length].to_vec() });
+        }
+        bytes = &bytes[header + length..];
+    }
+    records
+}
+
+impl Cipher for Logged<'_> {
+    fn mask(&mut self, epoch: u16, sample: &[u8; 16]) -> [u8; 2] {
+        self.keys.mask(epoch, sample)
+    }
+
+    fn open(&mut self, epoch: u16, number: u64, nonce: &[u8; 12], header: &[u8], part: &mut [u8]) -> bool {
+        self.keys.open(epoch, number, nonce, header, part)
+    }
+
+    fn seal(&mut self, epoch: u16, number: u64, nonce: &[u8; 12], header: &[u8; 5], part: &mut [u8]) {
+        let n = part.len() - 17;
+        log_record(self.log, 's', epoch, number, part[n], &part[..n]);
+        self.sealed.push(Record { epoch, number, content_type: part[n], content: part[..n].to_vec() });
+        self.keys.seal(epoch, number, nonce, header, part);
+    }
+}
+
+impl End {
+    pub fn new(options: &Options, name: &str, port: u16) -> io::Result<End> {
+        let socket = UdpSocket::bind("127.0.0.1:0")?;
+        socket.connect(("127.0.0.1", port))?;
+        socket.set_nonblocking(true)?;
+        let secret = |from: &str| format!("{} from the {from}", options.seed);
+        let other = if name == "post" { "gateway" } else { "post" };
+        let refused = |why: Refusal| io::Error::other(why);
+        let mut log = BufWriter::with_capacity(1 << 16, io::stdout());
+        writeln!(log, "port {}", socket.local_addr()?.port())?;
+        log.flush()?;
+        Ok(End {
+            socket,
+            sender: Sender::new(MTU, 16).map_err(refused)?,
+            receiver: Receiver::new(16).map_err(refused)?,
+            keys_out: Keys::new(options.suite),
+            keys_in: Keys::new(options.suite),
+            secrets: [secret(name), secret(other)],
+            log,
+            outstanding: 0,
+            moved: Instant::now(),
+            flight: Flight::default(),
+            notes: Notes::default(),
+            application: false,
+            resent: 0,
+            marked: 0,
+            arrived: VecDeque::new(),
+            started: Instant::now(),
+            limit: Duration::from_secs(options.seconds),
+        })
+    }
+
+    /// A refusal that this host never meets.
+    pub fn must<T>(&mut self, answer: Result<T, Refusal>) -> T {
+        answer.unwrap_or_else(|why| self.stop(&why.to_string()))
+    }
+
+    fn stop(&mut self, why: &str) -> ! {
+        let _ = writeln!(self.log, "stopped {why}");
+        let _ = self.log.flush();
+        process::exit(2)
+    }
+
+    /// Says something to the process that started this one.
+    pub fn say(&mut self, line: std::fmt::Arguments<'_>) {
+        let _ = writeln!(self.log, "{line}");
+    }
+
+    /// Says what there is to say at the end.
+    pub fn finish(&mut self) {
+        let (resent, marked) = (self.resent, self.marked);
+        self.say(format_args!("resent {resent}\nmarked {marked}\ndone"));
+        let _ = self.log.flush();
+    }
+
+    /// Keys an epoch to send.
+    pub fn key_send(&mut self, epoch: u16) {
+        let iv = self.keys_out.add(epoch, &self.secrets[0]);
+        let keyed = self.sender.key(epoch, &iv);
+        self.must(keyed);
+        self.application |= epoch >= 3;
+    }
+
+    /// Keys an epoch to receive.
+    pub fn key_receive(&mut self, epoch: u16) {
+        let iv = self.keys_in.add(epoch, &self.secrets[1]);
+        let keyed = self.receiver.key(epoch, &iv);
+        self.must(keyed);
+        self.receiver.enable_peer_encryption();
+        self.say(format_args!("k {epoch}"));
+    }
+
+    /// Seals what waits and sends every queued datagram. The records in them, those in plaintext first.
+    pub fn flush(&mut self) -> Vec<Record> {
+        let mut sealed = Vec::new();
+        self.sender.seal(&mut Logged { keys: &mut self.keys_out, log: &mut self.log, sealed: &mut sealed });
+        let mut records = Vec::new();
+        let mut buffer = [0; MTU];
+        loop {
+            let taken = self.sender.take(&mut buffer).map(|taken| taken.map(|datagram| datagram.len()));
+            let Some(n) = self.must(taken) else { break };
+            records.extend(plaintext_records(&buffer[..n]));
+            let _ = self.socket.send(&buffer[..n]);
+            self.outstanding += 1;
+        }
+        records.append(&mut sealed);
+        records
+    }
+
+    /// Sends application data.
+    pub fn send(&mut self, content: &[u8]) {
+        let answer = self.sender.send(3, huskelapse::content_type::APPLICATION_DATA, content);
+        self.must(answer);
+    }
+
+    pub fn begin_flight(&mut self) {
+        self.sender.begin_flight();
+        self.flight = Flight::default();
+    }
+
+    fn save(&mut self) {
+        for record in self.flush() {
+            let Record { epoch, number, content_type, content } = record;
+            self.flight.saved.push(Saved { epoch, content_type, content, numbers: vec![number], acknowledged: false });
+        }
+    }
+
+    /// Sends a handshake message in the flight.
+    pub fn message(&mut self, kind: u8, body: &[u8]) {
+        let answer = self.sender.message(kind, body);
+        self.must(answer);
+        self.save();
+    }
+
+    /// Sends application data in the flight.
+    pub fn send_saved(&mut self, content: &[u8]) {
+        let answer = self.sender.send_saved(3, huskelapse::content_type::APPLICATION_DATA, content);
+        self.must(answer);
+        self.save();
+    }
+
+    /// Sends what is not acknowledged of the flight again.
+    pub fn resend(&mut self) {
+        for i in 0..self.flight.saved.len() {
+            let saved = &self.flight.saved[i];
+            if saved.acknowledged {
+                continue;
+            }
+            let answer = self.sender.send(saved.epoch, saved.content_type, &saved.content);
+            self.must(answer);
+            self.resent += 1;
+            for record in self.flush() {
+                self.flight.saved[i].numbers.push(record.number);
+            }
+        }
+    }
+
+    /// Acts on an ACK.
+    pub fn acts(&mut self, content: &[u8]) {
+        self.marked += self.flight.acts(content);
+        let log = &mut self.log;
+        for saved in self.flight.saved.iter().filter(|saved| saved.acknowledged) {
+            log_record(log, 'a', saved.epoch, saved.numbers[0], saved.content_type, &saved.content);
+        }
+    }
+
+    /// Whether every sealed record of the flight is acknowledged.
+    pub fn acknowledged(&self) -> bool {
+        self.flight.is_acknowledged()
+    }
+
+    /// Notes a record for the next ACK.
+    pub fn note(&mut self, epoch: u16, number: u64) {
+        self.notes.note(epoch, number);
+    }
+
+    pub fn forget_notes(&mut self) {
+        self.notes = Notes::default();
+    }
+
+    pub fn send_ack(&mut self) {
+        if let Some(content) = self.notes.content() {
+            let answer = self.sender.send(if self.application { 3 } else { 2 }, ACK, &content);
+            self.must(answer);
+            self.flush();
+        }
+    }
+
+    fn read(&mut self, datagram: &mut [u8]) {
+        let check = crate::ledger::check(datagram);
+        let readings = match self.receiver.read(datagram, &mut self.keys_in) {
+            Ok(readings) => readings,
+            Err(why) => return writeln!(self.log, "x {}\ng {check}", why.number()).unwrap_or(()),
+        };
+        for reading in readings {
+            let record = match reading {
+                Reading::Opened { epoch, number, content_type, content } => {
+                    log_record(&mut self.log, 'r', epoch, number, content_type, content);
+                    Record { epoch, number, content_type, content: content.to_vec() }
+                }
+                Reading::Plaintext { number, content_type, content } => {
+                    let _ = writeln!(self.log, "p");
+                    Record { epoch: 0, number, content_type, content: content.to_vec() }
+                }
+                Reading::Unopened { .. } => {
+                    let _ = writeln!(self.log, "u");
+                    continue;
+                }
+                Reading::Dropped(why) | Reading::Fault(why) => {
+                    let _ = writeln!(self.log, "x {}", why.number());
+                    continue;
+                }
+            };
+            self.arrived.push_back(record);
+        }
+        let _ = writeln!(self.log, "g {check}");
+    }
+
+    /// Waits for datagrams, at most so many milliseconds, and reads them. False when this process is to end.
+    pub fn wait(&mut self, milliseconds: i32) -> bool {
+        if milliseconds > 0 {
+            let _ = self.log.flush();
+        }
+        let ready = system::wait([Some(self.socket.as_raw_fd()), Some(0)], milliseconds);
+        if ready[1] {
+            let mut credits = [0; 4096];
+            match system::read_some(0, &mut credits) {
+                Ok(n) if n > 0 && !credits[..n].contains(&b'q') => {
+                    self.outstanding = self.outstanding.saturating_sub(n);
+                    self.moved = Instant::now();
+                }
+                _ => return false,
+            }
+        }
+        if self.outstanding > 0 && self.moved.elapsed() > Duration::from_millis(500) {
+            // Datagrams are gone between the sockets.
+            self.outstanding = 0;
+        }
+        if ready[0] {
+            let mut buffer = [0; 2048];
+            for _ in 0..PACE {
+                match self.socket.recv(&mut buffer) {
+                    Ok(n) => self.read(&mut buffer[..n]),
+                    Err(_) => break,
+                }
+            }
+        }
+        if self.started.elapsed() > self.limit {
+            self.stop("the time is over");
+        }
+        true
+    }
+}

@@ -1,0 +1,57 @@
+//! The charging post: a handshake, then meter records, one after the other, and orders obeyed once each.
+
+use std::time::{Duration, Instant};
+
+use huskelapse::content_type::APPLICATION_DATA;
+
+use crate::end::{End, PACE};
+use crate::handshake::Handshake;
+use crate::meter::Word;
+use crate::options::Options;
+use crate::random::Random;
+
+const AGAIN: Duration = Duration::from_millis(10);
+
+pub fn run(options: &Options, mut end: End) {
+    let mut random = Random::new(options.seed ^ 0x706F_7374);
+    let (mut sent, mut obeyed, mut stopped) = (0, 0, false);
+    let mut told: Option<Instant> = None;
+    let mut handshake = Handshake::begin(&mut end, true);
+    loop {
+        let busy = handshake.is_done() && sent < options.records && end.outstanding < PACE;
+        if !end.wait(if busy { 0 } else { 5 }) {
+            break;
+        }
+        while let Some(record) = end.arrived.pop_front() {
+            if record.content_type != APPLICATION_DATA || record.epoch < 3 {
+                handshake.record(&mut end, &record);
+            } else if let Some(Word::Order { number, stop, .. }) = Word::of(&record.content) {
+                // An order that is sent again is a record of its own: it is obeyed by its number.
+                if number == obeyed + 1 {
+                    obeyed = number;
+                    stopped |= stop;
+                    end.say(format_args!("o {number}"));
+                }
+                end.note(record.epoch, record.number);
+                end.send_ack();
+            }
+        }
+        handshake.act(&mut end);
+        if !handshake.is_done() {
+            continue;
+        }
+        while sent < options.records && end.outstanding < PACE {
+            for _ in 0..=random.below(options.pack).min(options.records - sent - 1) {
+                end.send(&Word::Meter { index: sent as u32, wh: random.below(30) as u32 }.bytes());
+                sent += 1;
+            }
+            end.flush();
+        }
+        if sent == options.records && !stopped && told.is_none_or(|told| told.elapsed() > AGAIN) {
+            told = Some(Instant::now());
+            end.send(&Word::Charged { records: sent as u32 }.bytes());
+            end.flush();
+        }
+    }
+    end.finish();
+}

@@ -1,0 +1,169 @@
+use std::error::Error;
+use std::fmt;
+
+/// Why a call is refused, a record dropped or a datagram ended, with the specification's numbers.
+///
+/// ```
+/// use huskelapse::Refusal;
+///
+/// assert_eq!(Refusal::NotFresh.number(), 9);
+/// assert_eq!(Refusal::NotFresh.to_string(), "refusal 9: the record's number is used or too old");
+/// assert_eq!(Refusal::BufferTooSmall { needed: 74 }.to_string(), "refusal 16: the buffer is too small, 74 bytes are needed");
+/// ```
+#[derive(Clone, Copy, Debug, PartialEq, Eq, Hash)]
+pub enum Refusal {
+    /// 1: the datagram has more than 16,384 bytes.
+    DatagramTooLong,
+    /// 2: a header or a length reaches beyond the datagram; it ends there.
+    Truncated,
+    /// 3: a seventeenth reading; the datagram ends there.
+    TooManyReadings,
+    /// 4: a plaintext record's type, version or epoch is not allowed.
+    BadPlaintext,
+    /// 5: a sealed record with epoch bits 0 or 1 before peer encryption is on.
+    BeforeEncryption,
+    /// 6: no keys for the record's epoch.
+    NoKeys,
+    /// 7: the protected part is too short.
+    TooShort,
+    /// 8: the record's number would be above 2^48 - 1.
+    NumberTooLarge,
+    /// 9: the record's number is used, or 64 or more below the highest.
+    NotFresh,
+    /// 10: the cipher did not open the record.
+    NotOpened,
+    /// 11: the opened record has no content type.
+    NoContentType,
+    /// 12: a setting is outside its range, or a buffer too short for the settings.
+    OutOfRange,
+    /// 13: the epoch cannot be used so.
+    BadEpoch,
+    /// 14: the content type is not allowed, the body over 16,384 bytes or the record over the MTU.
+    BadRecord,
+    /// 15: no such question waits, or the reply has the wrong length.
+    NoQuestion,
+    /// 16: the buffer lent is too small.
+    BufferTooSmall {
+        /// The length that is needed.
+        needed: usize,
+    },
+    /// 17: no keys to send in epoch 2.
+    KeysAbsent,
+    /// 18: the flight would have a thirteenth record.
+    FlightFull,
+    /// 19: a new datagram is needed and the queue has no room for one.
+    QueueFull,
+    /// 20: the epoch's record numbers are spent.
+    NumbersSpent,
+    /// 21: the handshake message numbers are spent.
+    MessagesSpent,
+    /// 22: a record was sent again 32 times.
+    ResendsSpent,
+    /// 23: the front datagram is not wholly sealed, four application epochs are keyed to receive, or a sealing under the application
+    /// epoch that would be replaced still waits.
+    Waiting,
+}
+
+impl Refusal {
+    /// The specification's number, 1 to 23.
+    pub fn number(self) -> u8 {
+        match self {
+            Refusal::DatagramTooLong => 1,
+            Refusal::Truncated => 2,
+            Refusal::TooManyReadings => 3,
+            Refusal::BadPlaintext => 4,
+            Refusal::BeforeEncryption => 5,
+            Refusal::NoKeys => 6,
+            Refusal::TooShort => 7,
+            Refusal::NumberTooLarge => 8,
+            Refusal::NotFresh => 9,
+            Refusal::NotOpened => 10,
+            Refusal::NoContentType => 11,
+            Refusal::OutOfRange => 12,
+            Refusal::BadEpoch => 13,
+            Refusal::BadRecord => 14,
+            Refusal::NoQuestion => 15,
+            Refusal::BufferTooSmall { .. } => 16,
+            Refusal::KeysAbsent => 17,
+            Refusal::FlightFull => 18,
+            Refusal::QueueFull => 19,
+            Refusal::NumbersSpent => 20,
+            Refusal::MessagesSpent => 21,
+            Refusal::ResendsSpent => 22,
+            Refusal::Waiting => 23,
+        }
+    }
+
+    /// The refusal with this number; for 16 with this needed length.
+    pub(crate) fn of(number: u8, needed: usize) -> Refusal {
+        match number {
+            1 => Refusal::DatagramTooLong,
+            2 => Refusal::Truncated,
+            3 => Refusal::TooManyReadings,
+            4 => Refusal::BadPlaintext,
+            5 => Refusal::BeforeEncryption,
+            6 => Refusal::NoKeys,
+            7 => Refusal::TooShort,
+            8 => Refusal::NumberTooLarge,
+            9 => Refusal::NotFresh,
+            10 => Refusal::NotOpened,
+            11 => Refusal::NoContentType,
+            12 => Refusal::OutOfRange,
+            13 => Refusal::BadEpoch,
+            14 => Refusal::BadRecord,
+            15 => Refusal::NoQuestion,
+            16 => Refusal::BufferTooSmall { needed },
+            17 => Refusal::KeysAbsent,
+            18 => Refusal::FlightFull,
+            19 => Refusal::QueueFull,
+            20 => Refusal::NumbersSpent,
+            21 => Refusal::MessagesSpent,
+            22 => Refusal::ResendsSpent,
+            23 => Refusal::Waiting,
+            _ => panic!("the library has no refusal {number}"),
+        }
+    }
+
+    /// Nothing for 0, else the refusal with this number.
+    pub(crate) fn done(number: u8) -> Result<(), Refusal> {
+        match number {
+            0 => Ok(()),
+            _ => Err(Refusal::of(number, 0)),
+        }
+    }
+}
+
+impl fmt::Display for Refusal {
+    fn fmt(&self, f: &mut fmt::Formatter<'_>) -> fmt::Result {
+        let words = match self {
+            Refusal::DatagramTooLong => "the datagram has more than 16,384 bytes",
+            Refusal::Truncated => "a header or a length reaches beyond the datagram",
+            Refusal::TooManyReadings => "the datagram has a seventeenth reading",
+            Refusal::BadPlaintext => "a plaintext record's type, version or epoch is not allowed",
+            Refusal::BeforeEncryption => "a sealed record with epoch bits 0 or 1 before peer encryption",
+            Refusal::NoKeys => "no keys for the record's epoch",
+            Refusal::TooShort => "the protected part is too short",
+            Refusal::NumberTooLarge => "the record's number is above 2^48 - 1",
+            Refusal::NotFresh => "the record's number is used or too old",
+            Refusal::NotOpened => "the cipher did not open the record",
+            Refusal::NoContentType => "the opened record has no content type",
+            Refusal::OutOfRange => "a setting is outside its range or a buffer too short for it",
+            Refusal::BadEpoch => "the epoch cannot be used so",
+            Refusal::BadRecord => "the type is not allowed, the body over 16,384 bytes or the record over the MTU",
+            Refusal::NoQuestion => "the reply answers no waiting question or has the wrong length",
+            Refusal::BufferTooSmall { needed } => {
+                return write!(f, "refusal 16: the buffer is too small, {needed} bytes are needed");
+            }
+            Refusal::KeysAbsent => "no keys to send in this epoch",
+            Refusal::FlightFull => "the flight is full",
+            Refusal::QueueFull => "the queue is full",
+            Refusal::NumbersSpent => "the record numbers of this epoch are spent",
+            Refusal::MessagesSpent => "the message numbers are spent",
+            Refusal::ResendsSpent => "a record was sent again 32 times",
+            Refusal::Waiting => "a sealing still waits, or four application epochs are keyed to receive",
+        };
+        write!(f, "refusal {}: {words}", self.number())
+    }
+}
+
+impl Error for Refusal {}
