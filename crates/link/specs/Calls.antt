@@ -8,26 +8,18 @@ use lib.Dec.{leb}
 use Rattle.base.specs.Choose.{choose, both}
 use Rattle.datagram.specs.declared.Step.{Step}
 use Rattle.receiving.specs.Receiving.{maskOf}
-use Rattle.receiving.specs.declared.Answer.{Answer}
 use Rattle.receiving.specs.declared.Kept.{Kept}
 use Rattle.receiving.specs.declared.Read.{Read}
 use Rattle.receiving.specs.declared.Receiving.{Receiving}
 use Rattle.link_words.specs.Words.{keysOf, datagramOf, isFlat}
+use Rattle.link_calls.specs.Kept.{stateOf}
 use Rattle.link.specs.Flat.{answerOf, bare, flatReading}
 use Rattle.link.specs.declared.LinkReading.{LinkReading}
-
--- the state that words stand for
-abbrev pub stateOf : List ℕ → Receiving
-stateOf w = record { keys = keysOf w; datagram = datagramOf w }
 
 -- ---- a call that reads nothing: w before it, v behind it, k what the definition makes of the state
 
 abbrev pub Does : ℕ → List ℕ → List ℕ → Kept → Type 0
 Does r v w k = (r ≡ choose (isFlat w) (answerOf (k .answer)) 12) × (stateOf v ≡ choose (isFlat w) (k .state) (stateOf w)) × (isFlat v ≡ isFlat w)
-
--- the same within a call, where the words stand for a state
-abbrev pub Kept-as : Answer → List ℕ → List ℕ → Kept → Type 0
-Kept-as a v w k = (a ≡ k .answer) × (stateOf v ≡ k .state) × (isFlat v ≡ isFlat w)
 
 -- ---- a call that reads
 

@@ -17,7 +17,7 @@ use Rattle.datagram.specs.Datagram.{begun}
 use Rattle.link_words.specs.Entries.{freshWords, starts}
 use Rattle.recv_keys.specs.declared.RecvEpochEntry.{RecvEpochEntry}
 use Rattle.recv_keys.specs.declared.RecvKeys.{RecvKeys}
-use Rattle.receiving.specs.Receiving.{kept, made, stepped}
+use Rattle.receiving.specs.Receiving.{made, stepped}
 use Rattle.receiving.specs.declared.Answer.{Answer}
 use Rattle.receiving.specs.declared.Kept.{Kept}
 use Rattle.receiving.specs.declared.Receiving.{Receiving}
@@ -26,22 +26,11 @@ use Rattle.window.specs.declared.ReplayWindow.{ReplayWindow}
 use Rattle.link_words.specs.Words.{windowAt, entriesOf, keysOf, datagramOf, isFlat, putWindow}
 use Rattle.link_words.specs.Laws.{entry-at, mark-put}
 use Rattle.link.specs.Flat.{answerOf, bare, flatReading}
-use Rattle.link.specs.Calls.{stateOf, Does, Kept-as, Reads, Stepped, OpenedAs}
+use Rattle.link_calls.specs.Kept.{stateOf, Kept-as}
+use Rattle.link.specs.Calls.{Does, Reads, Stepped, OpenedAs}
 use Rattle.link.specs.declared.LinkReading.{LinkReading}
 
 -- ---- calls that read nothing
-
--- refused: the state as it was
-pub as-kept : (a : Answer) (w : List ℕ) (k : Kept) → k ≡ kept (stateOf w) a → Kept-as a w w k
-as-kept a w k e = subst (Kept-as a w w) (sym e) (refl, refl, refl)
-
-pub as-made : (a : Answer) (v w : List ℕ) (k : Kept) (keys : RecvKeys) (b : Datagram) → k ≡ made a keys b → keysOf v ≡ keys → datagramOf v ≡ b → isFlat v ≡ isFlat w → Kept-as a v w k
-as-made a v w k keys b e p q f =
-    subst (Kept-as a v w) (sym e) (
-      refl,
-      ap (λ (x : RecvKeys). record { keys = x; datagram = datagramOf v }) p ∙ ap (λ (x : Datagram). record { keys = keys; datagram = x }) q,
-      f,
-    )
 
 pub does : (r : ℕ) (a : Answer) (v w : List ℕ) (k : Kept) → isFlat w ≡ true → r ≡ answerOf a → Kept-as a v w k → Does r v w k
 does r a v w k f e h = (e ∙ ap answerOf (h .0) ∙ sym (if-true _ _ f), h .1 ∙ sym (if-true _ _ f), h .2)
@@ -82,9 +71,6 @@ starts-as min w a k e q =
     subst (λ (x : Kept). (answerOf a ≡ answerOf (x .answer)) × (stateOf w ≡ x .state) × (isFlat w ≡ true)) (sym q)
     (subst (λ (v : List ℕ). (answerOf a ≡ answerOf a) × (stateOf v ≡ record { keys = fresh min; datagram = begun 0 }) × (isFlat v ≡ true)) (sym e)
     (refl, state-by (freshWords min) (starts min .0) (starts min .1), starts min .2))
-
-pub kept-by : (a : Answer) (v w : List ℕ) (k j : Kept) → k ≡ j → Kept-as a v w j → Kept-as a v w k
-kept-by a v w k j e h = subst (Kept-as a v w) (sym e) h
 
 -- ---- the bytes that a reading shows: from start on, length of them, or header_len for an opening question
 

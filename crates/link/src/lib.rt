@@ -3,23 +3,18 @@
 ghost use mathlib.Core.Path.{_≡_};
 ghost use Prim.Native.Nat.{_<_};
 ghost use mathlib.Core.Bool.{true};
-ghost use Rattle.datagram.specs.Datagram.{isSound};
-ghost use Rattle.opening_reply.specs.Opening.{cancelled};
-ghost use Rattle.receiving.specs.Receiving.{freshOf, keyOf, leaving, removeOf, encryptOf, releaseOf, beginOf, readOf, maskOf, openedOf};
-ghost use Rattle.recv_keys.specs.Keys.{left};
+ghost use Rattle.receiving.specs.Receiving.{freshOf, keyOf, removeOf, encryptOf, releaseOf, beginOf, readOf, maskOf, openedOf};
 ghost use Rattle.link_words.specs.Words.{keysOf, isFlat};
 ghost use Rattle.link_steps.specs.Opens.{opens};
 ghost use Rattle.link.specs.Flat.{answerOf, reasonOf, bare, flatReading, openingOf};
-ghost use Rattle.link.specs.Calls.{stateOf, Kept-as, Stepped, Does, Reads, masks, maskBytesOf, OpenedAs};
-use datagram::Datagram;
-use datagram::Question;
+ghost use Rattle.link_calls.specs.Kept.{stateOf};
+ghost use Rattle.link.specs.Calls.{Stepped, Does, Reads, masks, maskBytesOf, OpenedAs};
 use datagram::Reading;
 use datagram::Reason;
 use datagram::Step;
 use link_steps::Opened;
 use opening_reply::Opening;
 use receiving::Answer;
-use recv_keys::Found;
 
 // What a call says of the record at the cursor, by kind:
 //   0 refused by 12 or 15, and nothing has changed;
@@ -42,111 +37,6 @@ pub struct LinkReading {
     pub header_len: usize,
     pub length: usize,
     pub nonce: [u8; 12],
-}
-
-// ---- keys and datagrams
-
-fn key(w: &mut [u64; 89], epoch: u16, iv: [u8; 12]) -> Answer
-    ensures { λ r. ⌜ Kept-as r (now (w .exit)) (now (w .entry)) (keyOf (stateOf (now (w .entry))) epoch iv) ⌝ }
-{
-    let b = link_words::datagram_of(w);
-    if link_words::is_sound(w, b) {
-        if epoch < 2 {
-            return Answer::Unusable;
-        }
-        if epoch <= link_words::low(w[16]) {
-            return Answer::Unusable;
-        }
-        if link_steps::is_full(w, epoch) {
-            return Answer::Full;
-        }
-        let count = w[15] as usize;
-        link_words::install(w, count, epoch, iv);
-        return Answer::Done;
-    }
-    Answer::Setting
-}
-
-// The entry at i removed, with the question under its epoch.
-fn leave(w: &mut [u64; 89], b: Datagram, i: usize, epoch: u16) -> Answer
-    requires { ⌜ (isSound (keysOf (now w)) b ≡ true) × (0 < keysOf (now w) .count) × (isFlat (now w) ≡ true) ⌝ }
-    ensures { λ r. ⌜ Kept-as r (now (w .exit)) (now (w .entry)) (leaving (cancelled (b .question) b epoch) (left (keysOf (now (w .entry))) i)) ⌝ }
-{
-    let c = link_steps::cancel(w, b, epoch);
-    let after = c.datagram;
-    link_words::uninstall(w, i);
-    link_words::sized(w);
-    link_words::put_datagram(w, after);
-    if c.dropped {
-        return Answer::Dropped;
-    }
-    Answer::Done
-}
-
-fn remove(w: &mut [u64; 89], epoch: u16) -> Answer
-    requires { ⌜ isFlat (now w) ≡ true ⌝ }
-    ensures { λ r. ⌜ Kept-as r (now (w .exit)) (now (w .entry)) (removeOf (stateOf (now (w .entry))) epoch) ⌝ }
-{
-    let b = link_words::datagram_of(w);
-    if link_words::is_sound(w, b) {
-        let count = w[15] as usize;
-        let f = link_words::find_epoch(w, count, epoch);
-        return match f {
-            Found::Nothing => Answer::Unusable,
-            Found::At(i) => leave(w, b, i, epoch),
-        };
-    }
-    Answer::Setting
-}
-
-fn encrypt(w: &mut [u64; 89]) -> Answer
-    requires { ⌜ isFlat (now w) ≡ true ⌝ }
-    ensures { λ r. ⌜ Kept-as r (now (w .exit)) (now (w .entry)) (encryptOf (stateOf (now (w .entry)))) ⌝ }
-{
-    link_words::sized(w);
-    let b = link_words::datagram_of(w);
-    if link_words::is_sound(w, b) {
-        w[17] = 1;
-        return Answer::Done;
-    }
-    Answer::Setting
-}
-
-fn release(w: &mut [u64; 89]) -> Answer
-    requires { ⌜ isFlat (now w) ≡ true ⌝ }
-    ensures { λ r. ⌜ Kept-as r (now (w .exit)) (now (w .entry)) (releaseOf (stateOf (now (w .entry)))) ⌝ }
-{
-    link_words::sized(w);
-    let b = link_words::datagram_of(w);
-    if link_words::is_sound(w, b) {
-        w[18] = 1;
-        return Answer::Done;
-    }
-    Answer::Setting
-}
-
-fn begin(w: &mut [u64; 89], n: usize) -> Answer
-    requires { ⌜ isFlat (now w) ≡ true ⌝ }
-    ensures { λ r. ⌜ Kept-as r (now (w .exit)) (now (w .entry)) (beginOf (stateOf (now (w .entry))) n) ⌝ }
-{
-    link_words::sized(w);
-    let b = link_words::datagram_of(w);
-    if link_words::is_sound(w, b) {
-        if 16384 < n {
-            return Answer::TooLong;
-        }
-        link_words::put_datagram(
-            w,
-            Datagram {
-                size: n,
-                at: 0,
-                readings: 0,
-                question: Question::Nothing,
-            },
-        );
-        return Answer::Done;
-    }
-    Answer::Setting
 }
 
 // ---- answers
@@ -330,7 +220,7 @@ pub extern "C" fn link_key_receive(w: &mut [u64; 89], epoch: u16, iv: &[u8; 12])
 {
     if link_words::is_flat(w) {
         let v = *iv;
-        return answer_of(key(w, epoch, v));
+        return answer_of(link_calls::key(w, epoch, v));
     }
     12
 }
@@ -341,7 +231,7 @@ pub extern "C" fn link_remove_receive(w: &mut [u64; 89], epoch: u16) -> u8
     ensures { λ r. ⌜ Does r (now (w .exit)) (now (w .entry)) (removeOf (stateOf (now (w .entry))) epoch) ⌝ }
 {
     if link_words::is_flat(w) {
-        return answer_of(remove(w, epoch));
+        return answer_of(link_calls::remove(w, epoch));
     }
     12
 }
@@ -352,7 +242,7 @@ pub extern "C" fn link_enable_peer_encryption(w: &mut [u64; 89]) -> u8
     ensures { λ r. ⌜ Does r (now (w .exit)) (now (w .entry)) (encryptOf (stateOf (now (w .entry)))) ⌝ }
 {
     if link_words::is_flat(w) {
-        return answer_of(encrypt(w));
+        return answer_of(link_calls::encrypt(w));
     }
     12
 }
@@ -363,7 +253,7 @@ pub extern "C" fn link_release_application_data(w: &mut [u64; 89]) -> u8
     ensures { λ r. ⌜ Does r (now (w .exit)) (now (w .entry)) (releaseOf (stateOf (now (w .entry)))) ⌝ }
 {
     if link_words::is_flat(w) {
-        return answer_of(release(w));
+        return answer_of(link_calls::release(w));
     }
     12
 }
@@ -374,7 +264,7 @@ pub extern "C" fn link_begin(w: &mut [u64; 89], n: usize) -> u8
     ensures { λ r. ⌜ Does r (now (w .exit)) (now (w .entry)) (beginOf (stateOf (now (w .entry))) n) ⌝ }
 {
     if link_words::is_flat(w) {
-        return answer_of(begin(w, n));
+        return answer_of(link_calls::begin(w, n));
     }
     12
 }

@@ -1,12 +1,12 @@
--- `link::leave` meets its contract. Assumes nothing.
+-- `link_calls::leave` meets its contract. Assumes nothing.
 use Rattle.link_words.specs.Laws.{put-keys, put-datagram, put-flat}
 use borrow.Author.Needs.{needs}
 use mathlib.Core.Path.{_≡_, refl, sym, ap, _∙_}
 use Rattle.base.specs.Choose.{if-true, if-false, both-true, both-false}
 use Rattle.receiving.specs.Receiving.{leaving}
-use Rattle.link.specs.Laws.{as-made}
-use Rattle.link.proofs.leave.Statement.{statement}
-use Rattle.link.proofs.leave.Tie as tie
+use Rattle.link_calls.specs.Kept.{as-made}
+use Rattle.link_calls.proofs.leave.Statement.{statement}
+use Rattle.link_calls.proofs.leave.Tie as tie
 
 cancel-requires : tie.Need-cancel-requires
 cancel-requires c κs = search needs

@@ -1,13 +1,13 @@
--- `link::begin` meets its contract. Assumes nothing.
+-- `link_calls::begin` meets its contract. Assumes nothing.
 use Rattle.link_words.specs.Laws.{put-keys, put-datagram, put-flat}
 use borrow.Author.Needs.{needs}
 use mathlib.Core.Path.{_≡_, refl, sym, ap, _∙_}
 use Rattle.base.specs.Choose.{if-true, if-false, both-true, both-false}
 use borrow.Author.Tests.{eq-eqb, ne-eqb, lt-leb, le-leb, lt-ltb, le-ltb}
 use Rattle.receiving.specs.Receiving.{beginOf}
-use Rattle.link.specs.Laws.{as-kept, as-made}
-use Rattle.link.proofs.begin.Statement.{statement}
-use Rattle.link.proofs.begin.Tie as tie
+use Rattle.link_calls.specs.Kept.{as-kept, as-made}
+use Rattle.link_calls.proofs.begin.Statement.{statement}
+use Rattle.link_calls.proofs.begin.Tie as tie
 
 sized-requires : tie.Need-sized-requires
 sized-requires c κs = search needs

@@ -1,4 +1,4 @@
--- `link::key` meets its contract: 12, 13, 23, then the epoch keyed. Assumes nothing.
+-- `link_calls::key` meets its contract: 12, 13, 23, then the epoch keyed. Assumes nothing.
 use borrow.Author.Needs.{needs}
 use mathlib.Core.Path.{_≡_, refl, sym, ap, _∙_}
 use Rattle.base.specs.Choose.{if-true, if-false, both-true, both-false}
@@ -7,9 +7,9 @@ use native.Mathlib.Omega.{arith}
 use Rattle.datagram.specs.Sound.{held-mask, held-open, ready}
 use Rattle.recv_keys.specs.Laws.{not-full}
 use Rattle.receiving.specs.Receiving.{keyOf}
-use Rattle.link.specs.Laws.{as-kept, as-made}
-use Rattle.link.proofs.key.Statement.{statement}
-use Rattle.link.proofs.key.Tie as tie
+use Rattle.link_calls.specs.Kept.{as-kept, as-made}
+use Rattle.link_calls.proofs.key.Statement.{statement}
+use Rattle.link_calls.proofs.key.Tie as tie
 
 datagram-of-requires : tie.Need-datagram-of-requires
 datagram-of-requires c κs = search needs

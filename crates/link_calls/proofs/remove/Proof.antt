@@ -1,4 +1,4 @@
--- `link::remove` meets its contract. Assumes nothing.
+-- `link_calls::remove` meets its contract. Assumes nothing.
 use borrow.Author.Needs.{needs}
 use mathlib.Core.Path.{_≡_, refl, sym, ap, _∙_}
 use Rattle.base.specs.Choose.{if-true, if-false, both-true, both-false}
@@ -7,10 +7,10 @@ use Rattle.datagram.specs.Sound.{held-mask, held-open, ready}
 use Rattle.recv_keys.specs.Laws.{found-keyed}
 use Rattle.recv_keys.specs.declared.Found.{Found}
 use Rattle.receiving.specs.Receiving.{removeOf, removedBy}
-use Rattle.link.specs.Laws.{as-kept, kept-by}
-use Rattle.link.specs.Calls.{stateOf}
-use Rattle.link.proofs.remove.Statement.{statement}
-use Rattle.link.proofs.remove.Tie as tie
+use Rattle.link_calls.specs.Kept.{as-kept, kept-by}
+use Rattle.link_calls.specs.Kept.{stateOf}
+use Rattle.link_calls.proofs.remove.Statement.{statement}
+use Rattle.link_calls.proofs.remove.Tie as tie
 
 datagram-of-requires : tie.Need-datagram-of-requires
 datagram-of-requires c κs = search needs
