@@ -12,10 +12,10 @@ uint8_t __real_link_key_send(LinkSending *s, uint16_t epoch, const uint8_t *iv);
 uint8_t __real_link_send(LinkSending *s, uint16_t epoch, uint8_t type, const uint8_t *c, size_t cn, uint8_t *q, size_t qn);
 uint8_t __real_link_sealed(LinkSending *s, size_t length, uint8_t m0, uint8_t m1, uint8_t *q, size_t qn);
 LinkTake __real_link_take(LinkSending *s, uint8_t *b, size_t bn, const uint8_t *q, size_t qn);
-uint8_t __real_link_send_saved(LinkSending *s, uint64_t *f, uint64_t *m, uint16_t epoch, uint8_t type, const uint8_t *c, size_t cn, uint8_t *q,
-    size_t qn, uint8_t *k, size_t kn);
-uint8_t __real_link_create_handshake(LinkSending *s, uint64_t *f, uint64_t *m, uint8_t type, const uint8_t *c, size_t cn, uint8_t *q, size_t qn,
-    uint8_t *k, size_t kn);
+uint8_t __real_link_send_saved(LinkSending *s, uint64_t *f, uint64_t *m, uint16_t epoch, uint8_t type, const uint8_t *c,
+    size_t cn, uint8_t *q, size_t qn, uint8_t *k, size_t kn);
+uint8_t __real_link_create_handshake(LinkSending *s, uint64_t *f, uint64_t *m, uint8_t type, const uint8_t *c, size_t cn,
+    uint8_t *q, size_t qn, uint8_t *k, size_t kn);
 
 LinkReading __wrap_link_read(LinkReceiving *s, const uint8_t *d, size_t n);
 LinkReading __wrap_link_mask(LinkReceiving *s, uint8_t m0, uint8_t m1, uint8_t *d, size_t n);
@@ -25,10 +25,10 @@ uint8_t __wrap_link_key_send(LinkSending *s, uint16_t epoch, const uint8_t *iv);
 uint8_t __wrap_link_send(LinkSending *s, uint16_t epoch, uint8_t type, const uint8_t *c, size_t cn, uint8_t *q, size_t qn);
 uint8_t __wrap_link_sealed(LinkSending *s, size_t length, uint8_t m0, uint8_t m1, uint8_t *q, size_t qn);
 LinkTake __wrap_link_take(LinkSending *s, uint8_t *b, size_t bn, const uint8_t *q, size_t qn);
-uint8_t __wrap_link_send_saved(LinkSending *s, uint64_t *f, uint64_t *m, uint16_t epoch, uint8_t type, const uint8_t *c, size_t cn, uint8_t *q,
-    size_t qn, uint8_t *k, size_t kn);
-uint8_t __wrap_link_create_handshake(LinkSending *s, uint64_t *f, uint64_t *m, uint8_t type, const uint8_t *c, size_t cn, uint8_t *q, size_t qn,
-    uint8_t *k, size_t kn);
+uint8_t __wrap_link_send_saved(LinkSending *s, uint64_t *f, uint64_t *m, uint16_t epoch, uint8_t type, const uint8_t *c,
+    size_t cn, uint8_t *q, size_t qn, uint8_t *k, size_t kn);
+uint8_t __wrap_link_create_handshake(LinkSending *s, uint64_t *f, uint64_t *m, uint8_t type, const uint8_t *c, size_t cn,
+    uint8_t *q, size_t qn, uint8_t *k, size_t kn);
 
 static volatile uint8_t sink;
 
@@ -111,8 +111,8 @@ LinkTake __wrap_link_take(LinkSending *s, uint8_t *b, size_t bn, const uint8_t *
     return t;
 }
 
-uint8_t __wrap_link_send_saved(LinkSending *s, uint64_t *f, uint64_t *m, uint16_t epoch, uint8_t type, const uint8_t *c, size_t cn, uint8_t *q,
-    size_t qn, uint8_t *k, size_t kn)
+uint8_t __wrap_link_send_saved(LinkSending *s, uint64_t *f, uint64_t *m, uint16_t epoch, uint8_t type, const uint8_t *c,
+    size_t cn, uint8_t *q, size_t qn, uint8_t *k, size_t kn)
 {
     uint8_t answer = __real_link_send_saved(s, f, m, epoch, type, c, cn, q, qn, k, kn);
     if (answer == 0 && planted(13))
@@ -120,8 +120,8 @@ uint8_t __wrap_link_send_saved(LinkSending *s, uint64_t *f, uint64_t *m, uint16_
     return answer;
 }
 
-uint8_t __wrap_link_create_handshake(LinkSending *s, uint64_t *f, uint64_t *m, uint8_t type, const uint8_t *c, size_t cn, uint8_t *q, size_t qn,
-    uint8_t *k, size_t kn)
+uint8_t __wrap_link_create_handshake(LinkSending *s, uint64_t *f, uint64_t *m, uint8_t type, const uint8_t *c, size_t cn,
+    uint8_t *q, size_t qn, uint8_t *k, size_t kn)
 {
     uint8_t answer = __real_link_create_handshake(s, f, m, type, c, cn, q, qn, k, kn);
     if (answer == 19 && planted(14))

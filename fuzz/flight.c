@@ -91,7 +91,8 @@ static uint64_t length_of(const LinkSending *x, uint64_t datagram)
 static void check_grown(void)
 {
     uint64_t mtu = s->word[W_MTU], count = before.word[W_COUNT];
-    require(s->word[W_FIRST] == before.word[W_FIRST] && count <= s->word[W_COUNT] && s->word[W_COUNT] <= s->word[W_LIMIT], "a queue out of range");
+    require(s->word[W_FIRST] == before.word[W_FIRST], "a send has taken a datagram");
+    require(count <= s->word[W_COUNT] && s->word[W_COUNT] <= s->word[W_LIMIT], "a queue out of range");
     for (uint64_t j = count == 0 ? 0 : count - 1; j < s->word[W_COUNT]; j++) {
         uint64_t slot = (s->word[W_FIRST] + j) % s->word[W_LIMIT], from = j < count ? length_of(&before, j) : 0, to = length_of(s, j);
         if (from == to)

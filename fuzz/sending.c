@@ -72,7 +72,8 @@ void check_queue(size_t at, size_t n)
 {
     require(at <= queue.n && n <= queue.n - at, "a record outside the queue");
     require(memcmp(queue_before, queue.bytes, at) == 0, "bytes of the queue before the record have changed");
-    require(memcmp(queue_before + at + n, queue.bytes + at + n, queue.n - at - n) == 0, "bytes of the queue behind the record have changed");
+    size_t end = at + n;
+    require(memcmp(queue_before + end, queue.bytes + end, queue.n - end) == 0, "bytes of the queue behind the record have changed");
 }
 
 /* ---- calls */
@@ -82,7 +83,8 @@ static void call_fresh(size_t mtu, size_t limit)
     calling(SENDING);
     uint8_t answer = link_sending(s, mtu, limit);
     sending_done(SENDING, 0, answer, 0, 1);
-    require((answer == 0) == (mtu >= 576 && mtu <= 1500 && limit >= 1 && limit <= 16), "a setting in range is refused, or one beyond is taken");
+    int in_range = mtu >= 576 && mtu <= 1500 && limit >= 1 && limit <= 16;
+    require((answer == 0) == in_range, "a setting in range is refused, or one beyond is taken");
     made = answer == 0 && queue.n >= mtu * limit;
 }
 
