@@ -1,0 +1,57 @@
+-- Resends and ACKs of the C interface: each is the call on the state, the flight and the notes that the words stand for. Words that stand
+-- for none are refused by 12, and state, flight and memory stay.
+use mathlib.Core.Bool.{Bool, true, false}
+use mathlib.Core.List.{List}
+use mathlib.Core.Path.{_≡_, refl, sym, ap, _∙_}
+use Prim.Native.Nat.{ℕ}
+use Rattle.base.specs.Choose.{choose, both, if-true, if-false, both-true, both-false}
+use Rattle.outgoing.specs.State as sends
+use Rattle.resend.specs.declared.Resent.{Resent}
+use Rattle.resend.specs.Tests.{refusal}
+use Rattle.process_ack.specs.declared.Acked.{Acked}
+use Rattle.send_words.specs.Words.{stateOf, isFlat}
+use Rattle.send_words.specs.Laws as sent
+use Rattle.flight_words.specs.Words.{flightOf, flatTo}
+use Rattle.flight_words.specs.Laws as flights
+
+-- both words stand for something
+abbrev pub areFlat : List ℕ → List ℕ → Bool
+areFlat w f = both (isFlat w) (flatTo f 12)
+
+-- lent memory: as the call leaves it, or as it was
+abbrev pub either : List ℕ → List ℕ → List ℕ → List ℕ → List ℕ
+either w f x y = choose (areFlat w f) x y
+
+-- w, f, n before; v, g, m behind
+abbrev pub Resends : ℕ → List ℕ → List ℕ → List ℕ → List ℕ → List ℕ → List ℕ → Resent → Type 0
+Resends r v w g f m n k =
+    (r ≡ choose (areFlat w f) (refusal (k .answer)) 12)
+    × (stateOf v ≡ choose (areFlat w f) (k .state) (stateOf w)) × (isFlat v ≡ isFlat w)
+    × (flightOf g m ≡ choose (areFlat w f) (k .flight) (flightOf f n)) × (flatTo g 12 ≡ flatTo f 12)
+
+-- f, n before; g, m behind
+abbrev pub Acts : ℕ → List ℕ → List ℕ → List ℕ → List ℕ → Acked → Type 0
+Acts r g f m n k =
+    (r ≡ choose (flatTo f 12) (sends.refusal (k .answer)) 12)
+    × (flightOf g m ≡ choose (flatTo f 12) (k .flight) (flightOf f n)) × (flatTo g 12 ≡ flatTo f 12)
+
+-- ---- from the parts to the whole
+
+pub resends : (r : ℕ) (v w g f m n : List ℕ) (x k : Resent) → isFlat w ≡ true → flatTo f 12 ≡ true → r ≡ refusal (x .answer)
+    → sent.Kept (x .state) v → flights.Kept (x .flight) g → m ≡ x .flight .numbers → x ≡ k → Resends r v w g f m n k
+resends r v w g f m n x k p q a s t z e =
+    let h : areFlat w f ≡ true = both-true p ∙ q in (
+      a ∙ ap (λ (y : Resent). refusal (y .answer)) e ∙ sym (if-true _ _ h),
+      s .0 ∙ ap (λ (y : Resent). y .state) e ∙ sym (if-true _ _ h),
+      s .1 ∙ sym p,
+      ap (flightOf g) z ∙ t .0 ∙ ap (λ (y : Resent). y .flight) e ∙ sym (if-true _ _ h),
+      t .1 ∙ sym q,
+    )
+
+pub acts : (r : ℕ) (g f m n : List ℕ) (x k : Acked) → flatTo f 12 ≡ true → r ≡ sends.refusal (x .answer)
+    → flights.Kept (x .flight) g → m ≡ x .flight .numbers → x ≡ k → Acts r g f m n k
+acts r g f m n x k q a t z e = (
+  a ∙ ap (λ (y : Acked). sends.refusal (y .answer)) e ∙ sym (if-true _ _ q),
+  ap (flightOf g) z ∙ t .0 ∙ ap (λ (y : Acked). y .flight) e ∙ sym (if-true _ _ q),
+  t .1 ∙ sym q,
+)

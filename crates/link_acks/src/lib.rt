@@ -1,0 +1,94 @@
+// Resends and ACKs as C functions: a static library for hosts. The words of the sending side and of the flight are those of link_sending
+// and link_flight. What is noted for the outgoing ACK is a count and two tables of 32 words.
+ghost use mathlib.Core.Path.{_≡_};
+ghost use lib.ListN.{length};
+ghost use Rattle.outgoing.specs.State as sends;
+ghost use Rattle.resend.specs.Tests.{refusal, resendAnswer};
+ghost use Rattle.resend.specs.Resend.{resendState, resendQueue};
+ghost use Rattle.process_ack.specs.Ack.{acked};
+ghost use Rattle.send_words.specs.Words.{stateOf};
+ghost use Rattle.flight_words.specs.Words.{flightOf};
+ghost use Rattle.link_acks.specs.Calls.{either, Resends, Acts};
+use outgoing::SendAnswer;
+use resend::ResendAnswer;
+
+fn resent_of(a: ResendAnswer) -> u8
+    ensures { λ r. ⌜ r ≡ refusal a ⌝ }
+{
+    match a {
+        ResendAnswer::Done => 0,
+        ResendAnswer::OutOfRange => 12,
+        ResendAnswer::BadEpoch => 13,
+        ResendAnswer::BadRecord => 14,
+        ResendAnswer::KeysAbsent => 17,
+        ResendAnswer::HistoryFull => 22,
+        ResendAnswer::QueueFull => 19,
+        ResendAnswer::NumbersSpent => 20,
+    }
+}
+
+fn answer_of(a: SendAnswer) -> u8
+    ensures { λ r. ⌜ r ≡ sends.refusal a ⌝ }
+{
+    match a {
+        SendAnswer::Done => 0,
+        SendAnswer::OutOfRange => 12,
+        SendAnswer::BadEpoch => 13,
+        SendAnswer::BadRecord => 14,
+        SendAnswer::KeysAbsent => 17,
+        SendAnswer::MessagesSpent => 21,
+        SendAnswer::FlightFull => 18,
+        SendAnswer::QueueFull => 19,
+        SendAnswer::NumbersSpent => 20,
+    }
+}
+
+// Sends the flight again, but for what is acknowledged, wholly or not at all.
+#[no_mangle]
+pub extern "C" fn link_resend(
+    w: &mut [u64; 59],
+    f: &mut [u64; 73],
+    numbers: &mut [u64; 384],
+    kept: &[u8],
+    queue: &mut [u8],
+) -> u8
+    ensures { λ r. ⌜ Resends r (now (w .exit)) (now (w .entry)) (now (f .exit)) (now (f .entry)) (now (numbers .exit)) (now (numbers .entry)) (resendState (resendAnswer (stateOf (now (w .entry))) (flightOf (now (f .entry)) (now (numbers .entry))) (length (now (queue .entry))) (length (now (kept .entry)))) (stateOf (now (w .entry))) (flightOf (now (f .entry)) (now (numbers .entry))) (now (kept .entry)) (now (queue .entry))) ⌝ }
+    ensures { λ r. ⌜ now (queue .exit) ≡ either (now (w .entry)) (now (f .entry)) (resendQueue (resendAnswer (stateOf (now (w .entry))) (flightOf (now (f .entry)) (now (numbers .entry))) (length (now (queue .entry))) (length (now (kept .entry)))) (stateOf (now (w .entry))) (flightOf (now (f .entry)) (now (numbers .entry))) (now (kept .entry)) (now (queue .entry))) (now (queue .entry)) ⌝ }
+{
+    if send_words::is_flat(w) {
+        if flight_words::is_flat(f) {
+            let s = send_words::load(w);
+            let n = *numbers;
+            let g = flight_words::load(f, n);
+            let k = resend::flight_resend(s, g, kept, queue);
+            let a = k.answer;
+            let h = k.flight;
+            send_words::save(w, k.state);
+            flight_words::save(f, h);
+            let m = h.numbers;
+            *numbers = m;
+            return resent_of(a);
+        }
+        return 12;
+    }
+    12
+}
+
+// Acts on an ACK with this content: marks the saved records that it names; the flight empties if those of epoch 2 are all marked.
+#[no_mangle]
+pub extern "C" fn link_process_ack(f: &mut [u64; 73], numbers: &mut [u64; 384], content: &[u8]) -> u8
+    ensures { λ r. ⌜ Acts r (now (f .exit)) (now (f .entry)) (now (numbers .exit)) (now (numbers .entry)) (acked (flightOf (now (f .entry)) (now (numbers .entry))) (now (content .entry))) ⌝ }
+{
+    if flight_words::is_flat(f) {
+        let n = *numbers;
+        let g = flight_words::load(f, n);
+        let k = process_ack::process_ack(g, content);
+        let a = k.answer;
+        let h = k.flight;
+        flight_words::save(f, h);
+        let m = h.numbers;
+        *numbers = m;
+        return answer_of(a);
+    }
+    12
+}
