@@ -1,0 +1,6 @@
+pub mod Account
+pub mod Receiver
+pub mod Claim
+pub mod Half
+pub mod Lists
+pub mod Table
