@@ -4,3 +4,4 @@ pub mod Claim
 pub mod Half
 pub mod Lists
 pub mod Table
+pub mod Cut
