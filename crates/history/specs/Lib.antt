@@ -5,3 +5,4 @@ pub mod Half
 pub mod Lists
 pub mod Table
 pub mod Cut
+pub mod Sound
