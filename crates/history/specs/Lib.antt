@@ -6,3 +6,5 @@ pub mod Lists
 pub mod Table
 pub mod Cut
 pub mod Sound
+pub mod Reads
+pub mod Opening
