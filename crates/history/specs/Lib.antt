@@ -8,3 +8,4 @@ pub mod Cut
 pub mod Sound
 pub mod Reads
 pub mod Opening
+pub mod Reading
