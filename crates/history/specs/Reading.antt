@@ -41,7 +41,9 @@ use Rattle.recv_keys.specs.Keys.{entryAt, find, resolve, wasFound, isKeyed, mar
 use Rattle.recv_keys.specs.Laws.{found-keyed}
 use Rattle.recv_keys.specs.declared.Found.the-variants as found
 use Rattle.recv_keys.specs.declared.Found.{Found}
+use Rattle.recv_keys.specs.declared.RecvEpochEntry.{RecvEpochEntry}
 use Rattle.recv_keys.specs.declared.RecvKeys.{RecvKeys}
+use Rattle.window.specs.Window.{width, isFresh}
 use Rattle.history.specs.Account.{upd, Shown, nothing, aMask, anOpening, Account, resolvesTo, recordSize, goodPlain}
 use Rattle.history.specs.Claim.{Real, Proper, RightNonce}
 use Rattle.history.specs.Cut.{cut}
@@ -134,6 +136,25 @@ pub is-found : {C : Type 0} (k : RecvKeys) (x : ℕ) (f : Found) → find (k .en
 unfolding isKeyed wasFound
 is-found k x (found.At j) q t g = g j refl
 is-found k x found.Nothing q t g = absurd (false≢true (ap wasFound (sym q) ∙ t))
+
+-- a mask reply asks no mask
+judged-next : (e : RecvEpochEntry) (b : Datagram) (a : Ask) (n x s : ℕ) → judged e b a n .reading ≡ says.Mask x s → ⊥
+unfolding judged openingAsked
+judged-next e b a n x s =
+    by-test (λ (t : Step). t .reading ≡ says.Mask x s → ⊥) (λ u g. let z : _≡_ {A = ℕ} 0 1 = cc in omega arith)
+    (λ u. by-test (λ (t : Step). t .reading ≡ says.Mask x s → ⊥) (λ v g. let z : _≡_ {A = ℕ} 0 1 = cc in omega arith)
+    (λ v g. let z : _≡_ {A = ℕ} 0 1 = cc in omega arith))
+
+masked-next : (j x s : ℕ) (k : RecvKeys) (b : Datagram) (a : Ask) (m d : List ℕ) → maskedBy (found.At j) k b a m d .0 .reading ≡ says.Mask x s → ⊥
+unfolding maskedBy maskedAt
+masked-next j x s k b a m d = judged-next (entryAt k j) b a _ x s
+
+-- a refused reply uses nothing
+pub use-down : (w : Shown) (p : Opening) → useOf w p turnedDown ≡ unused
+use-down w reply.No = refl
+use-down nothing (reply.Yes l) = refl
+use-down (aMask e q) (reply.Yes l) = refl
+use-down (anOpening e n at head body) (reply.Yes l) = refl
 
 module _ (y : Receiver) (i : Sound y) where
   abbrev k : RecvKeys
@@ -233,3 +254,167 @@ module _ (y : Receiver) (i : Sound y) where
   pub read-sound : (sealed : ℕ → List Sealed) → Sound (afterRead y sealed)
   unfolding afterRead
   read-sound sealed = reads sealed (b .question) refl (i .under)
+
+  -- ---- a mask reply
+
+  abbrev masksTo : Step × List ℕ → Out
+  masksTo p = outBy k (p .0) (p .1)
+
+  mask-down : (m : List ℕ) → maskStep k b m d ≡ (told b says.Reply, d) → Proper aMaskReply (y .account .waits) says.Reply
+      → Sound (maskBy y (maskOut (y .state) m d))
+  mask-down m e p = subst (λ x. Sound (maskBy y (masksTo x))) (sym e) (down-sound y i (y .trial) nothing aMaskReply p)
+
+  module _ (m : List ℕ) (a : Ask) (q : b .question ≡ question.Mask a) where
+    masked-is : maskStep k b m d ≡ maskedBy (find (k .entries) (a .epoch) (k .count)) k b a m d
+    unfolding masking
+    masked-is = mask-asks k b m d (question.Mask a) in-range (i .whole) q
+
+    pub masked-quiet : (to : Option ℕ) (end : ℕ) (good on : Bool) → to ≡ some (a .epoch) → end ≡ endAsked b a
+        → Quiet k (y .account .ivs) b d to end good on (maskOut (y .state) m d)
+    masked-quiet to end good on z e =
+        subst (λ x. Quiet k (y .account .ivs) b d to end good on (masksTo x)) (sym masked-is)
+        (mask-quiet k (y .used) (y .account .ivs) (i .table) b d (i .made .ready) (i .whole) to end good on a m (held-mask k b in-range a q) z e _ refl)
+
+    -- no mask is asked again
+    no-mask : (x s : ℕ) → maskOut (y .state) m d .reading ≡ says.Mask x s → ⊥
+    no-mask x s =
+        subst (λ p. p .0 .reading ≡ says.Mask x s → ⊥) (sym masked-is)
+        (is-found k (a .epoch) _ refl (held-mask k b in-range a q .installed) λ j f.
+        subst (λ g. maskedBy g k b a m d .0 .reading ≡ says.Mask x s → ⊥) (sym f) (masked-next j x s k b a m d))
+
+    mask-on : UnderWay (question.Mask a) (b .at) (y .account .waits) (y .trial) → Sound (maskBy y (maskOut (y .state) m d))
+    mask-on z =
+        let t = z .0 in
+        let c = masked-quiet (t .resolved) (t .ends) (t .plain) (t .encrypted) (z .2 .1) (z .2 .2) in
+        let o = maskOut (y .state) m d in
+        subst (λ v. Sound (after y o v unused (questionIn (o .reading) (o .datagram)) aMaskReply)) (sym (z .1))
+        (step-sound y i o t unused aMaskReply (c .moves) same-keys (after-made (answering m d) (y .state) (i .made)) (i .table) (c .asked)
+        (subst (λ f. Hands (y .used) f) (sym (c .hands (shownBy (o .reading) (o .datagram)) (y .handed))) (i .hands))
+        (subst (λ w. Proper aMaskReply w (o .reading)) (sym (z .2 .0)) (moves-on (c .moves), no-mask)) (c .nonce) (c .real))
+
+  masks : (m : List ℕ) (q : Question) → b .question ≡ q → UnderWay q (b .at) (y .account .waits) (y .trial) → Sound (maskBy y (maskOut (y .state) m d))
+  masks m question.Nothing q z =
+      mask-down m (unfold masking in (mask-asks k b m d question.Nothing in-range (i .whole) q))
+      (subst (λ w. Proper aMaskReply w says.Reply) (sym (z .0)) refl)
+  masks m (question.Mask a) q z = mask-on m a q z
+  masks m (question.Opening a n) q z =
+      mask-down m (unfold masking in (mask-asks k b m d (question.Opening a n) in-range (i .whole) q))
+      (subst (λ w. Proper aMaskReply w says.Reply) (sym (z .2 .2)) refl)
+
+  pub mask-sound : (m : List ℕ) → Sound (afterMask y m)
+  unfolding afterMask
+  mask-sound m = masks m (b .question) refl (i .under)
+
+  -- ---- an opening reply
+
+  abbrev opensTo : Marked → Out
+  opensTo x = outBy (x .keys) (x .step) d
+
+  open-down : (p : Opening) → openedStep k b p d ≡ still k (told b says.Reply) → Proper (anOpenReply p) (y .account .waits) says.Reply
+      → Sound (openBy y p (openOut (y .state) p d))
+  open-down p e x =
+      subst (λ m. Sound (openBy y p (opensTo m))) (sym e)
+      (subst (λ u. Sound (after y (refusal y) (y .trial) u nothing (anOpenReply p))) (sym (use-down (y .account .waits) p))
+      (down-sound y i (y .trial) nothing (anOpenReply p) x))
+
+  module _ (a : Ask) (n : ℕ) (q : b .question ≡ question.Opening a n) (z : UnderWay (question.Opening a n) (b .at) (y .account .waits) (y .trial)) where
+    abbrev t : Trial
+    t = z .0
+
+    waits-is : y .account .waits ≡ anOpening (a .epoch) n (b .at) (z .2 .0) (z .2 .1)
+    waits-is = z .2 .2
+
+    held : Held k a (b .size - b .at)
+    held = held-open k b in-range a n q .1
+
+    pub opened-is : (p : Opening) (j : ℕ) → find (k .entries) (a .epoch) (k .count) ≡ found.At j → openedStep k b p d ≡ openedAt j p k b a n d
+    unfolding openings openedBy
+    opened-is p j f =
+        opened-asks k b p d (question.Opening a n) in-range (i .whole) q ∙ ap (λ (g : Found). openedBy g p k b a n d) f
+
+    opened-made : (p : Opening) (m : Marked) → openedStep k b p d ≡ m → Made (opensTo m .state)
+    opened-made p m e = subst (λ x. Made (opensTo x .state)) e (after-made (opening p d) (y .state) (i .made))
+
+    open-no : (j : ℕ) → find (k .entries) (a .epoch) (k .count) ≡ found.At j → Sound (openBy y reply.No (openOut (y .state) reply.No d))
+    unfolding openedAt
+    open-no j f =
+        let e = opened-is reply.No j f in
+        let m : Marked = still k (passed b (endAsked b a) reason.NotOpened) in
+        let c = passed-quiet k (y .used) (y .account .ivs) (i .table) b d (i .made .ready) (i .whole) (t .resolved) (t .ends) (t .plain) (t .encrypted) d refl
+            (endAsked b a) reason.NotOpened (z .2 .6) in
+        subst (λ x. Sound (openBy y reply.No (opensTo x))) (sym e)
+        (subst (λ v. Sound (after y (opensTo m) v unused nothing (anOpenReply reply.No))) (sym (z .1))
+        (step-sound y i (opensTo m) t unused (anOpenReply reply.No) (c .moves) same-keys (opened-made reply.No m e) (i .table) tt (i .hands)
+        (subst (λ w. Proper (anOpenReply reply.No) w (says.Dropped reason.NotOpened)) (sym waits-is) refl) tt tt))
+
+    module _ (len j : ℕ) (f : find (k .entries) (a .epoch) (k .count) ≡ found.At j) where
+      abbrev o : Out
+      o = outBy (marked k j n) (typed b a n (innerOf (part (b .at + a .«header_len») len d))) d
+
+      abbrev m : Marked
+      m = still (marked k j n) (typed b a n (innerOf (part (b .at + a .«header_len») len d)))
+
+      abbrev used-by : Use
+      used-by = useOf (y .account .waits) (reply.Yes len) (fateOf (o .reading))
+
+      settles : Settles (marked k j n) (y .account .ivs) b d (t .resolved) (t .ends) o
+      settles = typed-settles (marked k j n) (y .account .ivs) b a n d (i .whole) (t .resolved) (t .ends) (z .2 .6) _
+
+      uses-it : used-by ≡ uses (a .epoch) n
+      uses-it =
+          ap (λ (w : Shown). useOf w (reply.Yes len) (fateOf (o .reading))) waits-is ∙ ap (λ (g : Fate). useBy g (uses (a .epoch) n)) (settles .fate)
+
+      fresh-one : FreshAsked k (question.Opening a n)
+      fresh-one = subst (FreshAsked k) q (i .asked)
+
+      same-place : fresh-one .0 ≡ j
+      same-place = let g = fresh-one .1 in let e : found.At (fresh-one .0) ≡ found.At j = sym g ∙ f in cc
+
+      yes-sound : openedStep k b (reply.Yes len) d ≡ m → len + 16 ≡ a .length → Sound (openBy y (reply.Yes len) (openOut (y .state) (reply.Yes len) d))
+      yes-sound e right =
+          let long = i .made .long in
+          let count = i .made .ready .keys .count in
+          let fresh = subst (λ (x : ℕ). isFresh width (entryAt k x .replay) n ≡ true) same-place (fresh-one .2) in
+          let new = yes-new k (y .used) (y .account .ivs) (i .table) (a .epoch) j n long count f fresh in
+          subst (λ x. Sound (openBy y (reply.Yes len) (opensTo x))) (sym e)
+          (subst (λ v. Sound (after y o v used-by (questionIn (o .reading) (o .datagram)) (anOpenReply (reply.Yes len)))) (sym (z .1))
+          (step-sound y i o t used-by (anOpenReply (reply.Yes len)) (settles .moves)
+          (yes-keys k (y .used) (y .account .ivs) (i .table) (a .epoch) j n long count f) (opened-made (reply.Yes len) m e)
+          (subst (λ u. Table (marked k j n) (spent u (y .used)) (y .account .ivs)) (sym uses-it)
+          (yes-table k (y .used) (y .account .ivs) (i .table) (a .epoch) j n long count f))
+          (settles .asked)
+          (subst (λ u. Hands (spent u (y .used)) (handedBy (o .reading) (shownBy (o .reading) (o .datagram)) (y .handed))) (sym uses-it)
+          (typed-hands (marked k j n) (y .account .ivs) b a n d (i .whole) (t .resolved) (t .ends) (z .2 .6) (y .used) (y .handed) (i .hands) new _))
+          (subst (λ w. Proper (anOpenReply (reply.Yes len)) w (o .reading)) (sym waits-is)
+          (λ r. settles .fate, λ wrong. absurd (wrong (right ∙ sym (z .2 .4)))))
+          (settles .nonce) (settles .real (t .plain) (t .encrypted))))
+
+      open-yes : Sound (openBy y (reply.Yes len) (openOut (y .state) (reply.Yes len) d))
+      unfolding openedAt
+      open-yes =
+          let e = opened-is (reply.Yes len) j f in
+          test-cases (eqb len (a .length - 16))
+          (λ u. let r : len ≡ a .length - 16 = eqb-true _ _ u in yes-sound (e ∙ if-true _ _ u) (omega (arith, held .tag)))
+          (λ u.
+          let ne = eqb-false len (a .length - 16) u in
+          open-down (reply.Yes len) (e ∙ if-false _ _ u)
+          (subst (λ w. Proper (anOpenReply (reply.Yes len)) w says.Reply) (sym waits-is)
+          (λ r. absurd (ne (omega (arith, z .2 .4))), λ w. refl)))
+
+    opens-by : (p : Opening) (j : ℕ) → find (k .entries) (a .epoch) (k .count) ≡ found.At j → Sound (openBy y p (openOut (y .state) p d))
+    opens-by reply.No j f = open-no j f
+    opens-by (reply.Yes len) j f = open-yes len j f
+
+  opens : (p : Opening) (q : Question) → b .question ≡ q → UnderWay q (b .at) (y .account .waits) (y .trial) → Sound (openBy y p (openOut (y .state) p d))
+  opens p question.Nothing q z =
+      open-down p (unfold openings in (opened-asks k b p d question.Nothing in-range (i .whole) q))
+      (subst (λ w. Proper (anOpenReply p) w says.Reply) (sym (z .0)) refl)
+  opens p (question.Mask a) q z =
+      open-down p (unfold openings in (opened-asks k b p d (question.Mask a) in-range (i .whole) q))
+      (subst (λ w. Proper (anOpenReply p) w says.Reply) (sym (z .2 .0)) refl)
+  opens p (question.Opening a n) q z =
+      is-found k (a .epoch) _ refl (held-open k b in-range a n q .1 .installed) (λ j f. opens-by a n q z p j f)
+
+  pub open-sound : (p : Opening) → Sound (afterOpen y p)
+  unfolding afterOpen
+  open-sound p = opens p (b .question) refl (i .under)
