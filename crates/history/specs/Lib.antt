@@ -9,3 +9,4 @@ pub mod Sound
 pub mod Reads
 pub mod Opening
 pub mod Reading
+pub mod Calls

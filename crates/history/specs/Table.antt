@@ -266,10 +266,10 @@ module _ (k : RecvKeys) (used ivs : ℕ → List ℕ) (t : Table k used ivs) (i 
       left-list (k .count - 1) (omega arith) (omega arith) ∙ ap (λ (n : ℕ). without (entryAt k i .epoch) (epochsIn (k .entries) n)) more
 
   -- where an entry of the new table stood
-  abbrev was : ℕ → ℕ
+  abbrev pub was : ℕ → ℕ
   was j = choose (ltb j i) j (j + 1)
 
-  stood : (j : ℕ) → j < k .count - 1 → (was j < k .count) × (entryAt (left k i) j ≡ entryAt k (was j))
+  pub stood : (j : ℕ) → j < k .count - 1 → (was j < k .count) × (entryAt (left k i) j ≡ entryAt k (was j))
   stood j h =
       by-test (λ (n : ℕ). (n < k .count) × (entryAt (left k i) j ≡ entryAt k n))
       (λ e. (omega arith, left-front k i count within j (ltb-true j i e)))
@@ -310,7 +310,7 @@ module _ (k : RecvKeys) (used ivs : ℕ → List ℕ) (t : Table k used ivs) (i 
   more = upd used (entryAt k i .epoch) (n ∷ used (entryAt k i .epoch))
 
   -- two places of one epoch are one
-  one-place : (j : ℕ) → j < k .count → entryAt k j .epoch ≡ entryAt k i .epoch → j ≡ i
+  pub one-place : (j : ℕ) → j < k .count → entryAt k j .epoch ≡ entryAt k i .epoch → j ≡ i
   one-place j h q =
       ⊎-elim (λ l. absurd (omega (arith, t .rising j i l within)))
       (λ l. ⊎-elim (λ u. absurd (omega (arith, t .rising i j u h))) (λ u. omega arith) (lt-or-ge i j)) (lt-or-ge j i)
