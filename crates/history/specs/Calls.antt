@@ -57,7 +57,15 @@ use Rattle.history.specs.Receiver.{
   newInbound,
 }
 use Rattle.history.specs.Sound.{Tally, Asked, UnderWay, FreshAsked, Hands, Sound}
-use Rattle.history.specs.Table.{epochsIn, keyedIn, find-in, Table, full-same, keyed-installed, installed-table, keyed-left, left-table, one-place, stood}
+use Rattle.history.specs.Table.{epochsIn, keyedIn, find-in, Table, full-same, keyed-installed, installed-table, keyed-left, left-table, one-place, was, stood}
+
+-- what such a call leaves of the record under way: all, or nothing
+pub data Leaves (y : Receiver) : Receiver → Type 0 where
+  as-was : (s : Receiving) (a : Account) → s .datagram ≡ y .state .datagram → a .waits ≡ y .account .waits → Leaves y (withState y s a)
+  no-more : (z : Receiver) → z .trial ≡ none → z .handed ≡ y .handed → z .tried ≡ y .tried → Leaves y z
+
+abbrev pub Fine : Receiver → Receiver → Type 0
+Fine y z = Sound z × Leaves y z
 
 -- the fresh number under an opening question, in a table that keeps its window
 pub fresh-keeps : (k l : RecvKeys) → ((x j : ℕ) → find (k .entries) x (k .count) ≡ found.At j
@@ -164,3 +172,153 @@ module _ (y : Receiver) (i : Sound y) where
       where
         state : {x z : Kept} → x ≡ z → x .state ≡ z .state
         state p = ap (λ (r : Kept). r .state) p
+
+    key-datagram : keyOf (y .state) e iv .state .datagram ≡ b
+    unfolding keyOf
+    key-datagram =
+        by-test (λ (r : Kept). r .state .datagram ≡ b)
+        (λ t. by-test (λ (r : Kept). r .state .datagram ≡ b) (λ u. refl)
+        (λ u. by-test (λ (r : Kept). r .state .datagram ≡ b) (λ v. refl) (λ v. by-test (λ (r : Kept). r .state .datagram ≡ b) (λ x. refl) (λ x. refl))))
+        (λ t. refl)
+
+    key-waits : keys (y .account) e iv .waits ≡ y .account .waits
+    unfolding keys
+    key-waits = by-test (λ (r : Account). r .waits ≡ y .account .waits) (λ t. refl) (λ t. refl)
+
+    pub key-fine : Fine y (withState y (keyOf (y .state) e iv .state) (keys (y .account) e iv))
+    key-fine = (key-sound, as-was _ _ key-datagram key-waits)
+
+  -- ---- peer encryption and release
+
+  abbrev flags : Bool → Bool → RecvKeys
+  flags on out = record {
+    entries = k .entries;
+    count = k .count;
+    highest = k .highest;
+    «peer_encryption» = on;
+    released = out;
+    «min_protected» = k .«min_protected»;
+  }
+
+  flags-fine : (on out on′ out′ : Bool) (s : Receiving) → s ≡ record { keys = flags on out; datagram = b } → Made s → on′ ≡ on → out′ ≡ out
+      → Fine y (withState y s (flagged (y .account) on′ out′))
+  flags-fine on out on′ out′ s e m p q = (
+    subst (λ x. Sound (withState y x (flagged (y .account) on′ out′))) (sym e) (record {
+      made = subst Made e m;
+      table = record {
+        agrees = i .table .agrees;
+        iv = i .table .iv;
+        rising = i .table .rising;
+        lowest = i .table .lowest;
+        below = i .table .below;
+        early = i .table .early;
+      };
+      asked = fresh-keeps k (flags on out) (λ x j f. (j, f, refl)) (b .question) (i .asked);
+      hands = i .hands;
+      tally = record {
+        keyed = i .tally .keyed;
+        highest = i .tally .highest;
+        encryption = p;
+        released = q;
+        place = i .tally .place;
+        readings = i .tally .readings;
+      };
+      whole = i .whole;
+      under = i .under;
+      proper = i .proper;
+      nonces = i .nonces;
+      lost = i .lost;
+      real = i .real;
+    }),
+    as-was s _ (ap (λ (x : Receiving). x .datagram) e) refl,
+  )
+
+  pub encrypt-fine : Fine y (withState y (encryptOf (y .state) .state) (flagged (y .account) true (y .account .released)))
+  encrypt-fine =
+      flags-fine true (k .released) true (y .account .released) (encryptOf (y .state) .state)
+      (unfold encryptOf in (ap (λ (r : Kept). r .state) (if-true _ _ in-range))) (after-made encrypting (y .state) (i .made)) refl (i .tally .released)
+
+  pub release-fine : Fine y (withState y (releaseOf (y .state) .state) (flagged (y .account) (y .account .encryption) true))
+  release-fine =
+      flags-fine (k .«peer_encryption») true (y .account .encryption) true (releaseOf (y .state) .state)
+      (unfold releaseOf in (ap (λ (r : Kept). r .state) (if-true _ _ in-range))) (after-made releasing (y .state) (i .made)) (i .tally .encryption) refl
+
+  -- ---- beginning a datagram
+
+  begin-long : (d : List ℕ) → ltb 16384 (length d) ≡ true → beginOf (y .state) (length d) .state ≡ y .state
+  unfolding beginOf
+  begin-long d t = ap (λ (r : Kept). r .state) (if-true _ _ in-range ∙ if-true _ _ t)
+
+  begin-is : (d : List ℕ) → ltb 16384 (length d) ≡ false → beginOf (y .state) (length d) .state ≡ record { keys = k; datagram = started (length d) }
+  unfolding beginOf
+  begin-is d t = ap (λ (r : Kept). r .state) (if-true _ _ in-range ∙ if-false _ _ t)
+
+  starts-sound : (s : Receiving) (d : List ℕ) → s ≡ record { keys = k; datagram = started (length d) } → Made s → Sound (startsOn y s d)
+  starts-sound s d e m = subst (λ x. Sound (startsOn y x d)) (sym e) (record {
+    made = subst Made e m;
+    table = i .table;
+    asked = tt;
+    hands = i .hands;
+    tally = record {
+      keyed = i .tally .keyed;
+      highest = i .tally .highest;
+      encryption = i .tally .encryption;
+      released = i .tally .released;
+      place = refl;
+      readings = refl;
+    };
+    whole = refl;
+    under = (refl, refl);
+    proper = i .proper;
+    nonces = i .nonces;
+    lost = i .lost;
+    real = i .real;
+  })
+
+  pub begin-fine : (d : List ℕ) → Fine y (begun y d)
+  unfolding begun
+  begin-fine d =
+      by-test (Fine y)
+      (λ t. (same-sound _ _ (begin-long d t) refl, as-was _ _ (ap (λ (x : Receiving). x .datagram) (begin-long d t)) refl))
+      (λ t. (starts-sound _ d (begin-is d t) (after-made (beginning (length d)) (y .state) (i .made)), no-more _ refl refl refl))
+
+  -- ---- removing
+
+  module _ (e j : ℕ) (f : find (k .entries) e (k .count) ≡ found.At j) where
+    count : k .count ≤ 5
+    count = i .made .ready .keys .count
+
+    within : j < k .count
+    within = found-keyed (k .entries) e (k .count) j f
+
+    is-e : entryAt k j .epoch ≡ e
+    is-e = found-epoch (k .entries) e (k .count) j f
+
+    keyed-on : without e (y .account .keyed) ≡ keyedIn (left k j)
+    keyed-on =
+        ap (without e) (i .tally .keyed) ∙ ap (λ (x : ℕ). without x (keyedIn k)) (sym is-e)
+        ∙ sym (keyed-left k (y .used) (y .account .ivs) (i .table) j count within)
+
+    -- the other epochs are found with their windows
+    find-left : (x h : ℕ) → (x ≡ e → ⊥) → find (k .entries) x (k .count) ≡ found.At h
+        → (m : ℕ) × (find (left k j .entries) x (left k j .count) ≡ found.At m) × (entryAt (left k j) m ≡ entryAt k h)
+    find-left x h ne g =
+        is-found (left k j) x _ refl
+        (left-keyed k j count within x (λ z. ne (sym z ∙ is-e)) (unfold isKeyed wasFound in (ap wasFound g)))
+        (λ m q.
+        let s = stood k (y .used) (y .account .ivs) (i .table) j count within m (less m (found-keyed (left k j .entries) x (left k j .count) m q)) in
+        let was-x : entryAt k (was j m) .epoch ≡ entryAt k h .epoch =
+        ap (λ (r : RecvEpochEntry). r .epoch) (sym (s .1)) ∙ found-epoch (left k j .entries) x (left k j .count) m q
+        ∙ sym (found-epoch (k .entries) x (k .count) h g) in
+        (m, q, s .1 ∙ ap (entryAt k)
+        (one-place k (y .used) (y .account .ivs) (i .table) h 0 (i .made .long) count (found-keyed (k .entries) x (k .count) h g) (was j m) (s .0) was-x)))
+      where
+        less : (m : ℕ) → m < left k j .count → m < k .count - 1
+        less m h = unfold left in h
+
+    fresh-left : (q : Question) → FreshAsked k q → ((a : Ask) (n : ℕ) → q ≡ question.Opening a n → a .epoch ≡ e → ⊥) → FreshAsked (left k j) q
+    fresh-left question.Nothing a ne = tt
+    fresh-left (question.Mask x) a ne = tt
+    fresh-left (question.Opening x n) a ne =
+        let g = find-left (x .epoch) (a .0) (ne x n refl) (a .1) in
+        (g .0, g .1, subst (λ (r : RecvEpochEntry). isFresh width (r .replay) n ≡ true) (sym (g .2)) (a .2))

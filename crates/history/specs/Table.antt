@@ -230,6 +230,10 @@ module _ (k : RecvKeys) (used ivs : ℕ → List ℕ) (t : Table k used ivs) whe
 
 -- ---- removing
 
+-- where the entry stood that comes to j when the one at i goes
+abbrev pub was : ℕ → ℕ → ℕ
+was i j = choose (ltb j i) j (j + 1)
+
 without-none : (x : ℕ) (l : List RecvEpochEntry) (n : ℕ) → ((j : ℕ) → j < n → getD l j noEntry .epoch ≡ x → ⊥)
     → without x (epochsIn l n) ≡ epochsIn l n
 without-none x l zero ne = refl
@@ -265,11 +269,7 @@ module _ (k : RecvKeys) (used ivs : ℕ → List ℕ) (t : Table k used ivs) (i 
       let more : suc (k .count - 1) ≡ k .count = omega arith in
       left-list (k .count - 1) (omega arith) (omega arith) ∙ ap (λ (n : ℕ). without (entryAt k i .epoch) (epochsIn (k .entries) n)) more
 
-  -- where an entry of the new table stood
-  abbrev pub was : ℕ → ℕ
-  was j = choose (ltb j i) j (j + 1)
-
-  pub stood : (j : ℕ) → j < k .count - 1 → (was j < k .count) × (entryAt (left k i) j ≡ entryAt k (was j))
+  pub stood : (j : ℕ) → j < k .count - 1 → (was i j < k .count) × (entryAt (left k i) j ≡ entryAt k (was i j))
   stood j h =
       by-test (λ (n : ℕ). (n < k .count) × (entryAt (left k i) j ≡ entryAt k n))
       (λ e. (omega arith, left-front k i count within j (ltb-true j i e)))
@@ -277,24 +277,24 @@ module _ (k : RecvKeys) (used ivs : ℕ → List ℕ) (t : Table k used ivs) (i 
       let high = ltb-false j i e in
       (omega arith, ap (entryAt (left k i)) (sym back) ∙ left-behind k i count within (j + 1) (omega arith) (omega arith)))
 
-  was-up : (j m : ℕ) → j < m → was j < was m
+  was-up : (j m : ℕ) → j < m → was i j < was i m
   was-up j m h =
-      by-test (λ (x : ℕ). x < was m)
+      by-test (λ (x : ℕ). x < was i m)
       (λ e. by-test (λ (y : ℕ). j < y) (λ f. h) (λ f. omega arith))
       (λ e. by-test (λ (y : ℕ). j + 1 < y) (λ f. absurd (omega (arith, ltb-true m i f, ltb-false j i e))) (λ f. omega arith))
 
   pub left-table : Table (left k i) used ivs
   unfolding left
   left-table = record {
-    agrees = λ j h. let w = stood j h in subst (λ (x : RecvEpochEntry). Agrees width (x .replay) (used (x .epoch))) (sym (w .1)) (t .agrees (was j) (w .0));
-    iv = λ j h. let w = stood j h in subst (λ (x : RecvEpochEntry). x .iv ≡ ivs (x .epoch)) (sym (w .1)) (t .iv (was j) (w .0));
+    agrees = λ j h. let w = stood j h in subst (λ (x : RecvEpochEntry). Agrees width (x .replay) (used (x .epoch))) (sym (w .1)) (t .agrees (was i j) (w .0));
+    iv = λ j h. let w = stood j h in subst (λ (x : RecvEpochEntry). x .iv ≡ ivs (x .epoch)) (sym (w .1)) (t .iv (was i j) (w .0));
     rising = λ j m up h.
         let v = stood j (omega arith) in
         let w = stood m h in
         subst (λ (x : RecvEpochEntry). x .epoch < entryAt (left k i) m .epoch) (sym (v .1))
-        (subst (λ (x : RecvEpochEntry). entryAt k (was j) .epoch < x .epoch) (sym (w .1)) (t .rising (was j) (was m) (was-up j m up) (w .0)));
-    lowest = λ j h. let w = stood j h in subst (λ (x : RecvEpochEntry). 2 ≤ x .epoch) (sym (w .1)) (t .lowest (was j) (w .0));
-    below = λ j h. let w = stood j h in subst (λ (x : RecvEpochEntry). x .epoch ≤ k .highest) (sym (w .1)) (t .below (was j) (w .0));
+        (subst (λ (x : RecvEpochEntry). entryAt k (was i j) .epoch < x .epoch) (sym (w .1)) (t .rising (was i j) (was i m) (was-up j m up) (w .0)));
+    lowest = λ j h. let w = stood j h in subst (λ (x : RecvEpochEntry). 2 ≤ x .epoch) (sym (w .1)) (t .lowest (was i j) (w .0));
+    below = λ j h. let w = stood j h in subst (λ (x : RecvEpochEntry). x .epoch ≤ k .highest) (sym (w .1)) (t .below (was i j) (w .0));
     early = t .early;
   }
 
