@@ -322,3 +322,174 @@ module _ (y : Receiver) (i : Sound y) where
     fresh-left (question.Opening x n) a ne =
         let g = find-left (x .epoch) (a .0) (ne x n refl) (a .1) in
         (g .0, g .1, subst (λ (r : RecvEpochEntry). isFresh width (r .replay) n ≡ true) (sym (g .2)) (a .2))
+
+    -- another epoch's removal: the question stays
+    stays : (s : Receiving) → s ≡ record { keys = left k j; datagram = b } → Made s → FreshAsked (left k j) (b .question)
+        → Fine y (withState y s (unkeyed (y .account) e))
+    stays s is m a = (
+      subst (λ x. Sound (withState y x (unkeyed (y .account) e))) (sym is) (record {
+        made = subst Made is m;
+        table = left-table k (y .used) (y .account .ivs) (i .table) j count within;
+        asked = a;
+        hands = i .hands;
+        tally = record {
+          keyed = keyed-on;
+          highest = unfold left in (i .tally .highest);
+          encryption = unfold left in (i .tally .encryption);
+          released = unfold left in (i .tally .released);
+          place = i .tally .place;
+          readings = i .tally .readings;
+        };
+        whole = i .whole;
+        under = i .under;
+        proper = i .proper;
+        nonces = i .nonces;
+        lost = i .lost;
+        real = i .real;
+      }),
+      as-was s _ (ap (λ (x : Receiving). x .datagram) is) refl,
+    )
+
+    -- the question's epoch is removed: the cut goes on behind its record
+    passes : (s : Receiving) (a : Ask) (t : Trial) → s ≡ record { keys = left k j; datagram = moved b (endAsked b a) (b .readings) } → Made s
+        → t .ends ≡ endAsked b a → t .resolved ≡ some e → Fine y (loses y s e t)
+    passes s a t is m ends to = (
+      subst (λ x. Sound (loses y x e t)) (sym is) (record {
+        made = subst Made is m;
+        table = left-table k (y .used) (y .account .ivs) (i .table) j count within;
+        asked = tt;
+        hands = i .hands;
+        tally = record {
+          keyed = keyed-on;
+          highest = unfold left in (i .tally .highest);
+          encryption = unfold left in (i .tally .encryption);
+          released = unfold left in (i .tally .released);
+          place = ends;
+          readings = i .tally .readings;
+        };
+        whole = i .whole;
+        under = (refl, refl);
+        proper = i .proper;
+        nonces = i .nonces;
+        lost = λ l o. mem-by o (λ (p : l ≡ record { trial = t; epoch = e }). subst (λ x. x .trial .resolved ≡ some (x .epoch)) (sym p) to) (λ o′. i .lost l o′);
+        real = i .real;
+      }),
+      no-more _ refl refl refl,
+    )
+
+    -- the state behind it
+    leaves-state : (q : Question) → b .question ≡ q → removeOf (y .state) e .state ≡ record { keys = left k j; datagram = cancelled q b e .datagram }
+    unfolding leaving
+    leaves-state q w =
+        ap (λ (r : Kept). r .state) (remove-at (y .state) e j in-range f)
+        ∙ by-test (λ (r : Kept). r .state ≡ record { keys = left k j; datagram = cancelled q b e .datagram })
+        (λ t. ap (λ (x : Question). record { keys = left k j; datagram = cancelled x b e .datagram }) w)
+        (λ t. ap (λ (x : Question). record { keys = left k j; datagram = cancelled x b e .datagram }) w)
+
+    -- a question about a record of the epoch of a
+    asked-removed : (a : Ask) (t : Trial) → y .trial ≡ some t → t .resolved ≡ some (a .epoch) → t .ends ≡ endAsked b a
+        → removeOf (y .state) e .state ≡ record { keys = left k j; datagram = cancelledAsk a b e .datagram }
+        → ((a .epoch ≡ e → ⊥) → FreshAsked (left k j) (b .question)) → Fine y (removedFrom y (removeOf (y .state) e .state) e (y .trial))
+    unfolding removedFrom cancelledAsk
+    asked-removed a t tri to ends is asked =
+        let m = after-made (removing e) (y .state) (i .made) in
+        let keep : Datagram → Receiving = λ x. record { keys = left k j; datagram = x } in
+        subst (λ x. Fine y (removedFrom y (removeOf (y .state) e .state) e x)) (sym tri)
+        (test-cases (eqb (a .epoch) e)
+        (λ u.
+        subst (Fine y) (sym (if-true _ _ (ap (λ (o : Option ℕ). isThe o e) to ∙ u)))
+        (passes _ a t (is ∙ ap (λ (c : Cancelled). keep (c .datagram)) (if-true _ _ u)) m ends (to ∙ ap some (eqb-true _ _ u))))
+        (λ u.
+        subst (Fine y) (sym (if-false _ _ (ap (λ (o : Option ℕ). isThe o e) to ∙ u)))
+        (stays _ (is ∙ ap (λ (c : Cancelled). keep (c .datagram)) (if-false _ _ u)) m (asked (eqb-false _ _ u)))))
+
+    under-removed : (q : Question) → b .question ≡ q → UnderWay q (b .at) (y .account .waits) (y .trial)
+        → Fine y (removedFrom y (removeOf (y .state) e .state) e (y .trial))
+    unfolding cancelled
+    under-removed question.Nothing q z =
+        subst (λ x. Fine y (removedFrom y (removeOf (y .state) e .state) e x)) (sym (z .1))
+        (unfold removedFrom in
+        (stays _ (leaves-state question.Nothing q) (after-made (removing e) (y .state) (i .made)) (subst (FreshAsked (left k j)) (sym q) tt)))
+    under-removed (question.Mask a) q z =
+        asked-removed a (z .0) (z .1) (z .2 .1) (z .2 .2) (leaves-state (question.Mask a) q) (λ ne. subst (FreshAsked (left k j)) (sym q) tt)
+    under-removed (question.Opening a n) q z =
+        asked-removed a (z .0) (z .1) (z .2 .5) (z .2 .6) (leaves-state (question.Opening a n) q)
+        (λ ne.
+        fresh-left (b .question) (i .asked)
+        (λ x m w same. ne (let p : question.Opening a n ≡ question.Opening x m = sym q ∙ w in let s : a ≡ x = cc in ap (λ (r : Ask). r .epoch) s ∙ same)))
+
+  removed-by : (e : ℕ) (f : Found) → find (k .entries) e (k .count) ≡ f → Fine y (removed y e)
+  unfolding removed wasFound
+  removed-by e found.Nothing f =
+      let is : removeOf (y .state) e .state ≡ y .state = ap (λ (r : Kept). r .state) (remove-none (y .state) e in-range f) in
+      subst (Fine y)
+      (sym (if-false _ _ (ap (isIn e) (i .tally .keyed) ∙ sym (find-in (k .entries) e (k .count)) ∙ ap wasFound f)))
+      (same-sound _ _ is refl, as-was _ _ (ap (λ (x : Receiving). x .datagram) is) refl)
+  removed-by e (found.At j) f =
+      subst (Fine y)
+      (sym (if-true _ _ (ap (isIn e) (i .tally .keyed) ∙ sym (find-in (k .entries) e (k .count)) ∙ ap wasFound f)))
+      (under-removed e j f (b .question) refl (i .under))
+
+  pub remove-fine : (e : ℕ) → Fine y (removed y e)
+  remove-fine e = removed-by e _ refl
+
+  -- ---- the host's writing, and calls that change nothing
+
+  written-long : (p : List ℕ) (q : Question) → b .question ≡ q → UnderWay q (b .at) (y .account .waits) (y .trial)
+      → length (writtenIn (y .account .waits) (y .datagram) p) ≡ length (y .datagram)
+  written-long p question.Nothing q z = ap (λ (w : Shown). length (writtenIn w (y .datagram) p)) (z .0)
+  written-long p (question.Mask a) q z = ap (λ (w : Shown). length (writtenIn w (y .datagram) p)) (z .2 .0)
+  written-long p (question.Opening a n) q z =
+      let h = held-open k b in-range a n q .1 in
+      ap (λ (w : Shown). length (writtenIn w (y .datagram) p)) (z .2 .2)
+      ∙ by-test (λ (l : List ℕ). length l ≡ length (y .datagram))
+      (λ t.
+      length-splice (b .at + length (z .2 .0)) p (y .datagram)
+      (omega (arith, leb-true (length p) (length (z .2 .1)) t, z .2 .3, z .2 .4, h .head, h .fits, i .whole, i .made .ready .at)))
+      (λ t. refl)
+
+  pub write-sound : (p : List ℕ) → Sound (wrote y p)
+  write-sound p = record {
+    made = i .made;
+    table = i .table;
+    asked = i .asked;
+    hands = i .hands;
+    tally = i .tally;
+    whole = written-long p (b .question) refl (i .under) ∙ i .whole;
+    under = i .under;
+    proper = i .proper;
+    nonces = i .nonces;
+    lost = i .lost;
+    real = i .real;
+  }
+
+  pub unchanged : (s : Receiving) → s ≡ y .state → Fine y (withState y s (y .account))
+  unchanged s e = (same-sound s (y .account) e refl, as-was s _ (ap (λ (x : Receiving). x .datagram) e) refl)
+
+-- ---- a fresh end
+
+fresh-is : (min : ℕ) → freshOf min .state ≡ record { keys = fresh min; datagram = started 0 }
+unfolding freshOf
+fresh-is min = by-test (λ (r : Kept). r .state ≡ record { keys = fresh min; datagram = started 0 }) (λ t. refl) (λ t. refl)
+
+pub new-sound : (min : ℕ) → min ≤ 17 → Sound (newInbound min .into)
+new-sound min h = subst (λ s. Sound (withState (newInbound min .into) s (newInbound min .into .account))) (sym (fresh-is min)) (record {
+  made = subst Made (fresh-is min) (fresh-made min h);
+  table = record {
+    agrees = λ j l. absurd (omega arith);
+    iv = λ j l. absurd (omega arith);
+    rising = λ j m u l. absurd (omega arith);
+    lowest = λ j l. absurd (omega arith);
+    below = λ j l. absurd (omega arith);
+    early = λ e n m. elim m [ ];
+  };
+  asked = tt;
+  hands = record { counted = λ e x m. elim m [ ]; once = λ e. tt };
+  tally = record { keyed = refl; highest = refl; encryption = refl; released = refl; place = refl; readings = refl };
+  whole = refl;
+  under = (refl, refl);
+  proper = λ c m. elim m [ ];
+  nonces = λ c m. elim m [ ];
+  lost = λ l m. elim m [ ];
+  real = λ d m. elim m [ ];
+})
