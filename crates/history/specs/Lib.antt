@@ -10,3 +10,4 @@ pub mod Reads
 pub mod Opening
 pub mod Reading
 pub mod Calls
+pub mod Undamaged
