@@ -11,3 +11,4 @@ pub mod Opening
 pub mod Reading
 pub mod Calls
 pub mod Undamaged
+pub mod Direction
