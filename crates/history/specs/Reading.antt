@@ -199,7 +199,7 @@ module _ (y : Receiver) (i : Sound y) where
       (subst (λ w. Proper aRead w (o .reading)) (sym z) (moves-on (c .moves))) (c .nonce) (c .real)
 
   -- the mask question again
-  masks-again : (a : Ask) → b .question ≡ question.Mask a
+  pub masks-again : (a : Ask) → b .question ≡ question.Mask a
       → readOut (y .state) d ≡ sameAgain y (says.Mask (a .epoch) (b .at + a .«header_len»)) zeros
   unfolding asking
   masks-again a q = ap (λ (s : Step). outBy k s d) (read-asks k b d (question.Mask a) in-range (i .whole) q)
@@ -214,7 +214,7 @@ module _ (y : Receiver) (i : Sound y) where
       (subst (λ v. Proper aRead v (says.Mask (a .epoch) (b .at + a .«header_len»))) (sym w) refl) tt))
 
   -- the opening question again
-  again-is : (a : Ask) (n j : ℕ) → b .question ≡ question.Opening a n → find (k .entries) (a .epoch) (k .count) ≡ found.At j
+  pub again-is : (a : Ask) (n j : ℕ) → b .question ≡ question.Opening a n → find (k .entries) (a .epoch) (k .count) ≡ found.At j
       → readOut (y .state) d
       ≡ sameAgain y (says.Opening (a .epoch) n (b .at) (a .«header_len») (a .length)) (nonceOf (entryAt k j .iv) n)
   again-is a n j q f =
