@@ -116,14 +116,13 @@ module _ (y : Receiver) (i : Sound y) where
     unfolding installed
     find-new new room x j f =
         let long = i .made .long in
-        let within = found-keyed (k .entries) x (k .count) j f in
-        (
+        let within = found-keyed (k .entries) x (k .count) j f in (
           j,
           ap (find (installed k e iv .entries) x) (add-one (k .count))
-          ∙ find-step (installed k e iv .entries) x (k .count)
-          (λ z.
-          omega (arith, ap (λ (r : RecvEpochEntry). r .epoch) (installed-last k e iv long room), z, i .table .below j within, found-epoch (k .entries) x (k .count) j f))
-          ∙ find-same (installed k e iv .entries) (k .entries) x (k .count) (λ m h. installed-other k e iv long room m h) ∙ f,
+              ∙ find-step (installed k e iv .entries) x (k .count)
+              (λ z.
+              omega (arith, ap (λ (r : RecvEpochEntry). r .epoch) (installed-last k e iv long room), z, i .table .below j within, found-epoch (k .entries) x (k .count) j f))
+              ∙ find-same (installed k e iv .entries) (k .entries) x (k .count) (λ m h. installed-other k e iv long room m h) ∙ f,
           installed-other k e iv long room j within,
         )
 
@@ -309,9 +308,12 @@ module _ (y : Receiver) (i : Sound y) where
         let s = stood k (y .used) (y .account .ivs) (i .table) j count within m (less m (found-keyed (left k j .entries) x (left k j .count) m q)) in
         let was-x : entryAt k (was j m) .epoch ≡ entryAt k h .epoch =
         ap (λ (r : RecvEpochEntry). r .epoch) (sym (s .1)) ∙ found-epoch (left k j .entries) x (left k j .count) m q
-        ∙ sym (found-epoch (k .entries) x (k .count) h g) in
-        (m, q, s .1 ∙ ap (entryAt k)
-        (one-place k (y .used) (y .account .ivs) (i .table) h 0 (i .made .long) count (found-keyed (k .entries) x (k .count) h g) (was j m) (s .0) was-x)))
+        ∙ sym (found-epoch (k .entries) x (k .count) h g) in (
+          m,
+          q,
+          s .1 ∙ ap (entryAt k)
+              (one-place k (y .used) (y .account .ivs) (i .table) h 0 (i .made .long) count (found-keyed (k .entries) x (k .count) h g) (was j m) (s .0) was-x),
+        ))
       where
         less : (m : ℕ) → m < left k j .count → m < k .count - 1
         less m h = unfold left in h

@@ -231,7 +231,6 @@ pub record Received (sealed : ℕ → List Sealed) (i : Inbound) (e : ℕ) : Typ
   -- "A datagram with no record accepted by the cipher moved no .. window": "the calls that read the datagram leave .. every window verdict"
   pub moved-nothing : (k : ℕ) → ((m : Move) → Mem m (i .moves) → m .datagram ≡ k → accepts (m .spends) ≡ false)
       → (m : Move) → Mem m (i .moves) → m .datagram ≡ k → SameVerdicts m
-
   -- beside the demand, so that the above is not hollow:
   -- each such call alone moves no verdict unless it accepts, and then only its own epoch's
   pub each-call : (m : Move) → Mem m (i .moves) → Moved m (m .spends)

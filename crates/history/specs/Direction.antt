@@ -24,9 +24,7 @@ use Rattle.datagram.specs.declared.Step.{Step}
 use Rattle.incoming.specs.Inner.{innerOf, inner-type}
 use Rattle.incoming.specs.declared.Inner.the-variants as inner
 use Rattle.incoming.specs.declared.Inner.{Inner}
-use Rattle.mask_reply.specs.Leads.{mask-asks}
-use Rattle.mask_reply.specs.Mask.{unmasked, masking, maskStep}
-use Rattle.opening_reply.specs.Leads.{opened-asks}
+use Rattle.mask_reply.specs.Mask.{unmasked}
 use Rattle.opening_reply.specs.Opening.{still, typed, openedAt, openings, openedStep, shownBy}
 use Rattle.opening_reply.specs.Undamaged.{yes-hands, content-shown}
 use Rattle.opening_reply.specs.declared.Marked.{Marked}
@@ -50,7 +48,7 @@ use Rattle.history.specs.Calls.{Leaves, as-was, no-more}
 use Rattle.history.specs.Claim.{Masks, FairMask, Opens, FairOpen, asHanded, Due, SaysOpened}
 use Rattle.history.specs.Half.{Shape}
 use Rattle.history.specs.Lists.{upd-same, upd-by, some≢none, some-inj, option-cases, mem-by}
-use Rattle.history.specs.Reading.{refusal, sameAgain, is-found, masks-again, again-is, reached-to, idle-quiet, masked-quiet, opened-is, use-down}
+use Rattle.history.specs.Reading.{refusal, sameAgain, is-found, mask-opening, open-idle, open-masked, masks-again, again-is, reached-to, idle-quiet, masked-quiet, opened-is, use-down}
 use Rattle.history.specs.Reads.{outBy}
 use Rattle.history.specs.Receiver.{
   Sealed,
@@ -209,9 +207,9 @@ write-trials sealed y i p = record {
 module _ (sealed : ℕ → List Sealed) (y : Receiver) (o : Out) (t : Option Trial) (u : Use) (w : Shown) (deed : Deed) (i : Trials sealed y)
     (still-so : fateOf (o .reading) ≡ turnedDown → (o .state ≡ y .state) × (o .datagram ≡ y .datagram) × (spent u (y .used) ≡ y .used))
     (next : fateOf (o .reading) ≡ underway → (a : Trial) → t ≡ some a → (e : ℕ) (x : Sealed) → Due a e x
-        → Under sealed a e x (o .state .datagram) (o .datagram) (spent u (y .used)) w)
+    → Under sealed a e x (o .state .datagram) (o .datagram) (spent u (y .used)) w)
     (last : fateOf (o .reading) ≡ settled → (a : Trial) → t ≡ some a → (e : ℕ) (x : Sealed) → Due a e x
-        → SaysOpened (o .reading) (shownBy (o .reading) (o .datagram)) e (asHanded x)) where
+    → SaysOpened (o .reading) (shownBy (o .reading) (o .datagram)) e (asHanded x)) where
   shown : List ℕ
   shown = shownBy (o .reading) (o .datagram)
 
@@ -327,12 +325,11 @@ module _ (masks : Masks) (sealed : ℕ → List Sealed) (shaped : Shaped masks s
       → (part (b .at) (length (x .wire)) d ≡ x .wire) × (readOut (y .state) d ≡ asksMask e x)
   due-asks q e x due =
       let lie : part (b .at) (length (x .wire)) d ≡ x .wire =
-      subst (λ (n : ℕ). part n (length (x .wire)) d ≡ x .wire) (i .tally .place) (due .undamaged) in
-      (
+      subst (λ (n : ℕ). part n (length (x .wire)) d ≡ x .wire) (i .tally .place) (due .undamaged) in (
         lie,
         ap (λ (t : Step). outBy k t d)
-        (read-is masks e x (shaped e x (due .sealed-then)) k b d in-range (i .whole) lie (sym (reached-to y i sealed) ∙ due .resolved) q
-        (sym (i .tally .encryption) ∙ due .encryption-on)),
+            (read-is masks e x (shaped e x (due .sealed-then)) k b d in-range (i .whole) lie (sym (reached-to y i sealed) ∙ due .resolved) q
+            (sym (i .tally .encryption) ∙ due .encryption-on)),
       )
 
   idle-trials : Trials sealed y → b .question ≡ question.Nothing → Trials sealed (readBy y sealed nothing (readOut (y .state) d))
@@ -390,10 +387,6 @@ module _ (masks : Masks) (sealed : ℕ → List Sealed) (shaped : Shaped masks s
       (fateOf (o .reading) ≡ underway)
       × Under sealed a e x (o .state .datagram) (o .datagram) (y .used) (questionIn (o .reading) (o .datagram))
 
-  mask-turned : (m : List ℕ) (a : Ask) (n : ℕ) → b .question ≡ question.Opening a n → maskStep k b m d ≡ (told b says.Reply, d)
-  unfolding masking
-  mask-turned m a n q = mask-asks k b m d (question.Opening a n) in-range (i .whole) q
-
   pub mask-due : (m : List ℕ) → FairMask masks (y .account .waits) d (getD (restOf y) 0 0) m → (a : Trial) (e : ℕ) (x : Sealed) → Due a e x
       → UnderIn sealed a e x y
       → (fateOf (maskOut (y .state) m d .reading) ≡ turnedDown) ⊎ Opening′ a e x (maskOut (y .state) m d)
@@ -405,7 +398,7 @@ module _ (masks : Masks) (sealed : ℕ → List Sealed) (shaped : Shaped masks s
       go : Ongoing a e x b d (y .used) (y .account .waits)
           → (fateOf (maskOut (y .state) m d .reading) ≡ turnedDown) ⊎ Opening′ a e x (maskOut (y .state) m d)
       go (at-open q w) =
-          inl (ap (λ (p : Step × List ℕ). fateOf (p .0 .reading)) (mask-turned m (askFor e x) (x .num) q))
+          inl (ap (λ (p : Step × List ℕ). fateOf (p .0 .reading)) (mask-opening y i m (askFor e x) (x .num) q))
       go (at-mask q same z w) =
           is-found k e _ refl (held-mask k b in-range (askFor e x) q .installed) λ h f.
           let fair′ : FairMask masks (aMask e (b .at + 5)) d (getD (restOf y) 0 0) m =
@@ -443,8 +436,7 @@ module _ (masks : Masks) (sealed : ℕ → List Sealed) (shaped : Shaped masks s
   mask-trials j m fair =
       let o = maskOut (y .state) m d in
       after-trials sealed y o (y .trial) unused (questionIn (o .reading) (o .datagram)) aMaskReply j
-      (λ f.
-      (
+      (λ f. (
         refused-stays (answering m d) (y .state) (down-refused (o .reading) f),
         mask-writes-not (y .state) m d (down-refused (o .reading) f),
         refl,
@@ -457,14 +449,6 @@ module _ (masks : Masks) (sealed : ℕ → List Sealed) (shaped : Shaped masks s
 
   abbrev opensTo : Marked → Out
   opensTo x = outBy (x .keys) (x .step) d
-
-  open-turned : (p : Opening) (a : Ask) → b .question ≡ question.Mask a → openedStep k b p d ≡ still k (told b says.Reply)
-  unfolding openings
-  open-turned p a q = opened-asks k b p d (question.Mask a) in-range (i .whole) q
-
-  open-idle : (p : Opening) → b .question ≡ question.Nothing → openedStep k b p d ≡ still k (told b says.Reply)
-  unfolding openings
-  open-idle p q = opened-asks k b p d question.Nothing in-range (i .whole) q
 
   -- a yes of another length
   open-wrong : (a : Ask) (n len h : ℕ) → b .question ≡ question.Opening a n → find (k .entries) (a .epoch) (k .count) ≡ found.At h
@@ -542,8 +526,8 @@ module _ (masks : Masks) (sealed : ℕ → List Sealed) (shaped : Shaped masks s
 
     opens-sealed : (p : Opening) (q : Question) → b .question ≡ q → UnderWay q (b .at) (y .account .waits) (y .trial)
         → FairOpen sealed (y .account .waits) d p → Kept (openOut (y .state) p d)
-    opens-sealed p question.Nothing q z fair = subst (λ x. Kept (opensTo x)) (sym (open-idle p q)) j
-    opens-sealed p (question.Mask a) q z fair = subst (λ x. Kept (opensTo x)) (sym (open-turned p a q)) j
+    opens-sealed p question.Nothing q z fair = subst (λ x. Kept (opensTo x)) (sym (open-idle y i p q)) j
+    opens-sealed p (question.Mask a) q z fair = subst (λ x. Kept (opensTo x)) (sym (open-masked y i p a q)) j
     opens-sealed p (question.Opening a n) q z fair =
         is-found k (a .epoch) _ refl (held-open k b in-range a n q .1 .installed) (λ h f. open-by p a n q z fair h f)
 
@@ -593,7 +577,7 @@ module _ (masks : Masks) (sealed : ℕ → List Sealed) (shaped : Shaped masks s
           (λ t. inl (ap (λ (m : Marked). fateOf (m .step .reading)) (open-wrong (askFor e x) (x .num) len h q f (eqb-false _ _ t))))
 
       go : Ongoing a e x b d (y .used) (y .account .waits) → Ends e x (openOut (y .state) p d)
-      go (at-mask q same z w) = inl (ap (λ (m : Marked). fateOf (m .step .reading)) (open-turned p (askFor e x) q))
+      go (at-mask q same z w) = inl (ap (λ (m : Marked). fateOf (m .step .reading)) (open-masked y i p (askFor e x) q))
       go (at-open q w) = by p q (subst (λ v. FairOpen sealed v d p) w fair)
 
   pub open-trials : Trials sealed y → (p : Opening) → FairOpen sealed (y .account .waits) d p → Trials sealed (afterOpen y p)
@@ -601,8 +585,7 @@ module _ (masks : Masks) (sealed : ℕ → List Sealed) (shaped : Shaped masks s
   open-trials j p fair =
       let o = openOut (y .state) p d in
       after-trials sealed y o (y .trial) (useOf (y .account .waits) p (fateOf (o .reading))) (questionIn (o .reading) (o .datagram)) (anOpenReply p) j
-      (λ f.
-      (
+      (λ f. (
         refused-stays (opening p d) (y .state) (down-refused (o .reading) f),
         refl,
         ap (λ (g : Fate). spent (useOf (y .account .waits) p g) (y .used)) f ∙ ap (λ (u : Use). spent u (y .used)) (use-down (y .account .waits) p),

@@ -1,8 +1,8 @@
 -- The receiving half of demand 3 on its own: one end, every list of its calls, against a far end that seals what it likes, when it likes,
--- in the form in which records lie in a queue, no number twice in an epoch.
+-- in the form in which records lie in a queue. That no number is sealed twice in an epoch is the sending half's; nothing here needs it.
 use Prim.Native.Nat.{ℕ, _+_, _≤_, _<_}
 use lib.ListN.{length, take}
-use mathlib.Core.List.{List, [], _∷_, _++_, List·Memᴰ as Mem}
+use mathlib.Core.List.{List, [], _∷_, _++_}
 use mathlib.Core.Path.{_≡_}
 use Rattle.record.specs.Record.{unifiedHeader}
 use Rattle.sealing.specs.Sealing.{maskedHeader}
@@ -42,7 +42,7 @@ run w (v ∷ vs) = run (step w v) vs
 
 abbrev pub Fair : Masks → Half → Event → Type 0
 Fair masks w (here· c) = FairCall masks (w .sealed) (w .end) c
-Fair masks w (far· e r) = Shape masks e r × ((q : Sealed) → Mem q (w .sealed e) → q .num ≡ r .num → ⊥)
+Fair masks w (far· e r) = Shape masks e r
 
 -- each premise is read in the world in which its event happens
 abbrev pub Honest : Masks → Half → List Event → Type 0

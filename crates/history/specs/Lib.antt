@@ -12,3 +12,5 @@ pub mod Reading
 pub mod Calls
 pub mod Undamaged
 pub mod Direction
+pub mod Verdicts
+pub mod Proof

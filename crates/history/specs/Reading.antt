@@ -260,6 +260,14 @@ module _ (y : Receiver) (i : Sound y) where
   abbrev masksTo : Step × List ℕ → Out
   masksTo p = outBy k (p .0) (p .1)
 
+  pub mask-idle : (m : List ℕ) → b .question ≡ question.Nothing → maskStep k b m d ≡ (told b says.Reply, d)
+  unfolding masking
+  mask-idle m q = mask-asks k b m d question.Nothing in-range (i .whole) q
+
+  pub mask-opening : (m : List ℕ) (a : Ask) (n : ℕ) → b .question ≡ question.Opening a n → maskStep k b m d ≡ (told b says.Reply, d)
+  unfolding masking
+  mask-opening m a n q = mask-asks k b m d (question.Opening a n) in-range (i .whole) q
+
   mask-down : (m : List ℕ) → maskStep k b m d ≡ (told b says.Reply, d) → Proper aMaskReply (y .account .waits) says.Reply
       → Sound (maskBy y (maskOut (y .state) m d))
   mask-down m e p = subst (λ x. Sound (maskBy y (masksTo x))) (sym e) (down-sound y i (y .trial) nothing aMaskReply p)
@@ -294,11 +302,11 @@ module _ (y : Receiver) (i : Sound y) where
 
   masks : (m : List ℕ) (q : Question) → b .question ≡ q → UnderWay q (b .at) (y .account .waits) (y .trial) → Sound (maskBy y (maskOut (y .state) m d))
   masks m question.Nothing q z =
-      mask-down m (unfold masking in (mask-asks k b m d question.Nothing in-range (i .whole) q))
+      mask-down m (mask-idle m q)
       (subst (λ w. Proper aMaskReply w says.Reply) (sym (z .0)) refl)
   masks m (question.Mask a) q z = mask-on m a q z
   masks m (question.Opening a n) q z =
-      mask-down m (unfold masking in (mask-asks k b m d (question.Opening a n) in-range (i .whole) q))
+      mask-down m (mask-opening m a n q)
       (subst (λ w. Proper aMaskReply w says.Reply) (sym (z .2 .2)) refl)
 
   pub mask-sound : (m : List ℕ) → Sound (afterMask y m)
@@ -310,6 +318,14 @@ module _ (y : Receiver) (i : Sound y) where
   abbrev opensTo : Marked → Out
   opensTo x = outBy (x .keys) (x .step) d
 
+  pub open-idle : (p : Opening) → b .question ≡ question.Nothing → openedStep k b p d ≡ still k (told b says.Reply)
+  unfolding openings
+  open-idle p q = opened-asks k b p d question.Nothing in-range (i .whole) q
+
+  pub open-masked : (p : Opening) (a : Ask) → b .question ≡ question.Mask a → openedStep k b p d ≡ still k (told b says.Reply)
+  unfolding openings
+  open-masked p a q = opened-asks k b p d (question.Mask a) in-range (i .whole) q
+
   open-down : (p : Opening) → openedStep k b p d ≡ still k (told b says.Reply) → Proper (anOpenReply p) (y .account .waits) says.Reply
       → Sound (openBy y p (openOut (y .state) p d))
   open-down p e x =
@@ -318,7 +334,7 @@ module _ (y : Receiver) (i : Sound y) where
       (down-sound y i (y .trial) nothing (anOpenReply p) x))
 
   module _ (a : Ask) (n : ℕ) (q : b .question ≡ question.Opening a n) (z : UnderWay (question.Opening a n) (b .at) (y .account .waits) (y .trial)) where
-    abbrev t : Trial
+    abbrev pub t : Trial
     t = z .0
 
     waits-is : y .account .waits ≡ anOpening (a .epoch) n (b .at) (z .2 .0) (z .2 .1)
@@ -341,26 +357,26 @@ module _ (y : Receiver) (i : Sound y) where
         let e = opened-is reply.No j f in
         let m : Marked = still k (passed b (endAsked b a) reason.NotOpened) in
         let c = passed-quiet k (y .used) (y .account .ivs) (i .table) b d (i .made .ready) (i .whole) (t .resolved) (t .ends) (t .plain) (t .encrypted) d refl
-            (endAsked b a) reason.NotOpened (z .2 .6) in
+        (endAsked b a) reason.NotOpened (z .2 .6) in
         subst (λ x. Sound (openBy y reply.No (opensTo x))) (sym e)
         (subst (λ v. Sound (after y (opensTo m) v unused nothing (anOpenReply reply.No))) (sym (z .1))
         (step-sound y i (opensTo m) t unused (anOpenReply reply.No) (c .moves) same-keys (opened-made reply.No m e) (i .table) tt (i .hands)
         (subst (λ w. Proper (anOpenReply reply.No) w (says.Dropped reason.NotOpened)) (sym waits-is) refl) tt tt))
 
     module _ (len j : ℕ) (f : find (k .entries) (a .epoch) (k .count) ≡ found.At j) where
-      abbrev o : Out
+      abbrev pub o : Out
       o = outBy (marked k j n) (typed b a n (innerOf (part (b .at + a .«header_len») len d))) d
 
       abbrev m : Marked
       m = still (marked k j n) (typed b a n (innerOf (part (b .at + a .«header_len») len d)))
 
-      abbrev used-by : Use
+      abbrev pub used-by : Use
       used-by = useOf (y .account .waits) (reply.Yes len) (fateOf (o .reading))
 
-      settles : Settles (marked k j n) (y .account .ivs) b d (t .resolved) (t .ends) o
+      pub settles : Settles (marked k j n) (y .account .ivs) b d (t .resolved) (t .ends) o
       settles = typed-settles (marked k j n) (y .account .ivs) b a n d (i .whole) (t .resolved) (t .ends) (z .2 .6) _
 
-      uses-it : used-by ≡ uses (a .epoch) n
+      pub uses-it : used-by ≡ uses (a .epoch) n
       uses-it =
           ap (λ (w : Shown). useOf w (reply.Yes len) (fateOf (o .reading))) waits-is ∙ ap (λ (g : Fate). useBy g (uses (a .epoch) n)) (settles .fate)
 
@@ -407,10 +423,10 @@ module _ (y : Receiver) (i : Sound y) where
 
   opens : (p : Opening) (q : Question) → b .question ≡ q → UnderWay q (b .at) (y .account .waits) (y .trial) → Sound (openBy y p (openOut (y .state) p d))
   opens p question.Nothing q z =
-      open-down p (unfold openings in (opened-asks k b p d question.Nothing in-range (i .whole) q))
+      open-down p (open-idle p q)
       (subst (λ w. Proper (anOpenReply p) w says.Reply) (sym (z .0)) refl)
   opens p (question.Mask a) q z =
-      open-down p (unfold openings in (opened-asks k b p d (question.Mask a) in-range (i .whole) q))
+      open-down p (open-masked p a q)
       (subst (λ w. Proper (anOpenReply p) w says.Reply) (sym (z .2 .0)) refl)
   opens p (question.Opening a n) q z =
       is-found k (a .epoch) _ refl (held-open k b in-range a n q .1 .installed) (λ j f. opens-by a n q z p j f)
@@ -418,3 +434,31 @@ module _ (y : Receiver) (i : Sound y) where
   pub open-sound : (p : Opening) → Sound (afterOpen y p)
   unfolding afterOpen
   open-sound p = opens p (b .question) refl (i .under)
+
+  -- ---- a read and a mask reply hand nothing over
+
+  quiet-reads : (sealed : ℕ → List Sealed) (q : Question) → b .question ≡ q
+      → let o = readOut (y .state) d in handedBy (o .reading) (shownBy (o .reading) (o .datagram)) (y .handed) ≡ y .handed
+  quiet-reads sealed question.Nothing q = idle-quiet sealed q .hands _ (y .handed)
+  quiet-reads sealed (question.Mask a) q =
+      ap (λ (o : Out). handedBy (o .reading) (shownBy (o .reading) (o .datagram)) (y .handed)) (masks-again a q)
+  quiet-reads sealed (question.Opening a n) q =
+      is-found k (a .epoch) _ refl (held-open k b in-range a n q .1 .installed)
+      (λ j f. ap (λ (o : Out). handedBy (o .reading) (shownBy (o .reading) (o .datagram)) (y .handed)) (again-is a n j q f))
+
+  pub read-hands : (sealed : ℕ → List Sealed) → afterRead y sealed .handed ≡ y .handed
+  unfolding afterRead
+  read-hands sealed = quiet-reads sealed (b .question) refl
+
+  quiet-masks : (m : List ℕ) (q : Question) → b .question ≡ q → UnderWay q (b .at) (y .account .waits) (y .trial)
+      → let o = maskOut (y .state) m d in handedBy (o .reading) (shownBy (o .reading) (o .datagram)) (y .handed) ≡ y .handed
+  quiet-masks m question.Nothing q z =
+      ap (λ (p : Step × List ℕ). handedBy (p .0 .reading) (shownBy (p .0 .reading) (p .1)) (y .handed)) (mask-idle m q)
+  quiet-masks m (question.Mask a) q z =
+      masked-quiet m a q (z .0 .resolved) (z .0 .ends) true true (z .2 .1) (z .2 .2) .hands _ (y .handed)
+  quiet-masks m (question.Opening a n) q z =
+      ap (λ (p : Step × List ℕ). handedBy (p .0 .reading) (shownBy (p .0 .reading) (p .1)) (y .handed)) (mask-opening m a n q)
+
+  pub mask-hands : (m : List ℕ) → afterMask y m .handed ≡ y .handed
+  unfolding afterMask
+  mask-hands m = quiet-masks m (b .question) refl (i .under)

@@ -194,7 +194,7 @@ module _ (k : RecvKeys) (used ivs : ℕ → List ℕ) (t : Table k used ivs) whe
         ap (epochsIn (installed k e iv .entries)) (add-one (k .count))
         ∙ let a = ap (λ (x : RecvEpochEntry). x .epoch) last in
         let b = epochs-same (installed k e iv .entries) (k .entries) (k .count)
-            (λ i h. ap (λ (x : RecvEpochEntry). x .epoch) (installed-other k e iv long room i h)) in
+        (λ i h. ap (λ (x : RecvEpochEntry). x .epoch) (installed-other k e iv long room i h)) in
         cc
 
     -- a place in the new table: one of the others, or the new one
