@@ -14,3 +14,4 @@ pub mod Undamaged
 pub mod Direction
 pub mod Verdicts
 pub mod Proof
+pub mod Example
