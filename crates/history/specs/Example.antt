@@ -191,3 +191,22 @@ seventeen-hands = (refl, refl)
 seventeen-honest : Honest oneMask (fresh-half 16) seventeen
 unfolding oneMask seventeen sealedAs choose both either splice bit askSound askKeyed openingSound questionSound isSound counted nonceOf innerOf unmasked rebuilt judged maskedAt maskedBy masking maskStep typed openedAt openedBy openings openedStep cancelledAsk cancelled freshOf keyOf leaving removedBy removeOf encryptOf releaseOf beginOf headerLen fragmentLen partialOf parseCiphertext isType isVersion isPlaintext plaintextHeader parsePlaintext parsed unifiedHeader lockedStep sealedStep stepOf openingAsked askedAgain asking readStep fits lastFit find orElse two resolve wasFound isKeyed marked appOne apps windowsSound keysSound isFull installed leftAt left maskedHeader own below above nearest expected isFresh marking upd unusable keys resolvesTo sealedSize plainSize recordSize goodPlain removedFrom removed begun afterRead afterMask afterOpen
 seventeen-honest = (tt, (tt, (shape 2 0 10 (omega arith), (shape 2 1 11 (omega arith), (tt, (tt, (tt, (tt, (tt, (tt, (tt, (tt, (tt, (tt, (tt, (tt, (tt, (tt, (tt, (tt, (tt, ((refl, λ s. refl), (tt, (λ right. yes-fair (sealedAs 2 1 11 ∷ sealedAs 2 0 10 ∷ []) (sealedAs 2 0 10) (there (here refl)) refl _ refl, (tt, ((refl, λ s. refl), (tt, (λ right. yes-fair (sealedAs 2 1 11 ∷ sealedAs 2 0 10 ∷ []) (sealedAs 2 1 11) (here refl) refl _ refl, tt))))))))))))))))))))))))))))
+
+-- ---- the edges of the reach
+
+-- after 100: 37, 63 below, is read, and 36, 64 below, is dropped; then 32,868, 32,767 above 101, is read; and 65,637, 32,768 above 32,869, is not
+-- found from its bits
+edges : List Event
+edges =
+    here· (key· 2 (replicate 12 0)) ∷ here· encrypt· ∷ far· 2 (sealedAs 2 100 1) ∷ far· 2 (sealedAs 2 37 2) ∷ far· 2 (sealedAs 2 36 3)
+    ∷ far· 2 (sealedAs 2 32868 4) ∷ far· 2 (sealedAs 2 65637 5)
+    ∷ arrives (sealedAs 2 100 1) 1 (arrives (sealedAs 2 37 2) 2 (doubled (sealedAs 2 36 3) (arrives (sealedAs 2 32868 4) 4 (doubled (sealedAs 2 65637 5) []))))
+
+edges-hands : run (fresh-half 16) edges .end .into .handed 2
+    ≡ record { num = 32868; type = 23; content = 4 ∷ [] } ∷ record { num = 37; type = 23; content = 2 ∷ [] } ∷ record { num = 100; type = 23; content = 1 ∷ [] } ∷ []
+unfolding edges sealedAs arrives doubled choose both either splice bit askSound askKeyed openingSound questionSound isSound counted nonceOf innerOf unmasked rebuilt judged maskedAt maskedBy masking maskStep typed openedAt openedBy openings openedStep cancelledAsk cancelled freshOf keyOf leaving removedBy removeOf encryptOf releaseOf beginOf headerLen fragmentLen partialOf parseCiphertext isType isVersion isPlaintext plaintextHeader parsePlaintext parsed unifiedHeader lockedStep sealedStep stepOf openingAsked askedAgain asking readStep fits lastFit find orElse two resolve wasFound isKeyed marked appOne apps windowsSound keysSound isFull installed leftAt left maskedHeader own below above nearest expected isFresh marking upd unusable keys resolvesTo sealedSize plainSize recordSize goodPlain removedFrom removed begun afterRead afterMask afterOpen
+edges-hands = refl
+
+edges-honest : Honest oneMask (fresh-half 16) edges
+unfolding oneMask edges sealedAs arrives doubled choose both either splice bit askSound askKeyed openingSound questionSound isSound counted nonceOf innerOf unmasked rebuilt judged maskedAt maskedBy masking maskStep typed openedAt openedBy openings openedStep cancelledAsk cancelled freshOf keyOf leaving removedBy removeOf encryptOf releaseOf beginOf headerLen fragmentLen partialOf parseCiphertext isType isVersion isPlaintext plaintextHeader parsePlaintext parsed unifiedHeader lockedStep sealedStep stepOf openingAsked askedAgain asking readStep fits lastFit find orElse two resolve wasFound isKeyed marked appOne apps windowsSound keysSound isFull installed leftAt left maskedHeader own below above nearest expected isFresh marking upd unusable keys resolvesTo sealedSize plainSize recordSize goodPlain removedFrom removed begun afterRead afterMask afterOpen
+edges-honest = (tt, (tt, (shape 2 100 1 (omega arith), (shape 2 37 2 (omega arith), (shape 2 36 3 (omega arith), (shape 2 32868 4 (omega arith), (shape 2 65637 5 (omega arith), (tt, (tt, ((refl, λ s. refl), (tt, (λ right. yes-fair (sealedAs 2 65637 5 ∷ sealedAs 2 32868 4 ∷ sealedAs 2 36 3 ∷ sealedAs 2 37 2 ∷ sealedAs 2 100 1 ∷ []) (sealedAs 2 100 1) (there (there (there (there (here refl))))) refl _ refl, (tt, (tt, ((refl, λ s. refl), (tt, (λ right. yes-fair (sealedAs 2 65637 5 ∷ sealedAs 2 32868 4 ∷ sealedAs 2 36 3 ∷ sealedAs 2 37 2 ∷ sealedAs 2 100 1 ∷ []) (sealedAs 2 37 2) (there (there (there (here refl)))) refl _ refl, (tt, (tt, ((refl, λ s. refl), (tt, (tt, ((refl, λ s. refl), (tt, (λ right. yes-fair (sealedAs 2 65637 5 ∷ sealedAs 2 32868 4 ∷ sealedAs 2 36 3 ∷ sealedAs 2 37 2 ∷ sealedAs 2 100 1 ∷ []) (sealedAs 2 32868 4) (there (here refl)) refl _ refl, (tt, (tt, ((refl, λ s. refl), tt))))))))))))))))))))))))))))
