@@ -1,0 +1,265 @@
+-- A sending end and its history: state, queue and flight as the last call left them, and what the claim speaks of, written from the host's
+-- arguments, the bytes and the answers and questions that the host sees; from the state only the next numbers to send.
+use Prim.Native.Nat.{ℕ, zero, suc, _+_, _-_}
+use lib.Dec.{eqb}
+use lib.ListN.{length, take, getD}
+use mathlib.Core.Bool.{Bool, true, false}
+use mathlib.Core.List.{List, [], _∷_, _++_}
+use mathlib.Core.Option.{Option, none, some}
+use Rattle.base.specs.Choose.{choose, both}
+use Rattle.base.specs.Parts.{part}
+use Rattle.record.specs.Record.{plaintextHeader}
+use Rattle.send_keys.specs.Keys.{nextOf}
+use Rattle.outgoing.specs.declared.Keying.{Keying}
+use Rattle.outgoing.specs.declared.SendAnswer.{SendAnswer}
+use Rattle.outgoing.specs.declared.Sending.{Sending}
+use Rattle.outgoing.specs.State.{isDone, freshSending, isKeyedNow, keyingState}
+use Rattle.outgoing.specs.Send.{sendAnswer, sendState, sendMemory}
+use Rattle.flight.specs.declared.Flight.{Flight}
+use Rattle.flight.specs.Flight.{freshFlight, begun}
+use Rattle.flight.specs.Save.{saveAnswer, saveState, saveQueue, saveKept}
+use Rattle.messages.specs.Cut.{epochOf}
+use Rattle.messages.specs.Message.{contentOf, Laid, sizeNow, pieceOf, beginning, messageAnswer, messageState, messageQueue, messageKept}
+use Rattle.sealing.specs.declared.SealAnswer.{SealAnswer}
+use Rattle.sealing.specs.declared.SealQuestion.the-variants as ask
+use Rattle.sealing.specs.declared.SealQuestion.{SealQuestion}
+use Rattle.sealing.specs.declared.TakeAnswer.the-variants as took
+use Rattle.sealing.specs.declared.TakeAnswer.{TakeAnswer}
+use Rattle.sealing.specs.Sealing.{questionOf, putMemory, sealAnswer, isSealed, sealedState, sealedMemory}
+use Rattle.sealing.specs.Take.{takeAnswer, takeState, takeBuffer}
+use Rattle.history.specs.Account.{upd}
+use Rattle.history.specs.Receiver.{Sealed, Handed}
+
+-- ---- what the history holds
+
+-- what the host keeps: the state, the queue's memory, the flight and its memory
+pub record Stores : Type 0 where
+  pub state : Sending
+  pub queue : List ℕ
+  pub flight : Flight
+  pub kept : List ℕ
+
+-- a record laid in the queue, in the order of laying: finished with its bytes, or still to be sealed under its epoch and number
+pub data Line : Type 0 where
+  done : List ℕ → Line
+  due : ℕ → ℕ → Line
+
+-- what was sent: by epoch, each record's number, type and content as the host gave them, the last first; and the records in order
+pub record Books : Type 0 where
+  pub sent : ℕ → List Handed
+  pub lines : List Line
+
+-- the sealing question that the host is shown: epoch, number, nonce, unmasked header, the place and length of the part lent, and the part's
+-- bytes as they lay when it was first shown: content, type and room for the tag
+pub record Lent : Type 0 where
+  pub epoch : ℕ
+  pub num : ℕ
+  pub nonce : List ℕ
+  pub header : List ℕ
+  pub place : ℕ
+  pub size : ℕ
+  pub bytes : List ℕ
+
+pub record Sender : Type 0 where
+  pub stores : Stores
+  pub books : Books
+  -- the IV that each epoch was keyed with to send
+  pub ivs : ℕ → List ℕ
+  pub lent : Option Lent
+  -- by epoch the records sealed, the last first; the datagrams taken, in order
+  pub sealed : ℕ → List Sealed
+  pub taken : List (List ℕ)
+
+-- ---- the question shown
+
+-- the bytes first shown stay with a question that is shown again
+abbrev pub firstBytes : Option Lent → ℕ → ℕ → List ℕ → List ℕ
+firstBytes none e n b = b
+firstBytes (some l) e n b = choose (both (eqb (l .epoch) e) (eqb (l .num) n)) (l .bytes) b
+
+abbrev pub lentBy : SealQuestion → List ℕ → List ℕ → Option Lent → List ℕ → Option Lent
+lentBy (ask.Seal e n p l) nonce header old q =
+    some (record { epoch = e; num = n; nonce = nonce; header = header; place = p; size = l; bytes = firstBytes old e n (part p l q) })
+lentBy ask.Nothing nonce header old q = none
+lentBy ask.OutOfRange nonce header old q = none
+
+unfoldable pub lends : Sending → List ℕ → Option Lent → Option Lent
+lends s q old = lentBy (questionOf s .question) (questionOf s .nonce) (questionOf s .header) old q
+
+-- ---- what was sent
+
+-- a plaintext record is finished when it is laid
+abbrev pub lineOf : ℕ → ℕ → ℕ → List ℕ → Line
+lineOf e t n x = choose (eqb e 0) (done (plaintextHeader t n (length x) ++ x)) (due e n)
+
+-- a record sent: under the number that was next in its epoch, with the type and content that the host gave
+abbrev pub written : Sending → ℕ → ℕ → List ℕ → Books → Books
+written s e t x b = record {
+  sent = upd (b .sent) e (record { num = nextOf (s .keys) e; type = t; content = x } ∷ b .sent e);
+  lines = b .lines ++ (lineOf e t (nextOf (s .keys) e) x ∷ []);
+}
+
+unfoldable pub lays : SendAnswer → Sending → ℕ → ℕ → List ℕ → Books → Books
+lays a s e t x b = choose (isDone a) (written s e t x b) b
+
+-- the pieces of a message, one after the other: type 22, a header of 12 bytes and a part of the host's body
+abbrev pub pieceSize : ℕ → List ℕ → ℕ → Laid → ℕ
+pieceSize kind body at l = sizeNow kind (l .saved .state) (length body - at)
+
+abbrev pub piece : ℕ → List ℕ → ℕ → Laid → Laid
+piece kind body at l = pieceOf kind body at (pieceSize kind body at l) (l .saved .state) (l .saved .flight) (l .queue) (l .kept)
+
+abbrev pub pieceBooks : ℕ → List ℕ → ℕ → Laid → Books → Books
+pieceBooks kind body at l b =
+    lays (saveAnswer (l .saved .state) (l .saved .flight) (length (l .queue)) (length (l .kept)) (epochOf kind) 22 (12 + pieceSize kind body at l))
+    (l .saved .state) (epochOf kind) 22 (contentOf kind (l .saved .state .«message_seq») body at (pieceSize kind body at l)) b
+
+unfoldable pub laysAll : ℕ → ℕ → List ℕ → ℕ → Laid → Books → Books
+laysAll zero kind body at l b = b
+laysAll (suc k) kind body at l b =
+    choose (eqb (length body - (at + pieceSize kind body at l)) 0) (pieceBooks kind body at l b)
+    (laysAll k kind body (at + pieceSize kind body at l) (piece kind body at l) (pieceBooks kind body at l b))
+
+unfoldable pub messageBooks : SendAnswer → Stores → ℕ → List ℕ → Books → Books
+messageBooks a w kind body b = choose (isDone a) (laysAll 13 kind body 0 (beginning (w .state) (w .flight) (w .queue) (w .kept)) b) b
+
+-- ---- what was sealed
+
+-- the first record still to be sealed under an epoch and number is finished
+abbrev pub finish : ℕ → ℕ → List ℕ → List Line → List Line
+finish e n b [] = []
+finish e n b (done c ∷ ls) = done c ∷ finish e n b ls
+finish e n b (due k m ∷ ls) = choose (both (eqb k e) (eqb m n)) (done b ∷ ls) (due k m ∷ finish e n b ls)
+
+-- number and header as the question showed them; type and content as they lay when it was first shown; what the host left in the part; and
+-- the record's bytes in the queue behind the reply
+abbrev pub sealedAs : Lent → List ℕ → List ℕ → Sealed
+sealedAs l before behind = record {
+  num = l .num;
+  type = getD (l .bytes) (l .size - 17) 0;
+  content = take (l .size - 17) (l .bytes);
+  header = l .header;
+  cipher = part (l .place) (l .size) before;
+  wire = part (l .place - 5) (5 + l .size) behind;
+}
+
+-- ---- the calls
+
+pub data SendCall : Type 0 where
+  -- keying with an IV; one record, saved or not; a handshake message; beginning a flight
+  keySend· : ℕ → List ℕ → SendCall
+  send· : ℕ → ℕ → List ℕ → SendCall
+  save· : ℕ → ℕ → List ℕ → SendCall
+  message· : ℕ → List ℕ → SendCall
+  beginFlight· : SendCall
+  -- the host's bytes in the part lent for the oldest sealing; its reply, a length and the mask; taking a datagram into a buffer
+  fill· : List ℕ → SendCall
+  sealed· : ℕ → List ℕ → SendCall
+  take· : List ℕ → SendCall
+
+-- a sender behind a call: the question is the one that the new state shows
+abbrev pub turns : Sender → Stores → Books → (ℕ → List ℕ) → (ℕ → List Sealed) → List (List ℕ) → Sender
+turns x w b ivs sealed taken = record {
+  stores = w;
+  books = b;
+  ivs = ivs;
+  lent = lends (w .state) (w .queue) (x .lent);
+  sealed = sealed;
+  taken = taken;
+}
+
+abbrev pub keyedBy : Keying → ℕ → List ℕ → (ℕ → List ℕ) → ℕ → List ℕ
+keyedBy r e iv f = choose (isKeyedNow (r .answer)) (upd f e iv) f
+
+-- an accepted reply seals what the question showed
+abbrev pub sealedBy : SealAnswer → Option Lent → List ℕ → List ℕ → (ℕ → List Sealed) → ℕ → List Sealed
+sealedBy a none before behind f = f
+sealedBy a (some l) before behind f = choose (isSealed a) (upd f (l .epoch) (sealedAs l before behind ∷ f (l .epoch))) f
+
+abbrev pub finishedBy : SealAnswer → Option Lent → List ℕ → List ℕ → Books → Books
+finishedBy a none before behind b = b
+finishedBy a (some l) before behind b =
+    choose (isSealed a) (record { sent = b .sent; lines = finish (l .epoch) (l .num) (sealedAs l before behind .wire) (b .lines) }) b
+
+-- a datagram taken is what then stands at the start of the host's buffer
+abbrev pub takenBy : TakeAnswer → List ℕ → List (List ℕ) → List (List ℕ)
+takenBy (took.Taken n) buffer ts = ts ++ (part 0 n buffer ∷ [])
+takenBy took.OutOfRange buffer ts = ts
+takenBy took.Nothing buffer ts = ts
+takenBy took.Unsealed buffer ts = ts
+takenBy (took.Short n) buffer ts = ts
+
+-- state and memory behind each call, by the definitions that the calls' contracts cite
+abbrev pub stored : Stores → SendCall → Stores
+stored w (keySend· e iv) = record { state = keyingState (w .state) e iv .state; queue = w .queue; flight = w .flight; kept = w .kept }
+stored w (send· e t x) =
+    let a = sendAnswer (w .state) (length (w .queue)) e t (length x) in
+    record { state = sendState a (w .state) e (length x) .state; queue = sendMemory a (w .state) e t x (w .queue); flight = w .flight; kept = w .kept }
+stored w (save· e t x) =
+    let r = saveState (w .state) (w .flight) (length (w .queue)) (length (w .kept)) e t (length x) in
+    record {
+      state = r .state;
+      queue = saveQueue (w .state) (w .flight) (length (w .kept)) e t x (w .queue);
+      flight = r .flight;
+      kept = saveKept (w .state) (w .flight) (length (w .queue)) e t x (w .kept);
+    }
+stored w (message· kind body) =
+    let a = messageAnswer (w .state) (w .flight) (length (w .queue)) (length (w .kept)) kind (length body) in
+    let r = messageState a (w .state) (w .flight) (w .queue) (w .kept) kind body in
+    record {
+      state = r .state;
+      queue = messageQueue a (w .state) (w .flight) (w .queue) (w .kept) kind body;
+      flight = r .flight;
+      kept = messageKept a (w .state) (w .flight) (w .queue) (w .kept) kind body;
+    }
+stored w beginFlight· = record { state = w .state; queue = w .queue; flight = begun (w .flight) .flight; kept = w .kept }
+stored w (fill· v) = record { state = w .state; queue = putMemory (w .state) v (w .queue); flight = w .flight; kept = w .kept }
+stored w (sealed· n m) =
+    let a = sealAnswer (w .state) (length (w .queue)) n in
+    record { state = sealedState a (w .state) (w .queue) .state; queue = sealedMemory a (w .state) m (w .queue); flight = w .flight; kept = w .kept }
+stored w (take· buffer) =
+    record {
+      state = takeState (takeAnswer (w .state) (length (w .queue)) (length buffer)) (w .state) .state;
+      queue = w .queue;
+      flight = w .flight;
+      kept = w .kept;
+    }
+
+-- and the history
+abbrev pub sends : Sender → SendCall → Sender
+sends x (keySend· e iv) =
+    turns x (stored (x .stores) (keySend· e iv)) (x .books) (keyedBy (keyingState (x .stores .state) e iv) e iv (x .ivs)) (x .sealed) (x .taken)
+sends x (send· e t c) =
+    let w = x .stores in
+    turns x (stored w (send· e t c)) (lays (sendAnswer (w .state) (length (w .queue)) e t (length c)) (w .state) e t c (x .books)) (x .ivs) (x .sealed) (x .taken)
+sends x (save· e t c) =
+    let w = x .stores in
+    turns x (stored w (save· e t c)) (lays (saveAnswer (w .state) (w .flight) (length (w .queue)) (length (w .kept)) e t (length c)) (w .state) e t c (x .books))
+    (x .ivs) (x .sealed) (x .taken)
+sends x (message· kind body) =
+    let w = x .stores in
+    turns x (stored w (message· kind body))
+    (messageBooks (messageAnswer (w .state) (w .flight) (length (w .queue)) (length (w .kept)) kind (length body)) w kind body (x .books)) (x .ivs) (x .sealed) (x .taken)
+sends x beginFlight· = turns x (stored (x .stores) beginFlight·) (x .books) (x .ivs) (x .sealed) (x .taken)
+sends x (fill· v) = turns x (stored (x .stores) (fill· v)) (x .books) (x .ivs) (x .sealed) (x .taken)
+sends x (sealed· n m) =
+    let w = x .stores in
+    let a = sealAnswer (w .state) (length (w .queue)) n in
+    let after = stored w (sealed· n m) in
+    turns x after (finishedBy a (x .lent) (w .queue) (after .queue) (x .books)) (x .ivs) (sealedBy a (x .lent) (w .queue) (after .queue) (x .sealed)) (x .taken)
+sends x (take· buffer) =
+    let w = x .stores in
+    let a = takeAnswer (w .state) (length (w .queue)) (length buffer) in
+    turns x (stored w (take· buffer)) (x .books) (x .ivs) (x .sealed) (takenBy a (takeBuffer a (w .state) (w .queue) buffer) (x .taken))
+
+-- ---- a fresh end: nothing keyed, queued, saved or asked; the lent buffers have any bytes
+
+abbrev pub newSender : ℕ → ℕ → List ℕ → List ℕ → Sender
+newSender mtu limit queue kept = record {
+  stores = record { state = freshSending mtu limit; queue = queue; flight = freshFlight; kept = kept };
+  books = record { sent = λ e. []; lines = [] };
+  ivs = λ e. [];
+  lent = none;
+  sealed = λ e. [];
+  taken = [];
+}
