@@ -1,2 +1,3 @@
 pub mod Sender
 pub mod Numbers
+pub mod Laying
