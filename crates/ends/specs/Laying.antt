@@ -18,6 +18,7 @@ use Rattle.outgoing.specs.declared.Sending.{Sending}
 use Rattle.outgoing.specs.State.{isDone}
 use Rattle.outgoing.specs.Send.{laidState, laidMemory, sendAnswer, sendState, sendMemory}
 use Rattle.flight.specs.declared.Flight.{Flight}
+use Rattle.flight.specs.declared.Saved.{Saved}
 use Rattle.flight.specs.Save.{saveAnswer, saveState, saveQueue}
 use Rattle.messages.specs.Cut.{epochOf, overhead, size-rest}
 use Rattle.messages.specs.Message.{contentOf, Laid, pieceOf, sendAll, numbered, beginning, messageState, messageQueue, length-content}
@@ -30,7 +31,7 @@ use Rattle.history.specs.Claim.{asHanded}
 use Rattle.history.specs.Lists.{upd-same, upd-by}
 use Rattle.history.specs.Receiver.{Sealed, Handed}
 use Rattle.ends.specs.Numbers.{Numbers, sent-numbers}
-use Rattle.ends.specs.Sender.{Line, done, due, Books, lineOf, written, lays, pieceSize, piece, pieceBooks, laysAll}
+use Rattle.ends.specs.Sender.{Line, done, due, Books, lineOf, written, lays, pieceSize, piece, pieceBooks, laysAll, Stores, messageBooks}
 
 -- the lines of the queue's records
 abbrev pub lineIn : Queued → Line
@@ -134,3 +135,87 @@ module _ {log : ℕ → List Sealed} {gone : List Line} {s : Sending} {q : List 
       Laying log gone (saveState s f (length q) room e t (length x) .state) (saveQueue s f room e t x q) (afterSend a s e t x ds) (lays a s e t x b)
   unfolding saveState saveQueue
   save-lays f room = lays-on (saveAnswer s f (length q) room e t (length x)) (saved s f (length q) room e t (length x))
+
+-- ---- a message, piece by piece
+
+-- four choices by one test
+by-four : {A B C D : Type 0} (P : A → B → C → D → Type 0) (t : Bool) {a a′ : A} {b b′ : B} {c c′ : C} {d d′ : D} → (t ≡ true → P a b c d) → (t ≡ false → P a′ b′ c′ d′)
+    → P (choose t a a′) (choose t b b′) (choose t c c′) (choose t d d′)
+unfolding choose
+by-four P true f g = f refl
+by-four P false f g = g refl
+
+module _ (log : ℕ → List Sealed) (gone : List Line) where
+  piece-lays : (kind : ℕ) (body : List ℕ) (at : ℕ) (l : Laid) (ds : List (List Queued)) (b : Books) → at + pieceSize kind body at l ≤ length body
+      → Laying log gone (l .saved .state) (l .queue) ds b
+      → let s = l .saved .state in
+      let x = contentOf kind (s .«message_seq») body at (pieceSize kind body at l) in
+      Laying log gone (piece kind body at l .saved .state) (piece kind body at l .queue)
+      (afterSend (saveAnswer s (l .saved .flight) (length (l .queue)) (length (l .kept)) (epochOf kind) 22 (12 + pieceSize kind body at l)) s (epochOf kind) 22 x ds)
+      (pieceBooks kind body at l b)
+  unfolding pieceOf
+  piece-lays kind body at l ds b low i =
+      let s : Sending = l .saved .state in
+      let f : Flight = l .saved .flight in
+      let x : List ℕ = contentOf kind (s .«message_seq») body at (pieceSize kind body at l) in
+      let e : ℕ = epochOf kind in
+      subst (λ (k : ℕ). Laying log gone (saveState s f (length (l .queue)) (length (l .kept)) e 22 k .state) (saveQueue s f (length (l .kept)) e 22 x (l .queue))
+      (afterSend (saveAnswer s f (length (l .queue)) (length (l .kept)) e 22 k) s e 22 x ds) (lays (saveAnswer s f (length (l .queue)) (length (l .kept)) e 22 k) s e 22 x b))
+      (length-content kind (s .«message_seq») body at (pieceSize kind body at l) low) (save-lays i e 22 x f (length (l .kept)))
+
+  all-lays : (k kind : ℕ) (body : List ℕ) (at : ℕ) (l : Laid) (ds : List (List Queued)) (b : Books) → at ≤ length body
+      → Laying log gone (l .saved .state) (l .queue) ds b
+      → Laying log gone (sendAll k kind body at l .saved .state) (sendAll k kind body at l .queue) (allSent k kind body at l ds) (laysAll k kind body at l b)
+  unfolding sendAll allSent laysAll
+  all-lays zero kind body at l ds b h i = i
+  all-lays (suc k) kind body at l ds b h i =
+      let m : ℕ = pieceSize kind body at l in
+      let low : at + m ≤ length body = omega (arith, size-rest (l .saved .state .queue .mtu) (overhead (epochOf kind)) (lastLen (l .saved .state .queue)) (length body - at)) in
+      let p : Laid = piece kind body at l in
+      let us : List (List Queued) =
+      afterSend (saveAnswer (l .saved .state) (l .saved .flight) (length (l .queue)) (length (l .kept)) (epochOf kind) 22 (12 + m)) (l .saved .state) (epochOf kind) 22
+      (contentOf kind (l .saved .state .«message_seq») body at m) ds in
+      let c : Books = pieceBooks kind body at l b in
+      let one = piece-lays kind body at l ds b low i in
+      test-cases (eqb (length body - (at + m)) 0)
+      (λ z.
+      rw (if-true p (sendAll k kind body (at + m) p) z, if-true us (allSent k kind body (at + m) p us) z, if-true c (laysAll k kind body (at + m) p c) z) one)
+      (λ z.
+      rw (if-false p (sendAll k kind body (at + m) p) z, if-false us (allSent k kind body (at + m) p us) z, if-false c (laysAll k kind body (at + m) p c) z)
+      (all-lays k kind body (at + m) p us c low one))
+
+  -- the number of the message plays no part
+  numbered-lays : (s : Sending) (q : List ℕ) (ds : List (List Queued)) (b : Books) (n : ℕ) → Laying log gone s q ds b → Laying log gone (numbered s n) q ds b
+  numbered-lays s q ds b n i = record {
+    holds = record {
+      range = i .holds .range;
+      room = i .holds .room;
+      table = i .holds .table;
+      count = i .holds .count;
+      rows = i .holds .rows;
+      order = i .holds .order;
+      oldest = i .holds .oldest;
+      keys = i .holds .keys;
+    };
+    numbers = i .numbers;
+    waiting-sent = i .waiting-sent;
+    sealed-sent = i .sealed-sent;
+    apart = i .apart;
+    lines = i .lines;
+  }
+
+  pub message-lays : (a : SendAnswer) (w : Stores) (kind : ℕ) (body : List ℕ) (ds : List (List Queued)) (b : Books) → Laying log gone (w .state) (w .queue) ds b
+      → Laying log gone (messageState a (w .state) (w .flight) (w .queue) (w .kept) kind body .state) (messageQueue a (w .state) (w .flight) (w .queue) (w .kept) kind body)
+      (afterMessage a (w .state) (w .flight) (w .queue) (w .kept) kind body ds) (messageBooks a w kind body b)
+  unfolding messageState messageQueue messageBooks
+  message-lays a w kind body ds b i =
+      let l : Laid = sendAll 13 kind body 0 (beginning (w .state) (w .flight) (w .queue) (w .kept)) in
+      let us : List (List Queued) = allSent 13 kind body 0 (beginning (w .state) (w .flight) (w .queue) (w .kept)) ds in
+      let c : Books = laysAll 13 kind body 0 (beginning (w .state) (w .flight) (w .queue) (w .kept)) b in
+      by-four (λ (r : Saved) (m : List ℕ) (vs : List (List Queued)) (d : Books). Laying log gone (r .state) m vs d) (isDone a)
+      {a = record { answer = a; state = numbered (l .saved .state) (w .state .«message_seq» + 1); flight = l .saved .flight }}
+      {a′ = record { answer = a; state = w .state; flight = w .flight }} {b = l .queue} {b′ = w .queue} {c = us} {c′ = ds} {d = c} {d′ = b}
+      (λ z.
+      numbered-lays (l .saved .state) (l .queue) us c (w .state .«message_seq» + 1)
+      (all-lays 13 kind body 0 (beginning (w .state) (w .flight) (w .queue) (w .kept)) ds b (omega arith) i))
+      (λ z. i)
