@@ -1,3 +1,4 @@
 pub mod Sender
 pub mod Numbers
 pub mod Laying
+pub mod Asked
