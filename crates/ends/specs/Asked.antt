@@ -154,3 +154,53 @@ same-shows s e t n x p = if-true _ _ (both-true (eq-eqb e e refl) ∙ eq-eqb n n
 other-shows : (s : Sending) (e t n : ℕ) (x : List ℕ) (e′ n′ : ℕ) (p : List ℕ) → (e ≡ e′ → n ≡ n′ → ⊥) → firstBytes (some (lentFor s e t n x)) e′ n′ p ≡ p
 other-shows s e t n x e′ n′ p ne =
     by-test (λ (l : List ℕ). l ≡ p) (λ z. absurd (ne (eqb-true e e′ (both-left _ _ z)) (eqb-true n n′ (both-right _ _ z)))) (λ z. refl)
+
+-- through a call that leaves, adds, writes or answers
+module _ (s : Sending) (q : List ℕ) (ds us : List (List Queued)) (h : Holds s q ds) (o : Option Lent) (i : LentIs s o (waitingOf (flat ds))) where
+  -- what was shown, where something waited
+  was-shown : (e t n : ℕ) (x p : List ℕ) (ws : List Queued) → waitingOf (flat ds) ≡ waits e t n x p ∷ ws → o ≡ some (lentFor s e t n x)
+  was-shown e t n x p ws y = subst (LentIs s o) y i
+
+  longer-shows : (more : List Queued) → AsLaid more → waitingOf (flat us) ≡ waitingOf (flat ds) ++ waitingOf more → Shows o (waitingOf (flat us))
+  longer-shows more a z =
+      subst (Shows o) (sym z)
+      (waiting-cases (flat ds) (waitingOf (flat ds)) refl
+      (λ y.
+      subst (λ (l : List Queued). Shows o (l ++ waitingOf more)) (sym y)
+      (waiting-cases more (waitingOf more) refl (λ w. subst (Shows o) (sym w) tt)
+      (λ e t n x p vs w v.
+      subst (Shows o) (sym v)
+      (ap (λ (r : Option Lent). firstBytes r e n p) (subst (LentIs s o) y i) ∙ laid-first more a e t n x p vs w))))
+      (λ e t n x p vs y w.
+      subst (λ (l : List Queued). Shows o (l ++ waitingOf more)) (sym w)
+      (ap (λ (r : Option Lent). firstBytes r e n p) (was-shown e t n x p vs y) ∙ same-shows s e t n x p)))
+
+  -- the first, by its name
+  first-is : {C : Type 0} (r : Queued) (ws : List Queued) → waitingOf (flat ds) ≡ r ∷ ws
+      → ((e t n : ℕ) (x p : List ℕ) → waitingOf (flat ds) ≡ waits e t n x p ∷ ws → r ≡ waits e t n x p → C) → C
+  first-is r ws y f =
+      waiting-cases (flat ds) (waitingOf (flat ds)) refl (λ z. absurd (let w : _≡_ {A = ℕ} 0 1 = cc in omega arith))
+      (λ e t n x p vs z w. let u : r ≡ waits e t n x p = cc in let v : vs ≡ ws = cc in f e t n x p (z ∙ ap (λ (l : List Queued). waits e t n x p ∷ l) v) u)
+
+  pub shows-after : Waited (flat ds) (flat us) → Shows o (waitingOf (flat us))
+  shows-after (longer more a z) = longer-shows more a z
+  shows-after (written v r ws y z) =
+      first-is r ws y λ e t n x p w u.
+      subst (Shows o) (sym (z ∙ ap (λ (g : Queued). putWith v g ∷ ws) u))
+      (ap (λ (l : Option Lent). firstBytes l e n v) (was-shown e t n x p ws w) ∙ same-shows s e t n x v)
+  shows-after (answered r ws y z) =
+      first-is r ws y λ e t n x p w u.
+      subst (Shows o) (sym z) (next e t n x p w ws refl)
+    where
+      next : (e t n : ℕ) (x p : List ℕ) → waitingOf (flat ds) ≡ waits e t n x p ∷ ws → (vs : List Queued) → vs ≡ ws → Shows o vs
+      next e t n x p w [] g = tt
+      next e t n x p w (plain a b c ∷ vs) g = tt
+      next e t n x p w (waits e′ t′ n′ x′ p′ ∷ vs) g =
+          let m : Mem (waits e′ t′ n′ x′ p′) ws = subst (Mem (waits e′ t′ n′ x′ p′)) g (here refl) in
+          ap (λ (l : Option Lent). firstBytes l e′ n′ p′) (was-shown e t n x p ws w)
+          ∙ other-shows s e t n x e′ n′ p′
+          (λ a b.
+          first-alone (flat ds) (waits-once s q ds h) e t n x p ws w t′ x′ p′
+          (subst (λ (k : ℕ). Mem (waits k t′ n x′ p′) ws) (sym a) (subst (λ (k : ℕ). Mem (waits e′ t′ k x′ p′) ws) (sym b) m)))
+          ∙ each-as-laid s q ds h (waits e t n x p) ws w e′ t′ n′ x′ p′ m
+      next e t n x p w (sealed a b c f k l ∷ vs) g = tt
