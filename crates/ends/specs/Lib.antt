@@ -2,3 +2,4 @@ pub mod Sender
 pub mod Numbers
 pub mod Laying
 pub mod Asked
+pub mod Replies
