@@ -47,7 +47,7 @@ used-epochs k e =
     let P : SendKeys → Type 0 = λ l. (l .handshake .epoch ≡ k .handshake .epoch) × (l .application .epoch ≡ k .application .epoch) in
     by-test P (λ a. (refl, refl)) (λ a. by-test P (λ b. (refl, refl)) (λ b. (refl, refl)))
 
-usable-same : (k l : SendKeys) (x : ℕ) → l .application .epoch ≡ k .application .epoch → isUsable l x ≡ isUsable k x
+pub usable-same : (k l : SendKeys) (x : ℕ) → l .application .epoch ≡ k .application .epoch → isUsable l x ≡ isUsable k x
 unfolding isUsable
 usable-same k l x q = ap (λ (n : ℕ). either (eqb x 0) (either (eqb x 2) (both (leb 3 x) (eqb x n)))) q
 

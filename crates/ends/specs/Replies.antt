@@ -8,6 +8,7 @@ use lib.ListN.{length, take, drop, getD}
 use lib.Seq.{take-add, take-append-seam, getD-append-add}
 use mathlib.Core.Bool.{Bool, true, false, true≢false, false≢true}
 use mathlib.Core.List.{List, [], _∷_, _++_, List·Memᴰ as Mem, List·Memᴰ·head as here, List·Memᴰ·tail as there}
+use mathlib.Core.Logic.{_⊎_, inl, inr, ⊎-elim}
 use mathlib.Core.Option.{Option, none, some}
 use mathlib.Core.Path.{_≡_, refl, sym, ap, subst, _∙_}
 use native.Mathlib.Omega.{arith}
@@ -35,7 +36,7 @@ use Rattle.history.specs.Lists.{upd-by, mem-by}
 use Rattle.history.specs.Receiver.{Sealed, Handed}
 use Rattle.ends.specs.Asked.{lentFor, part-is, waiting-mem, mem-waiting, first-alone}
 use Rattle.ends.specs.Laying.{lineIn, linesIn, Laying}
-use Rattle.ends.specs.Numbers.{Reached, Numbers}
+use Rattle.ends.specs.Numbers.{Reached, Numbers, usable-same}
 use Rattle.ends.specs.Sender.{Line, done, due, Books, finish, sealedAs}
 
 -- a record as it is logged
@@ -141,3 +142,118 @@ module _ (s : Sending) (q : List ℕ) (ds : List (List Queued)) (h : Holds s q d
         header = ap (unifiedHeader e n) (sym (r .part));
         wire = ap (λ (l : List ℕ). l ++ p) (mask-same (masks e (take 16 p)) one two (length x + 17) ∙ ap (λ (a : ℕ). maskedHeader e n a (masks e (take 16 p))) (sym (r .part)));
       }
+
+-- ---- the records behind it
+
+-- what still waits waited before
+still-waits : (m : List ℕ) (e t n : ℕ) (x p : List ℕ) (rs : List Queued) → Mem (waits e t n x p) (firstIn (sealWith m) rs) → Mem (waits e t n x p) rs
+still-waits m e t n x p [] o = o
+still-waits m e t n x p (plain a b c ∷ rs) o = mem-by o (λ (q : waits e t n x p ≡ plain a b c). here q) (λ o′. there (still-waits m e t n x p rs o′))
+still-waits m e t n x p (waits a b c d f ∷ rs) o =
+    mem-by o (λ (q : waits e t n x p ≡ sealed a b c d m f). absurd (let z : _≡_ {A = ℕ} 0 1 = cc in omega arith)) (λ o′. there o′)
+still-waits m e t n x p (sealed a b c d f g ∷ rs) o = mem-by o (λ (q : waits e t n x p ≡ sealed a b c d f g). here q) (λ o′. there (still-waits m e t n x p rs o′))
+
+-- the line of the first that waits is finished
+pub lines-sealed : (m : List ℕ) (e t n : ℕ) (x p : List ℕ) (us rs : List Queued) → waitingOf rs ≡ waits e t n x p ∷ us
+    → finish e n (maskedHeader e n (length x + 17) m ++ p) (linesIn rs) ≡ linesIn (firstIn (sealWith m) rs)
+lines-sealed m e t n x p us [] y = absurd (let z : _≡_ {A = ℕ} 0 1 = cc in omega arith)
+lines-sealed m e t n x p us (plain a b c ∷ rs) y = ap (λ (l : List Line). lineIn (plain a b c) ∷ l) (lines-sealed m e t n x p us rs y)
+lines-sealed m e t n x p us (waits a b c d f ∷ rs) y =
+    let i : a ≡ e = cc in
+    let j : c ≡ n = cc in
+    let u : d ≡ x = cc in
+    let v : f ≡ p = cc in
+    if-true _ _ (both-true (eq-eqb a e i) ∙ eq-eqb c n j) ∙ ap (λ (l : List ℕ). done l ∷ linesIn rs) (rw (i, j, u, v))
+lines-sealed m e t n x p us (sealed a b c d f g ∷ rs) y = ap (λ (l : List Line). lineIn (sealed a b c d f g) ∷ l) (lines-sealed m e t n x p us rs y)
+
+-- lines that are finished
+abbrev pub AllDone : List Line → Type 0
+AllDone [] = Unit {0}
+AllDone (done b ∷ ls) = AllDone ls
+AllDone (due e n ∷ ls) = ⊥
+
+pub finish-behind : (e n : ℕ) (b : List ℕ) (gone ls : List Line) → AllDone gone → finish e n b (gone ++ ls) ≡ gone ++ finish e n b ls
+finish-behind e n b [] ls a = refl
+finish-behind e n b (done c ∷ gone) ls a = ap (λ (l : List Line). done c ∷ l) (finish-behind e n b gone ls a)
+finish-behind e n b (due k m ∷ gone) ls a = absurd a
+
+pub same-numbers : (k l : SendKeys) (sent : ℕ → List Handed) → l .handshake .epoch ≡ k .handshake .epoch → l .application .epoch ≡ k .application .epoch
+    → ((x : ℕ) → nextOf l x ≡ nextOf k x) → Numbers k sent → Numbers l sent
+same-numbers k l sent a b c i = record {
+  once = i .once;
+  below = λ e h m u. subst (λ (n : ℕ). h .num < n) (sym (c e)) (i .below e h m (sym (usable-same k l e b) ∙ u));
+  early = λ e h m. ⊎-elim (λ z. inl (subst (λ (n : ℕ). e ≤ n) (sym a) z)) (λ z. inr (subst (λ (n : ℕ). e ≤ n) (sym b) z)) (i .early e h m);
+}
+
+sealed-keys : (k : SendKeys) (e n : ℕ) → (sealedUpTo k e n .handshake .epoch ≡ k .handshake .epoch) × (sealedUpTo k e n .application .epoch ≡ k .application .epoch)
+    × ((x : ℕ) → nextOf (sealedUpTo k e n) x ≡ nextOf k x)
+unfolding sealedUpTo nextOf
+sealed-keys k e n =
+    by-test (λ (l : SendKeys). (l .handshake .epoch ≡ k .handshake .epoch) × (l .application .epoch ≡ k .application .epoch) × ((x : ℕ) → nextOf l x ≡ nextOf k x))
+    (λ t. (refl, refl, λ x. refl)) (λ t. (refl, refl, λ x. refl))
+
+sealed-numbers : (k : SendKeys) (sent : ℕ → List Handed) (e n : ℕ) → Numbers k sent → Numbers (sealedUpTo k e n) sent
+sealed-numbers k sent e n i =
+    same-numbers k (sealedUpTo k e n) sent (sealed-keys k e n .0) (sealed-keys k e n .1) (λ x. sealed-keys k e n .2 x) i
+
+module _ (log : ℕ → List Sealed) (gone : List Line) (over : AllDone gone) (s : Sending) (q : List ℕ) (ds : List (List Queued)) (b : Books)
+    (i : Laying log gone s q ds b) (k : ℕ) (m : List ℕ) (d : isSealed (sealAnswer s (length q) k) ≡ true)
+    (e t n : ℕ) (x p : List ℕ) (us : List Queued) (y : waitingOf (flat ds) ≡ waits e t n x p ∷ us) where
+  abbrev a : SealAnswer
+  a = sealAnswer s (length q) k
+
+  abbrev new : Sealed
+  new = logged e t n x m p
+
+  abbrev log′ : ℕ → List Sealed
+  log′ = upd log e (logged e t n x m p ∷ log e)
+
+  flat-is : flat (afterReply (sealAnswer s (length q) k) m ds) ≡ firstIn (sealWith m) (flat ds)
+  flat-is = ap flat (if-true _ _ d) ∙ flat-first (sealWith m) ds
+
+  first-one : Mem (waits e t n x p) (flat ds)
+  first-one = waiting-mem (waits e t n x p) (flat ds) (subst (Mem (waits e t n x p)) (sym y) (here refl))
+
+  -- the number was not sealed before
+  pub not-sealed : (r : Sealed) → Mem r (log e) → r .num ≡ n → ⊥
+  not-sealed r o z = i .apart e t n x p first-one r o z
+
+  -- no other that waits has it
+  none-with : (e′ t′ n′ : ℕ) (x′ p′ : List ℕ) → Mem (waits e′ t′ n′ x′ p′) (firstIn (sealWith m) (flat ds)) → e′ ≡ e → n′ ≡ n → ⊥
+  none-with e′ t′ n′ x′ p′ o u v =
+      first-alone (flat ds) (waits-once s q ds (i .holds)) e t n x p us y t′ x′ p′
+      (subst (λ (c : ℕ). Mem (waits c t′ n x′ p′) us) u
+      (subst (λ (c : ℕ). Mem (waits e′ t′ c x′ p′) us) v
+      (subst (Mem (waits e′ t′ n′ x′ p′)) (waiting-sealed m (flat ds) (waits e t n x p) us y)
+      (mem-waiting e′ t′ n′ x′ p′ (firstIn (sealWith m) (flat ds)) o))))
+
+  keys-then : Numbers (sealedState (sealAnswer s (length q) k) s q .state .keys) (b .sent)
+  unfolding sealedState
+  keys-then =
+      subst (λ (u : Sending). Numbers (u .keys) (b .sent)) (sym (if-true (afterSealing s q) s d))
+      (sealed-numbers (s .keys) (b .sent) (s .waiting .epoch) (s .waiting .number) (i .numbers))
+
+  pub reply-lays : Laying log′ gone (sealedState (sealAnswer s (length q) k) s q .state) (sealedMemory (sealAnswer s (length q) k) s m q)
+      (afterReply (sealAnswer s (length q) k) m ds)
+      (record { sent = b .sent; lines = finish e n (maskedHeader e n (length x + 17) m ++ p) (b .lines) })
+  reply-lays = record {
+    holds = seal-holds s q ds (i .holds) k m;
+    numbers = keys-then;
+    waiting-sent = λ e′ t′ n′ x′ p′ o. i .waiting-sent e′ t′ n′ x′ p′ (still-waits m e′ t′ n′ x′ p′ (flat ds) (subst (Mem (waits e′ t′ n′ x′ p′)) flat-is o));
+    sealed-sent = λ c r.
+        upd-by log e (new ∷ log e) (λ c l. Mem r l → Mem (asHanded r) (b .sent c)) c
+        (λ same o.
+        subst (λ (v : ℕ). Mem (asHanded r) (b .sent v)) (sym same)
+        (mem-by o (λ (z : r ≡ new). subst (λ (v : Sealed). Mem (asHanded v) (b .sent e)) (sym z) (i .waiting-sent e t n x p first-one)) (λ o′. i .sealed-sent e r o′)))
+        (λ other o. i .sealed-sent c r o);
+    apart = λ e′ t′ n′ x′ p′ o r.
+        let f = subst (Mem (waits e′ t′ n′ x′ p′)) flat-is o in
+        upd-by log e (new ∷ log e) (λ c l. Mem (waits c t′ n′ x′ p′) (firstIn (sealWith m) (flat ds)) → Mem r l → r .num ≡ n′ → ⊥) e′
+        (λ same g w z.
+        mem-by w (λ (v : r ≡ new). none-with e′ t′ n′ x′ p′ g same (sym z ∙ ap (λ (u : Sealed). u .num) v))
+        (λ w′. i .apart e′ t′ n′ x′ p′ (still-waits m e′ t′ n′ x′ p′ (flat ds) g) r (subst (λ (v : ℕ). Mem r (log v)) (sym same) w′) z))
+        (λ other g w z. i .apart e′ t′ n′ x′ p′ (still-waits m e′ t′ n′ x′ p′ (flat ds) g) r w z) f;
+    lines = ap (finish e n (maskedHeader e n (length x + 17) m ++ p)) (i .lines)
+        ∙ finish-behind e n (maskedHeader e n (length x + 17) m ++ p) gone (linesIn (flat ds)) over
+        ∙ ap (λ (l : List Line). gone ++ l) (lines-sealed m e t n x p us (flat ds) y ∙ ap linesIn (sym flat-is));
+  }
