@@ -30,7 +30,7 @@ use Rattle.history.specs.Account.{upd}
 use Rattle.history.specs.Claim.{asHanded}
 use Rattle.history.specs.Lists.{upd-same, upd-by}
 use Rattle.history.specs.Receiver.{Sealed, Handed}
-use Rattle.ends.specs.Numbers.{Numbers, sent-numbers}
+use Rattle.ends.specs.Numbers.{Numbers, sent-numbers, Ivs, used-ivs}
 use Rattle.ends.specs.Sender.{Line, done, due, Books, lineOf, written, lays, pieceSize, piece, pieceBooks, laysAll, Stores, messageBooks}
 
 -- the lines of the queue's records
@@ -50,17 +50,18 @@ lines-append (r ∷ rs) us = ap (λ (l : List Line). lineIn r ∷ l) (lines-appe
 abbrev pub handedAs : ℕ → ℕ → List ℕ → Handed
 handedAs n t x = record { num = n; type = t; content = x }
 
-pub record Laying (log : ℕ → List Sealed) (gone : List Line) (s : Sending) (q : List ℕ) (ds : List (List Queued)) (b : Books) : Type 0 where
+pub record Laying (log : ℕ → List Sealed) (gone : List Line) (ivs : ℕ → List ℕ) (s : Sending) (q : List ℕ) (ds : List (List Queued)) (b : Books) : Type 0 where
   pub holds : Holds s q ds
   pub numbers : Numbers (s .keys) (b .sent)
   pub waiting-sent : (e t n : ℕ) (x p : List ℕ) → Mem (waits e t n x p) (flat ds) → Mem (handedAs n t x) (b .sent e)
   pub sealed-sent : (e : ℕ) (r : Sealed) → Mem r (log e) → Mem (asHanded r) (b .sent e)
   pub apart : (e t n : ℕ) (x p : List ℕ) → Mem (waits e t n x p) (flat ds) → (r : Sealed) → Mem r (log e) → r .num ≡ n → ⊥
   pub lines : b .lines ≡ gone ++ linesIn (flat ds)
+  pub same-ivs : Ivs (s .keys) ivs
 
 -- ---- one record more
 
-module _ {log : ℕ → List Sealed} {gone : List Line} {s : Sending} {q : List ℕ} {ds : List (List Queued)} {b : Books} (i : Laying log gone s q ds b)
+module _ {log : ℕ → List Sealed} {gone : List Line} {ivs : ℕ → List ℕ} {s : Sending} {q : List ℕ} {ds : List (List Queued)} {b : Books} (i : Laying log gone ivs s q ds b)
     (e t : ℕ) (x : List ℕ) (c : Sent s (length q) e t (length x)) where
   abbrev n : ℕ
   n = nextOf (s .keys) e
@@ -85,7 +86,7 @@ module _ {log : ℕ → List Sealed} {gone : List Line} {s : Sending} {q : List 
       (λ z. ap (λ (r : Queued). lineIn r ∷ []) (if-true _ _ z) ∙ ap (λ (l : List ℕ). done l ∷ []) (bytes-plaintext refl t n x) ∙ ap (λ (l : Line). l ∷ []) (sym (if-true _ _ z)))
       (λ z. ap (λ (r : Queued). lineIn r ∷ []) (if-false _ _ z) ∙ ap (λ (l : Line). l ∷ []) (sym (if-false _ _ z)))
 
-  laid-on : Laying log gone (laidState s e (length x)) (laidMemory s e t x q) (sentTo s e t x ds) (written s e t x b)
+  laid-on : Laying log gone ivs (laidState s e (length x)) (laidMemory s e t x q) (sentTo s e t x ds) (written s e t x b)
   laid-on = record {
     holds = laid-holds s q ds (i .holds) e t x c;
     numbers = unfold laidState in (sent-numbers (s .keys) (b .sent) (i .numbers) e (c .usable) (c .keyed) (handedAs n t x) refl);
@@ -104,6 +105,7 @@ module _ {log : ℕ → List Sealed} {gone : List Line} {s : Sending} {q : List 
         let u : n′ ≡ n = cc in
         let l : r .num < n = i .numbers .below e (asHanded r) (i .sealed-sent e r (subst (λ (v : ℕ). Mem r (log v)) a o)) (c .usable) in
         omega arith);
+    same-ivs = unfold laidState in (used-ivs (s .keys) e ivs (i .same-ivs));
     lines = ap (λ (l : List Line). l ++ (lineOf e t n x ∷ [])) (i .lines) ∙ append-assoc gone (linesIn (flat ds)) (lineOf e t n x ∷ [])
         ∙ ap (λ (l : List Line). gone ++ l)
         (ap (λ (l : List Line). linesIn (flat ds) ++ l) (sym line-same) ∙ sym (lines-append (flat ds) (recordOf s e t x ∷ [])) ∙ ap linesIn (sym (sent-last s e t x ds)));
@@ -113,10 +115,10 @@ module _ {log : ℕ → List Sealed} {gone : List Line} {s : Sending} {q : List 
       same g = cc
 
 -- wholly or not at all
-module _ {log : ℕ → List Sealed} {gone : List Line} {s : Sending} {q : List ℕ} {ds : List (List Queued)} {b : Books} (i : Laying log gone s q ds b)
+module _ {log : ℕ → List Sealed} {gone : List Line} {ivs : ℕ → List ℕ} {s : Sending} {q : List ℕ} {ds : List (List Queued)} {b : Books} (i : Laying log gone ivs s q ds b)
     (e t : ℕ) (x : List ℕ) where
   lays-on : (a : SendAnswer) → (isDone a ≡ true → Sent s (length q) e t (length x))
-      → Laying log gone (choose (isDone a) (laidState s e (length x)) s) (choose (isDone a) (laidMemory s e t x q) q) (afterSend a s e t x ds) (lays a s e t x b)
+      → Laying log gone ivs (choose (isDone a) (laidState s e (length x)) s) (choose (isDone a) (laidMemory s e t x q) q) (afterSend a s e t x ds) (lays a s e t x b)
   unfolding lays
   lays-on a f =
       test-cases (isDone a)
@@ -127,12 +129,12 @@ module _ {log : ℕ → List Sealed} {gone : List Line} {s : Sending} {q : List 
       rw (if-false (laidState s e (length x)) s d, if-false (laidMemory s e t x q) q d, if-false (sentTo s e t x ds) ds d, if-false (written s e t x b) b d) i)
 
   pub send-lays : let a = sendAnswer s (length q) e t (length x) in
-      Laying log gone (sendState a s e (length x) .state) (sendMemory a s e t x q) (afterSend a s e t x ds) (lays a s e t x b)
+      Laying log gone ivs (sendState a s e (length x) .state) (sendMemory a s e t x q) (afterSend a s e t x ds) (lays a s e t x b)
   unfolding sendState sendMemory
   send-lays = lays-on (sendAnswer s (length q) e t (length x)) (sent s (length q) e t (length x))
 
   pub save-lays : (f : Flight) (room : ℕ) → let a = saveAnswer s f (length q) room e t (length x) in
-      Laying log gone (saveState s f (length q) room e t (length x) .state) (saveQueue s f room e t x q) (afterSend a s e t x ds) (lays a s e t x b)
+      Laying log gone ivs (saveState s f (length q) room e t (length x) .state) (saveQueue s f room e t x q) (afterSend a s e t x ds) (lays a s e t x b)
   unfolding saveState saveQueue
   save-lays f room = lays-on (saveAnswer s f (length q) room e t (length x)) (saved s f (length q) room e t (length x))
 
@@ -145,12 +147,12 @@ unfolding choose
 by-four P true f g = f refl
 by-four P false f g = g refl
 
-module _ (log : ℕ → List Sealed) (gone : List Line) where
+module _ (log : ℕ → List Sealed) (gone : List Line) (ivs : ℕ → List ℕ) where
   piece-lays : (kind : ℕ) (body : List ℕ) (at : ℕ) (l : Laid) (ds : List (List Queued)) (b : Books) → at + pieceSize kind body at l ≤ length body
-      → Laying log gone (l .saved .state) (l .queue) ds b
+      → Laying log gone ivs (l .saved .state) (l .queue) ds b
       → let s = l .saved .state in
       let x = contentOf kind (s .«message_seq») body at (pieceSize kind body at l) in
-      Laying log gone (piece kind body at l .saved .state) (piece kind body at l .queue)
+      Laying log gone ivs (piece kind body at l .saved .state) (piece kind body at l .queue)
       (afterSend (saveAnswer s (l .saved .flight) (length (l .queue)) (length (l .kept)) (epochOf kind) 22 (12 + pieceSize kind body at l)) s (epochOf kind) 22 x ds)
       (pieceBooks kind body at l b)
   unfolding pieceOf
@@ -159,13 +161,13 @@ module _ (log : ℕ → List Sealed) (gone : List Line) where
       let f : Flight = l .saved .flight in
       let x : List ℕ = contentOf kind (s .«message_seq») body at (pieceSize kind body at l) in
       let e : ℕ = epochOf kind in
-      subst (λ (k : ℕ). Laying log gone (saveState s f (length (l .queue)) (length (l .kept)) e 22 k .state) (saveQueue s f (length (l .kept)) e 22 x (l .queue))
+      subst (λ (k : ℕ). Laying log gone ivs (saveState s f (length (l .queue)) (length (l .kept)) e 22 k .state) (saveQueue s f (length (l .kept)) e 22 x (l .queue))
       (afterSend (saveAnswer s f (length (l .queue)) (length (l .kept)) e 22 k) s e 22 x ds) (lays (saveAnswer s f (length (l .queue)) (length (l .kept)) e 22 k) s e 22 x b))
       (length-content kind (s .«message_seq») body at (pieceSize kind body at l) low) (save-lays i e 22 x f (length (l .kept)))
 
   all-lays : (k kind : ℕ) (body : List ℕ) (at : ℕ) (l : Laid) (ds : List (List Queued)) (b : Books) → at ≤ length body
-      → Laying log gone (l .saved .state) (l .queue) ds b
-      → Laying log gone (sendAll k kind body at l .saved .state) (sendAll k kind body at l .queue) (allSent k kind body at l ds) (laysAll k kind body at l b)
+      → Laying log gone ivs (l .saved .state) (l .queue) ds b
+      → Laying log gone ivs (sendAll k kind body at l .saved .state) (sendAll k kind body at l .queue) (allSent k kind body at l ds) (laysAll k kind body at l b)
   unfolding sendAll allSent laysAll
   all-lays zero kind body at l ds b h i = i
   all-lays (suc k) kind body at l ds b h i =
@@ -185,7 +187,7 @@ module _ (log : ℕ → List Sealed) (gone : List Line) where
       (all-lays k kind body (at + m) p us c low one))
 
   -- the number of the message plays no part
-  numbered-lays : (s : Sending) (q : List ℕ) (ds : List (List Queued)) (b : Books) (n : ℕ) → Laying log gone s q ds b → Laying log gone (numbered s n) q ds b
+  numbered-lays : (s : Sending) (q : List ℕ) (ds : List (List Queued)) (b : Books) (n : ℕ) → Laying log gone ivs s q ds b → Laying log gone ivs (numbered s n) q ds b
   numbered-lays s q ds b n i = record {
     holds = record {
       range = i .holds .range;
@@ -202,17 +204,18 @@ module _ (log : ℕ → List Sealed) (gone : List Line) where
     sealed-sent = i .sealed-sent;
     apart = i .apart;
     lines = i .lines;
+    same-ivs = i .same-ivs;
   }
 
-  pub message-lays : (a : SendAnswer) (w : Stores) (kind : ℕ) (body : List ℕ) (ds : List (List Queued)) (b : Books) → Laying log gone (w .state) (w .queue) ds b
-      → Laying log gone (messageState a (w .state) (w .flight) (w .queue) (w .kept) kind body .state) (messageQueue a (w .state) (w .flight) (w .queue) (w .kept) kind body)
+  pub message-lays : (a : SendAnswer) (w : Stores) (kind : ℕ) (body : List ℕ) (ds : List (List Queued)) (b : Books) → Laying log gone ivs (w .state) (w .queue) ds b
+      → Laying log gone ivs (messageState a (w .state) (w .flight) (w .queue) (w .kept) kind body .state) (messageQueue a (w .state) (w .flight) (w .queue) (w .kept) kind body)
       (afterMessage a (w .state) (w .flight) (w .queue) (w .kept) kind body ds) (messageBooks a w kind body b)
   unfolding messageState messageQueue messageBooks
   message-lays a w kind body ds b i =
       let l : Laid = sendAll 13 kind body 0 (beginning (w .state) (w .flight) (w .queue) (w .kept)) in
       let us : List (List Queued) = allSent 13 kind body 0 (beginning (w .state) (w .flight) (w .queue) (w .kept)) ds in
       let c : Books = laysAll 13 kind body 0 (beginning (w .state) (w .flight) (w .queue) (w .kept)) b in
-      by-four (λ (r : Saved) (m : List ℕ) (vs : List (List Queued)) (d : Books). Laying log gone (r .state) m vs d) (isDone a)
+      by-four (λ (r : Saved) (m : List ℕ) (vs : List (List Queued)) (d : Books). Laying log gone ivs (r .state) m vs d) (isDone a)
       {a = record { answer = a; state = numbered (l .saved .state) (w .state .«message_seq» + 1); flight = l .saved .flight }}
       {a′ = record { answer = a; state = w .state; flight = w .flight }} {b = l .queue} {b′ = w .queue} {c = us} {c′ = ds} {d = c} {d′ = b}
       (λ z.

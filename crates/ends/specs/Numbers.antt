@@ -9,14 +9,14 @@ use mathlib.Core.Logic.{_⊎_, inl, inr, ⊎-elim}
 use mathlib.Core.Path.{_≡_, refl, sym, ap, subst, _∙_}
 use native.Mathlib.Omega.{arith}
 use Rattle.base.specs.Choose.{choose, both, either, if-true, if-false, by-test, test-cases, eq-or-ne, both-left, both-right, either-true, either-false}
-use Rattle.send_keys.specs.Keys.{isUsable, isKeyed, nextOf, used, used-next, keyAnswer, begun, keyed}
+use Rattle.send_keys.specs.Keys.{isUsable, isKeyed, nextOf, used, used-next, sealedUpTo, keyAnswer, begun, keyed}
 use Rattle.send_keys.specs.declared.KeyAnswer.the-variants as key
 use Rattle.send_keys.specs.declared.KeyAnswer.{KeyAnswer}
 use Rattle.send_keys.specs.declared.SendKeys.{SendKeys}
 use Rattle.outgoing.specs.State.{isKeyedNow}
 use Rattle.history.specs.Account.{upd}
 use Rattle.history.specs.Claim.{Once}
-use Rattle.history.specs.Lists.{upd-by, empty-list, mem-by, either-cases, both-cases}
+use Rattle.history.specs.Lists.{upd-same, upd-other, upd-by, empty-list, mem-by, either-cases, both-cases}
 use Rattle.history.specs.Receiver.{Handed}
 
 -- at or below an epoch that was keyed
@@ -161,3 +161,35 @@ module _ (k : SendKeys) (sent : ℕ → List Handed) (i : Numbers k sent) (e : �
             (λ low (q : x ≡ e). absurd (unused-yet h (subst (λ (y : ℕ). Mem h (sent y)) q m)));
         early = λ x h m. ⊎-elim (λ l. inl l) (λ l. inr (omega (arith, n .application))) (i .early x h m);
       })
+
+-- ---- the IVs
+
+-- each epoch that may be used has the IV that it was keyed with
+pub record Ivs (k : SendKeys) (ivs : ℕ → List ℕ) : Type 0 where
+  pub handshake : k .handshake .epoch ≡ 2 → k .handshake .iv ≡ ivs 2
+  pub application : 3 ≤ k .application .epoch → k .application .iv ≡ ivs (k .application .epoch)
+
+pub used-ivs : (k : SendKeys) (e : ℕ) (ivs : ℕ → List ℕ) → Ivs k ivs → Ivs (used k e) ivs
+unfolding used
+used-ivs k e ivs i =
+    by-test (λ l. Ivs l ivs) (λ t. record { handshake = i .handshake; application = i .application })
+    (λ t. by-test (λ l. Ivs l ivs) (λ u. record { handshake = i .handshake; application = i .application }) (λ u. record { handshake = i .handshake; application = i .application }))
+
+pub sealed-ivs : (k : SendKeys) (e n : ℕ) (ivs : ℕ → List ℕ) → Ivs k ivs → Ivs (sealedUpTo k e n) ivs
+unfolding sealedUpTo
+sealed-ivs k e n ivs i =
+    by-test (λ l. Ivs l ivs) (λ t. record { handshake = i .handshake; application = i .application }) (λ t. record { handshake = i .handshake; application = i .application })
+
+pub keyed-ivs : (k : SendKeys) (e : ℕ) (iv : List ℕ) (ivs : ℕ → List ℕ) → NewEpoch k e → Ivs k ivs → Ivs (keyed k e iv) (upd ivs e iv)
+unfolding keyed
+keyed-ivs k e iv ivs n i =
+    by-test (λ l. Ivs l (upd ivs e iv))
+    (λ t. let two : e ≡ 2 = eqb-true _ _ t in
+    record {
+      handshake = λ z. subst (λ (x : ℕ). iv ≡ upd ivs e iv x) two (sym (upd-same ivs e iv));
+      application = λ l. i .application l ∙ sym (upd-other ivs e iv (k .application .epoch) (λ z. omega (arith, n .application)));
+    })
+    (λ t. record {
+      handshake = λ z. i .handshake z ∙ sym (upd-other ivs e iv 2 (λ w. eqb-false e 2 t (sym w)));
+      application = λ l. sym (upd-same ivs e iv);
+    })

@@ -36,7 +36,7 @@ use Rattle.history.specs.Lists.{upd-by, mem-by}
 use Rattle.history.specs.Receiver.{Sealed, Handed}
 use Rattle.ends.specs.Asked.{lentFor, part-is, waiting-mem, mem-waiting, first-alone}
 use Rattle.ends.specs.Laying.{lineIn, linesIn, Laying}
-use Rattle.ends.specs.Numbers.{Reached, Numbers, usable-same}
+use Rattle.ends.specs.Numbers.{Reached, Numbers, usable-same, Ivs, sealed-ivs}
 use Rattle.ends.specs.Sender.{Line, done, due, Books, finish, sealedAs}
 
 -- a record as it is logged
@@ -196,8 +196,8 @@ sealed-numbers : (k : SendKeys) (sent : ℕ → List Handed) (e n : ℕ) → Num
 sealed-numbers k sent e n i =
     same-numbers k (sealedUpTo k e n) sent (sealed-keys k e n .0) (sealed-keys k e n .1) (λ x. sealed-keys k e n .2 x) i
 
-module _ (log : ℕ → List Sealed) (gone : List Line) (over : AllDone gone) (s : Sending) (q : List ℕ) (ds : List (List Queued)) (b : Books)
-    (i : Laying log gone s q ds b) (k : ℕ) (m : List ℕ) (d : isSealed (sealAnswer s (length q) k) ≡ true)
+module _ (log : ℕ → List Sealed) (gone : List Line) (ivs : ℕ → List ℕ) (over : AllDone gone) (s : Sending) (q : List ℕ) (ds : List (List Queued)) (b : Books)
+    (i : Laying log gone ivs s q ds b) (k : ℕ) (m : List ℕ) (d : isSealed (sealAnswer s (length q) k) ≡ true)
     (e t n : ℕ) (x p : List ℕ) (us : List Queued) (y : waitingOf (flat ds) ≡ waits e t n x p ∷ us) where
   abbrev a : SealAnswer
   a = sealAnswer s (length q) k
@@ -233,12 +233,19 @@ module _ (log : ℕ → List Sealed) (gone : List Line) (over : AllDone gone) (s
       subst (λ (u : Sending). Numbers (u .keys) (b .sent)) (sym (if-true (afterSealing s q) s d))
       (sealed-numbers (s .keys) (b .sent) (s .waiting .epoch) (s .waiting .number) (i .numbers))
 
-  pub reply-lays : Laying log′ gone (sealedState (sealAnswer s (length q) k) s q .state) (sealedMemory (sealAnswer s (length q) k) s m q)
+  ivs-then : Ivs (sealedState (sealAnswer s (length q) k) s q .state .keys) ivs
+  unfolding sealedState
+  ivs-then =
+      subst (λ (u : Sending). Ivs (u .keys) ivs) (sym (if-true (afterSealing s q) s d))
+      (sealed-ivs (s .keys) (s .waiting .epoch) (s .waiting .number) ivs (i .same-ivs))
+
+  pub reply-lays : Laying log′ gone ivs (sealedState (sealAnswer s (length q) k) s q .state) (sealedMemory (sealAnswer s (length q) k) s m q)
       (afterReply (sealAnswer s (length q) k) m ds)
       (record { sent = b .sent; lines = finish e n (maskedHeader e n (length x + 17) m ++ p) (b .lines) })
   reply-lays = record {
     holds = seal-holds s q ds (i .holds) k m;
     numbers = keys-then;
+    same-ivs = ivs-then;
     waiting-sent = λ e′ t′ n′ x′ p′ o. i .waiting-sent e′ t′ n′ x′ p′ (still-waits m e′ t′ n′ x′ p′ (flat ds) (subst (Mem (waits e′ t′ n′ x′ p′)) flat-is o));
     sealed-sent = λ c r.
         upd-by log e (new ∷ log e) (λ c l. Mem r l → Mem (asHanded r) (b .sent c)) c
