@@ -3,3 +3,4 @@ pub mod Numbers
 pub mod Laying
 pub mod Asked
 pub mod Replies
+pub mod Sends

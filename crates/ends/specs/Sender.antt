@@ -143,6 +143,16 @@ sealedAs l before behind = record {
   wire = part (l .place - 5) (5 + l .size) behind;
 }
 
+-- the bytes of the records that are finished, up to the first that is not; and of the datagrams taken
+abbrev pub finished : List Line → List ℕ
+finished [] = []
+finished (done b ∷ ls) = b ++ finished ls
+finished (due e n ∷ ls) = []
+
+abbrev pub joined : List (List ℕ) → List ℕ
+joined [] = []
+joined (b ∷ bs) = b ++ joined bs
+
 -- ---- the calls
 
 pub data SendCall : Type 0 where
