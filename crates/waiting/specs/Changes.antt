@@ -1,6 +1,6 @@
 -- Where the oldest record that waits lies, and a write over it: the other records stay as they are. Assumes nothing.
 use mathlib.Core.Bool.{true, false≢true}
-use mathlib.Core.List.{List, [], _∷_}
+use mathlib.Core.List.{List, [], _∷_, _++_}
 use mathlib.Core.Path.{_≡_, refl, sym, ap, subst, _∙_}
 use Prim.Native.Nat.{ℕ, _+_, _*_, _<_, _≤_}
 use native.Mathlib.Omega.{arith}
@@ -29,22 +29,25 @@ pub record Within (at end own : ℕ) (w : Waiting) : Type 0 where
   pub epoch : w .epoch < 65536
   pub number : w .number < 281474976710655
 
+within-wider : (at at′ end end′ own : ℕ) (w : Waiting) → at ≤ at′ → end′ ≤ end → Within at′ end′ own w → Within at end own w
+within-wider at at′ end end′ own w a b i = record {
+  any = i .any;
+  slot = i .slot;
+  start = omega (arith, i .start);
+  inside = omega (arith, i .inside);
+  long = i .long;
+  some = i .some;
+  epoch = i .epoch;
+  number = i .number;
+}
+
 pub oldest-within : (mem : List ℕ) (base slot at : ℕ) (rs : List Queued) (w : Waiting) → Lies mem base at rs → waitsIn rs ≡ true
     → Within at (at + length (bytes rs)) slot (oldestIn slot at rs w)
 oldest-within mem base slot at [] w l h = absurd (false≢true h)
 oldest-within mem base slot at (plain t n x ∷ rs) w l h =
     let b : List ℕ = recordBytes 0 t n x in
-    let i = oldest-within mem base slot (at + length b) rs w (l .1) h in
-    record {
-      any = i .any;
-      slot = i .slot;
-      start = omega (arith, i .start);
-      inside = omega (arith, i .inside, length-append b (bytes rs));
-      long = i .long;
-      some = i .some;
-      epoch = i .epoch;
-      number = i .number;
-    }
+    within-wider at (at + length b) (at + length (b ++ bytes rs)) (at + length b + length (bytes rs)) slot (oldestIn slot (at + length b) rs w) (omega arith)
+    (omega (arith, length-append b (bytes rs))) (oldest-within mem base slot (at + length b) rs w (l .1) h)
 oldest-within mem base slot at (waits e t n x p ∷ rs) w l h =
     let s = l .0 .sound in
     record {
@@ -59,17 +62,13 @@ oldest-within mem base slot at (waits e t n x p ∷ rs) w l h =
     }
 oldest-within mem base slot at (sealed e t n x m p ∷ rs) w l h =
     let b : List ℕ = bytesOf (sealed e t n x m p) in
-    let i = oldest-within mem base slot (at + length b) rs w (l .1) h in
-    record {
-      any = i .any;
-      slot = i .slot;
-      start = omega (arith, i .start);
-      inside = omega (arith, i .inside, length-append b (bytes rs));
-      long = i .long;
-      some = i .some;
-      epoch = i .epoch;
-      number = i .number;
-    }
+    within-wider at (at + length b) (at + length (b ++ bytes rs)) (at + length b + length (bytes rs)) slot (oldestIn slot (at + length b) rs w) (omega arith)
+    (omega (arith, length-append b (bytes rs))) (oldest-within mem base slot (at + length b) rs w (l .1) h)
+
+-- in a datagram it lies within the MTU
+row-within : (mtu : ℕ) (lengths mem : List ℕ) (slot : ℕ) (d : List Queued) (w : Waiting) → Row mtu lengths mem slot d → waitsIn d ≡ true → Within 0 mtu slot (oldestIn slot 0 d w)
+row-within mtu lengths mem slot d w r a =
+    within-wider 0 0 mtu (0 + length (bytes d)) slot (oldestIn slot 0 d w) (omega arith) (omega (arith, r .short)) (oldest-within mem (slot * mtu) slot 0 d w (r .lies) a)
 
 -- in one of the datagrams from the i-th to below the n-th
 pub record Found (q : Queue) (i n : ℕ) (w : Waiting) : Type 0 where
@@ -86,22 +85,7 @@ oldest-found q mem i (d ∷ ds) w r h =
     let later : Waiting = oldestOf (q .first) (q .limit) (i + 1) ds w in
     test-cases (waitsIn d)
     (λ a.
-    let v = oldest-within mem (slot * q .mtu) slot 0 d later (r .0 .lies) a in
-    record {
-      datagram = i;
-      low = omega arith;
-      high = omega arith;
-      within = record {
-        any = v .any;
-        slot = v .slot;
-        start = omega arith;
-        inside = omega (arith, v .inside, r .0 .short);
-        long = v .long;
-        some = v .some;
-        epoch = v .epoch;
-        number = v .number;
-      };
-    })
+    record { datagram = i; low = omega arith; high = omega arith; within = row-within (q .mtu) (q .lengths) mem slot d later (r .0) a })
     (λ a.
     let v = oldest-found q mem (i + 1) ds w (r .1) (sym (waits-append d (flat ds) a) ∙ h) in
     subst (Found q i (i + length (d ∷ ds))) (sym (none-in slot 0 d later a))
@@ -190,21 +174,11 @@ module _ (f : Queued → Queued) (q : Queue) (range : InRange q) (p n : ℕ) (me
       let later : Waiting = oldestOf (q .first) (q .limit) (i + 1) ds w in
       test-cases (waitsIn d)
       (λ a.
-      let v = oldest-within mem (slot * q .mtu) slot 0 d later (r .0 .lies) a in
-      let v′ : Within 0 (q .mtu) slot (oldestIn slot 0 d later) = record {
-        any = v .any;
-        slot = v .slot;
-        start = omega arith;
-        inside = omega (arith, v .inside, r .0 .short);
-        long = v .long;
-        some = v .some;
-        epoch = v .epoch;
-        number = v .number;
-      } in
+      let v : Within 0 (q .mtu) slot (oldestIn slot 0 d later) = row-within (q .mtu) (q .lengths) mem slot d later (r .0) a in
       let c = first-lies f (q .mtu) p n mem mem′ slot 0 d later g a (r .0 .lies) in
       subst (Rows q mem′ i) (sym (if-true (firstIn f d ∷ ds) (d ∷ firstOf f ds) a)) (
         record { some = omega (arith, length-in f d, r .0 .some); size = r .0 .size ∙ sym (c .1); short = omega (arith, c .1, r .0 .short); lies = c .0 },
-        rows-elsewhere i (oldestIn slot 0 d later) (omega arith) v′ g (i + 1) ds (omega arith) (omega arith) (r .1),
+        rows-elsewhere i (oldestIn slot 0 d later) (omega arith) v g (i + 1) ds (omega arith) (omega arith) (r .1),
       ))
       (λ a.
       let e : oldestIn slot 0 d later ≡ later = none-in slot 0 d later a in

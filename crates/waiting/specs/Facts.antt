@@ -16,7 +16,7 @@ use Rattle.queue.specs.Laid.{trailerOf}
 use Rattle.send_keys.specs.declared.SendKeys.{SendKeys}
 use Rattle.send_keys.specs.Keys.{nextOf, next-handshake, next-application}
 use Rattle.outgoing.specs.declared.Sending.{Sending}
-use Rattle.waiting.specs.Queued.{Queued, plain, waits, sealed, bytesOf, bytes, flat, waitingOf, numbersOf, Stands, Lies, Rows, AsLaid, InOrder, Runs, Under, Holds}
+use Rattle.waiting.specs.Queued.{Queued, plain, waits, sealed, bytesOf, bytes, flat, waitingOf, numbersOf, Stands, Lies, Rows, AsLaid, InOrder, sealedOf, Runs, Under, Holds}
 use Rattle.waiting.specs.Lists.{runs-length}
 
 -- ---- each record's bytes lie in the memory
@@ -180,9 +180,9 @@ module _ (s : Sending) (mem : List ℕ) (ds : List (List Queued)) (h : Holds s m
       (a .handshake) (a .application) (a .under)
       (λ z. ⊎-elim (λ (u : s .keys .application .epoch ≡ 0). omega arith) (λ (u : 3 ≤ s .keys .application .epoch). omega arith) (a .epoch))
 
-  -- each number that waits is below the next one of its epoch
-  pub waits-below : (e t n : ℕ) (x p : List ℕ) → Mem (waits e t n x p) (flat ds) → n < nextOf (s .keys) e
-  waits-below e t n x p m =
+  -- each number that waits is not sealed yet, and below the next one of its epoch
+  pub waits-between : (e t n : ℕ) (x p : List ℕ) → Mem (waits e t n x p) (flat ds) → (sealedOf (s .keys) e ≤ n) × (n < nextOf (s .keys) e)
+  waits-between e t n x p m =
       let a = h .keys in
       let k : SendKeys = s .keys in
       let some : 0 < e = each-lies (waits e t n x p) m .stands .sound .some in
@@ -191,8 +191,13 @@ module _ (s : Sending) (mem : List ℕ) (ds : List (List Queued)) (h : Holds s m
       ⊎-elim
       (λ (y : e ≡ 2).
       let f = runs-below 2 (k .handshake .sealed) (k .handshake .next) t n x p (flat ds) (a .handshake) (subst (λ (i : ℕ). Mem (waits i t n x p) (flat ds)) y m) in
-      omega (arith, f .1, next-handshake k ne y))
+      (subst (λ (i : ℕ). i ≤ n) (sym (if-true _ _ (eq-eqb e 2 y))) (f .0), omega (arith, f .1, next-handshake k ne y)))
       (λ (y : e ≡ k .application .epoch).
       let f = runs-below (k .application .epoch) (k .application .sealed) (k .application .next) t n x p (flat ds) (a .application) (subst (λ (i : ℕ). Mem (waits i t n x p) (flat ds)) y m) in
-      omega (arith, f .1, next-application k ne (λ z. two (sym y ∙ z))))
+      let other : e ≡ 2 → ⊥ = λ z. two (sym y ∙ z) in
+      (subst (λ (i : ℕ). i ≤ n) (sym (if-false _ _ (ne-eqb e 2 other))) (f .0), omega (arith, f .1, next-application k ne other)))
       (under-each (k .application .epoch) e t n x p (flat ds) (a .under) m)
+
+  -- it is of epoch 2 or of the application epoch
+  pub waits-under : (e t n : ℕ) (x p : List ℕ) → Mem (waits e t n x p) (flat ds) → (e ≡ 2) ⊎ (e ≡ s .keys .application .epoch)
+  waits-under e t n x p m = under-each (s .keys .application .epoch) e t n x p (flat ds) (h .keys .under) m

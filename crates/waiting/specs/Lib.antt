@@ -18,3 +18,5 @@ pub mod Facts
 pub mod Effects
 pub mod Calls
 pub mod Never
+pub mod Replies
+pub mod Asked

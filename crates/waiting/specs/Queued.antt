@@ -140,7 +140,11 @@ oldestOf first limit i (d ∷ ds) w = oldestIn (slotOf first limit i) 0 d (oldes
 
 -- ---- what the keys know of it
 
--- a list is a, a + 1 and so on, up to b
+-- the first number of an epoch that is not sealed yet
+abbrev pub sealedOf : SendKeys → ℕ → ℕ
+sealedOf k e = choose (eqb e 2) (k .handshake .sealed) (k .application .sealed)
+
+-- a list is a, a + 1 and so on, up to below b
 abbrev pub Runs : ℕ → ℕ → List ℕ → Type 0
 Runs a b [] = a ≡ b
 Runs a b (n ∷ ns) = (n ≡ a) × Runs (a + 1) b ns
@@ -152,7 +156,8 @@ Under k (plain t n x ∷ rs) = Under k rs
 Under k (waits e t n x p ∷ rs) = ((e ≡ 2) ⊎ (e ≡ k)) × Under k rs
 Under k (sealed e t n x m p ∷ rs) = Under k rs
 
--- the numbers that wait are those from the last sealed to the next to be used, of both epochs
+-- the numbers that wait are those from the first not sealed yet up to the next to be used, of both epochs; under epoch 2 none waits unless it
+-- is keyed; the application epoch is none yet, or 3 or above
 pub record Agrees (k : SendKeys) (rs : List Queued) : Type 0 where
   pub handshake : Runs (k .handshake .sealed) (k .handshake .next) (numbersOf 2 rs)
   pub application : Runs (k .application .sealed) (k .application .next) (numbersOf (k .application .epoch) rs)

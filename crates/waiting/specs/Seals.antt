@@ -131,7 +131,7 @@ module _ (s : Sending) (mem : List ℕ) (ds : List (List Queued)) (h : Holds s m
     abbrev header : List ℕ
     header = maskedHeader (s .waiting .epoch) (s .waiting .number) (s .waiting .length) m
 
-    seal-writes : Writes (sealWith m) (s .queue .mtu) base (length header) mem (splice base header mem) (s .waiting)
+    pub seal-writes : Writes (sealWith m) (s .queue .mtu) base (length header) mem (splice base header mem) (s .waiting)
     seal-writes =
         let five : length header ≡ 5 = length-masked (s .waiting .epoch) (s .waiting .number) (s .waiting .length) m in
         let fits : base + length header ≤ length mem = omega (arith, lies-inside any) in
@@ -193,7 +193,7 @@ abbrev pub afterReply : SealAnswer → List ℕ → List (List Queued) → List 
 afterReply a m ds = choose (isSealed a) (firstOf (sealWith m) ds) ds
 
 -- 15 is for no question or the wrong length, and 12 never comes
-sealed-tests : (s : Sending) (room n : ℕ) → isSealed (sealAnswer s room n) ≡ true → (s .waiting .any ≡ true) × (n ≡ s .waiting .length)
+pub sealed-tests : (s : Sending) (room n : ℕ) → isSealed (sealAnswer s room n) ≡ true → (s .waiting .any ≡ true) × (n ≡ s .waiting .length)
 unfolding sealAnswer
 sealed-tests s room n =
     let P : SealAnswer → Type 0 = λ a. isSealed a ≡ true → (s .waiting .any ≡ true) × (n ≡ s .waiting .length) in

@@ -232,6 +232,11 @@ module _ (s : Sending) (mem : List ℕ) (ds : List (List Queued)) (h : Holds s m
       by-answer (saveAnswer s f (length mem) room e t (length x))
       (λ d. laid-holds s mem ds h e t x (saved s f (length mem) room e t (length x) d))
 
+-- a refused saved send leaves the queue's memory (state and flight: messages, `refused-saved`)
+pub save-refused : (s : Sending) (f : Flight) (room e t : ℕ) (x mem : List ℕ) → isDone (saveAnswer s f (length mem) room e t (length x)) ≡ false → saveQueue s f room e t x mem ≡ mem
+unfolding saveQueue
+save-refused s f room e t x mem d = if-false _ _ d
+
 -- the records are those that were there, and this one behind them
 pub sent-last : (s : Sending) (e t : ℕ) (x : List ℕ) (ds : List (List Queued)) → flat (sentTo s e t x ds) ≡ flat ds ++ recordOf s e t x ∷ []
 sent-last s e t x ds = flat-grown (joins (s .queue .mtu) (tailOf (s .queue)) (recordLen e (length x))) ds (recordOf s e t x)
