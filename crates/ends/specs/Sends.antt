@@ -13,6 +13,7 @@ use Rattle.base.specs.Choose.{choose, if-true, if-false, by-test, test-cases, e
 use Rattle.base.specs.Parts.{part, splice-here}
 use Rattle.dtls_aead.specs.Nonce.{nonceOf}
 use Rattle.queue.specs.Queue.{isSetting, isSound}
+use Rattle.send_keys.specs.declared.KeyAnswer.{KeyAnswer}
 use Rattle.send_keys.specs.Keys.{isUsable, nextOf, ivOf, keyAnswer, keyed, noEpoch, noKeys}
 use Rattle.outgoing.specs.declared.Sending.{Sending}
 use Rattle.outgoing.specs.State.{freshSending, isKeyedNow, withKeys, keyingState}
@@ -22,21 +23,23 @@ use Rattle.messages.specs.Message.{messageAnswer}
 use Rattle.sealing.specs.declared.SealAnswer.{SealAnswer}
 use Rattle.sealing.specs.declared.TakeAnswer.the-variants as took
 use Rattle.sealing.specs.declared.TakeAnswer.{TakeAnswer}
-use Rattle.sealing.specs.Sealing.{partStart, isPut, sealAnswer, isSealed, sealedState, sealedMemory}
+use Rattle.sealing.specs.Sealing.{partStart, isPut, putMemory, sealAnswer, isSealed, sealedState, sealedMemory}
 use Rattle.sealing.specs.Take.{frontLen, takeAnswer, isTaken, takeState, takeBuffer, takes}
 use Rattle.waiting.specs.Calls as call
 use Rattle.waiting.specs.Calls.Call.{key as keyCall, send as sendCall, save as saveCall, message as messageCall, begin as beginCall, put as putCall, reply as replyCall, take as takeCall}
 use Rattle.waiting.specs.Effects.{Waited, oldest-first}
 use Rattle.waiting.specs.Facts.{waits-between, waits-under}
+use Rattle.waiting.specs.First.{sealWith, putWith, firstIn, flat-first}
 use Rattle.waiting.specs.Fresh.{fresh-holds}
 use Rattle.waiting.specs.Keying.{keying-holds}
 use Rattle.waiting.specs.Queued.{Queued, plain, waits, sealed, bytesOf, bytes, flat, waitingOf, waitsIn, Holds}
+use Rattle.waiting.specs.Seals.{afterPut, put-holds, afterReply}
 use Rattle.waiting.specs.Takes.{front-size, take-told, taken-settled, take-bytes}
 use Rattle.history.specs.Account.{upd}
 use Rattle.history.specs.Claim.{Masks}
 use Rattle.history.specs.Direction.{Shaped}
 use Rattle.history.specs.Half.{Shape}
-use Rattle.history.specs.Lists.{upd-same, upd-by, some-inj, some≢none, mem-by}
+use Rattle.history.specs.Lists.{by-both, upd-same, upd-by, some-inj, some≢none, mem-by}
 use Rattle.history.specs.Receiver.{Sealed, Handed}
 use Rattle.ends.specs.Asked.{lentFor, LentIs, waiting-cases, waiting-mem, part-is, lends-is, shows-after}
 use Rattle.ends.specs.Laying.{lineIn, linesIn, lines-append, Laying, send-lays, save-lays, message-lays}
@@ -114,6 +117,31 @@ joined-more : (ts : List (List ℕ)) (b : List ℕ) → joined (ts ++ (b ∷ [])
 joined-more [] b = append-nil b
 joined-more (t ∷ ts) b = ap (λ (l : List ℕ). t ++ l) (joined-more ts b) ∙ sym (append-assoc t (joined ts) b)
 
+-- ---- the host's bytes in the part of the first that waits
+
+put-was : {C : Type 0} (v : List ℕ) (e t n : ℕ) (c p : List ℕ) (rs : List Queued) → Mem (waits e t n c p) (firstIn (putWith v) rs)
+    → ((p′ : List ℕ) → Mem (waits e t n c p′) rs → C) → C
+put-was v e t n c p [] m f = f p m
+put-was v e t n c p (plain a b d ∷ rs) m f =
+    mem-by m (λ (q : waits e t n c p ≡ plain a b d). f p (here q)) (λ o. put-was v e t n c p rs o (λ p′ o′. f p′ (there o′)))
+put-was v e t n c p (waits a b d g h ∷ rs) m f =
+    mem-by m
+    (λ (q : waits e t n c p ≡ waits a b d g v).
+    let i : e ≡ a = cc in
+    let j : t ≡ b = cc in
+    let k : n ≡ d = cc in
+    let l : c ≡ g = cc in
+    f h (here (rw (i, j, k, l))))
+    (λ o. f p (there o))
+put-was v e t n c p (sealed a b d g h k ∷ rs) m f =
+    mem-by m (λ (q : waits e t n c p ≡ sealed a b d g h k). f p (here q)) (λ o. put-was v e t n c p rs o (λ p′ o′. f p′ (there o′)))
+
+put-lines : (v : List ℕ) (rs : List Queued) → linesIn (firstIn (putWith v) rs) ≡ linesIn rs
+put-lines v [] = refl
+put-lines v (plain a b d ∷ rs) = ap (λ (l : List Line). lineIn (plain a b d) ∷ l) (put-lines v rs)
+put-lines v (waits a b d g h ∷ rs) = refl
+put-lines v (sealed a b d g h k ∷ rs) = ap (λ (l : List Line). lineIn (sealed a b d g h k) ∷ l) (put-lines v rs)
+
 -- ---- a call that seals and takes nothing
 
 module _ (masks : Masks) (x : Sender) (i : Sends masks x) where
@@ -157,3 +185,60 @@ module _ (masks : Masks) (x : Sender) (i : Sends masks x) where
 
   begin-keeps : Sends masks (sends x beginFlight·)
   begin-keeps = simple _ (i .ds) _ (x .ivs) (i .laying) (effect beginCall)
+
+  -- ---- the host's bytes
+
+  put-lays : (v : List ℕ) → Laying (x .sealed) (i .gone) (x .ivs) (w .state) (putMemory (w .state) v (w .queue))
+      (afterPut (isPut (w .state) (length v) (length (w .queue))) v (i .ds)) (x .books)
+  put-lays v = record {
+    holds = put-holds (w .state) (w .queue) (i .ds) (i .laying .holds) v;
+    numbers = i .laying .numbers;
+    waiting-sent = λ e t n c p m. waited-before v e t n c p m (λ p′ o. i .laying .waiting-sent e t n c p′ o);
+    sealed-sent = i .laying .sealed-sent;
+    apart = λ e t n c p m. waited-before v e t n c p m (λ p′ o. i .laying .apart e t n c p′ o);
+    lines = i .laying .lines ∙ ap (λ (l : List Line). i .gone ++ l) (sym (lines-then v));
+    same-ivs = i .laying .same-ivs;
+  }
+    where
+      waited-before : {C : Type 0} (v : List ℕ) (e t n : ℕ) (c p : List ℕ) → Mem (waits e t n c p) (flat (afterPut (isPut (w .state) (length v) (length (w .queue))) v (i .ds)))
+          → ((p′ : List ℕ) → Mem (waits e t n c p′) (flat (i .ds)) → C) → C
+      waited-before {C} v e t n c p m f =
+          by-test (λ (us : List (List Queued)). Mem (waits e t n c p) (flat us) → C)
+          (λ z o. put-was v e t n c p (flat (i .ds)) (subst (Mem (waits e t n c p)) (flat-first (putWith v) (i .ds)) o) f) (λ z o. f p o) m
+
+      lines-then : (v : List ℕ) → linesIn (flat (afterPut (isPut (w .state) (length v) (length (w .queue))) v (i .ds))) ≡ linesIn (flat (i .ds))
+      lines-then v =
+          by-test (λ (us : List (List Queued)). linesIn (flat us) ≡ linesIn (flat (i .ds)))
+          (λ z. ap linesIn (flat-first (putWith v) (i .ds)) ∙ put-lines v (flat (i .ds))) (λ z. refl)
+
+  fill-keeps : (v : List ℕ) → Sends masks (sends x (fill· v))
+  fill-keeps v = simple _ _ _ (x .ivs) (put-lays v) (effect (putCall v))
+
+  -- ---- keying
+
+  key-keeps : (e : ℕ) (iv : List ℕ) → e < 65536 → Sends masks (sends x (keySend· e iv))
+  key-keeps e iv small =
+      simple _ (i .ds) _ _ (record {
+        holds = keying-holds (w .state) (w .queue) (i .ds) (i .laying .holds) e iv small;
+        numbers = key-numbers;
+        waiting-sent = i .laying .waiting-sent;
+        sealed-sent = i .laying .sealed-sent;
+        apart = i .laying .apart;
+        lines = i .laying .lines;
+        same-ivs = key-ivs;
+      }) (effect (keyCall e iv))
+    where
+      a : KeyAnswer
+      a = keyAnswer (w .state .keys) (isSound (w .state .queue)) e
+
+      key-numbers : Numbers (keyingState (w .state) e iv .state .keys) (x .books .sent)
+      key-numbers = unfold keyingState in
+          (by-test (λ (s : Sending). Numbers (s .keys) (x .books .sent))
+          (λ t. keyed-numbers (w .state .keys) (x .books .sent) (i .laying .numbers) e iv (new-epoch (w .state .keys) (isSound (w .state .queue)) e t))
+          (λ t. i .laying .numbers))
+
+      key-ivs : Ivs (keyingState (w .state) e iv .state .keys) (keyedBy (keyingState (w .state) e iv) e iv (x .ivs))
+      key-ivs = unfold keyingState in
+          (by-both (λ (s : Sending) (f : ℕ → List ℕ). Ivs (s .keys) f) refl
+          (λ t. keyed-ivs (w .state .keys) e iv (x .ivs) (new-epoch (w .state .keys) (isSound (w .state .queue)) e t) (i .laying .same-ivs))
+          (λ t. i .laying .same-ivs))
