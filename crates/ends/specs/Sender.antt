@@ -6,6 +6,7 @@ use lib.ListN.{length, take, getD}
 use mathlib.Core.Bool.{Bool, true, false}
 use mathlib.Core.List.{List, [], _∷_, _++_}
 use mathlib.Core.Option.{Option, none, some}
+use mathlib.Core.Path.{_≡_}
 use Rattle.base.specs.Choose.{choose, both}
 use Rattle.base.specs.Parts.{part}
 use Rattle.record.specs.Record.{plaintextHeader}
@@ -28,6 +29,7 @@ use Rattle.sealing.specs.declared.TakeAnswer.{TakeAnswer}
 use Rattle.sealing.specs.Sealing.{questionOf, putMemory, sealAnswer, isSealed, sealedState, sealedMemory}
 use Rattle.sealing.specs.Take.{takeAnswer, takeState, takeBuffer}
 use Rattle.history.specs.Account.{upd}
+use Rattle.history.specs.Claim.{Masks}
 use Rattle.history.specs.Receiver.{Sealed, Handed}
 
 -- ---- what the history holds
@@ -261,6 +263,15 @@ sends x (take· buffer) =
     let w = x .stores in
     let a = takeAnswer (w .state) (length (w .queue)) (length buffer) in
     turns x (stored w (take· buffer)) (x .books) (x .ivs) (x .sealed) (takenBy a (takeBuffer a (w .state) (w .queue) buffer) (x .taken))
+
+-- ---- what is asked of the host that seals
+
+-- "the host answered with the sender's mask" of the epoch shown and the first 16 bytes that it left in the part, in a reply of the right length
+abbrev pub FairSeal : Masks → Option Lent → List ℕ → ℕ → List ℕ → Type 0
+FairSeal masks none q k m = Unit {0}
+FairSeal masks (some l) q k m =
+    k ≡ l .size
+    → (getD m 0 0 ≡ getD (masks (l .epoch) (part (l .place) 16 q)) 0 0) × (getD m 1 0 ≡ getD (masks (l .epoch) (part (l .place) 16 q)) 1 0)
 
 -- ---- a fresh end: nothing keyed, queued, saved or asked; the lent buffers have any bytes
 

@@ -10,7 +10,7 @@ use mathlib.Core.Option.{Option, none, some}
 use mathlib.Core.Path.{_≡_, refl, sym, ap, subst, _∙_}
 use native.Mathlib.Omega.{arith}
 use Rattle.base.specs.Choose.{choose, if-true, if-false, by-test, test-cases, eq-or-ne}
-use Rattle.base.specs.Parts.{part, splice-here}
+use Rattle.base.specs.Parts.{part, part-first, splice-here}
 use Rattle.dtls_aead.specs.Nonce.{nonceOf}
 use Rattle.queue.specs.Queue.{isSetting, isSound}
 use Rattle.send_keys.specs.declared.KeyAnswer.{KeyAnswer}
@@ -23,7 +23,8 @@ use Rattle.messages.specs.Message.{messageAnswer}
 use Rattle.sealing.specs.declared.SealAnswer.{SealAnswer}
 use Rattle.sealing.specs.declared.TakeAnswer.the-variants as took
 use Rattle.sealing.specs.declared.TakeAnswer.{TakeAnswer}
-use Rattle.sealing.specs.Sealing.{partStart, isPut, putMemory, sealAnswer, isSealed, sealedState, sealedMemory}
+use Rattle.sealing.specs.Laws.{refused-state, refused-memory}
+use Rattle.sealing.specs.Sealing.{partStart, maskedHeader, isPut, putMemory, sealAnswer, isSealed, sealedState, sealedMemory}
 use Rattle.sealing.specs.Take.{frontLen, takeAnswer, isTaken, takeState, takeBuffer, takes}
 use Rattle.waiting.specs.Calls as call
 use Rattle.waiting.specs.Calls.Call.{key as keyCall, send as sendCall, save as saveCall, message as messageCall, begin as beginCall, put as putCall, reply as replyCall, take as takeCall}
@@ -32,6 +33,7 @@ use Rattle.waiting.specs.Facts.{waits-between, waits-under}
 use Rattle.waiting.specs.First.{sealWith, putWith, firstIn, flat-first}
 use Rattle.waiting.specs.Fresh.{fresh-holds}
 use Rattle.waiting.specs.Keying.{keying-holds}
+use Rattle.waiting.specs.Oldest.{First, first-of, names-first}
 use Rattle.waiting.specs.Queued.{Queued, plain, waits, sealed, bytesOf, bytes, flat, waitingOf, waitsIn, Holds}
 use Rattle.waiting.specs.Seals.{afterPut, put-holds, afterReply}
 use Rattle.waiting.specs.Takes.{front-size, take-told, taken-settled, take-bytes}
@@ -57,6 +59,8 @@ use Rattle.ends.specs.Sender.{
   joined,
   Sender,
   sealedAs,
+  finish,
+  FairSeal,
   SendCall,
   keySend·,
   send·,
@@ -116,6 +120,32 @@ settled-lines (sealed e t n x m p ∷ d) h = let r = settled-lines d h in (r .0,
 joined-more : (ts : List (List ℕ)) (b : List ℕ) → joined (ts ++ (b ∷ [])) ≡ joined ts ++ b
 joined-more [] b = append-nil b
 joined-more (t ∷ ts) b = ap (λ (l : List ℕ). t ++ l) (joined-more ts b) ∙ sym (append-assoc t (joined ts) b)
+
+-- ---- the log
+
+more-once : (log : ℕ → List Sealed) → SealedOnce log → (e : ℕ) (new : Sealed) → ((r : Sealed) → Mem r (log e) → r .num ≡ new .num → ⊥)
+    → SealedOnce (upd log e (new ∷ log e))
+more-once log one e new none-yet k r q =
+    upd-by log e (new ∷ log e) (λ k l. Mem r l → Mem q l → r .num ≡ q .num → r ≡ q) k
+    (λ same m o z.
+    mem-by m
+    (λ (u : r ≡ new). mem-by o (λ (v : q ≡ new). u ∙ sym v) (λ o′. absurd (none-yet q o′ (sym z ∙ ap (λ (a : Sealed). a .num) u))))
+    (λ m′. mem-by o (λ (v : q ≡ new). absurd (none-yet r m′ (z ∙ ap (λ (a : Sealed). a .num) v))) (λ o′. one e r q m′ o′ z)))
+    (λ other m o z. one k r q m o z)
+
+more-shaped : (masks : Masks) (log : ℕ → List Sealed) → Shaped masks log → (e : ℕ) (new : Sealed) → Shape masks e new → Shaped masks (upd log e (new ∷ log e))
+more-shaped masks log s e new shape k r =
+    upd-by log e (new ∷ log e) (λ k l. Mem r l → Shape masks k r) k
+    (λ same m. subst (λ (v : ℕ). Shape masks v r) (sym same) (mem-by m (λ (u : r ≡ new). subst (Shape masks e) (sym u) shape) (λ m′. s e r m′))) (λ other m. s k r m)
+
+-- a refused reply logs nothing
+log-same : (a : SealAnswer) (o : Option Lent) (before behind : List ℕ) (f : ℕ → List Sealed) → isSealed a ≡ false → sealedBy a o before behind f ≡ f
+log-same a none before behind f d = refl
+log-same a (some l) before behind f d = if-false _ _ d
+
+books-same : (a : SealAnswer) (o : Option Lent) (before behind : List ℕ) (b : Books) → isSealed a ≡ false → finishedBy a o before behind b ≡ b
+books-same a none before behind b d = refl
+books-same a (some l) before behind b d = if-false _ _ d
 
 -- ---- the host's bytes in the part of the first that waits
 
@@ -242,3 +272,93 @@ module _ (masks : Masks) (x : Sender) (i : Sends masks x) where
           (by-both (λ (s : Sending) (f : ℕ → List ℕ). Ivs (s .keys) f) refl
           (λ t. keyed-ivs (w .state .keys) e iv (x .ivs) (new-epoch (w .state .keys) (isSound (w .state .queue)) e t) (i .laying .same-ivs))
           (λ t. i .laying .same-ivs))
+
+  -- ---- a sealing reply
+
+  sealing : (k : ℕ) (m : List ℕ) (b : Books) (log : ℕ → List Sealed)
+      → Laying log (i .gone) (x .ivs) (stored w (sealed· k m) .state) (stored w (sealed· k m) .queue) (afterReply (sealAnswer (w .state) (length (w .queue)) k) m (i .ds)) b
+      → SealedOnce log → Shaped masks log → Sends masks (turns x (stored w (sealed· k m)) b (x .ivs) log (x .taken))
+  sealing k m b log l one shapes = record {
+    ds = _;
+    gone = i .gone;
+    over = i .over;
+    laying = l;
+    lent = shown-then _ _ _ (l .holds) (effect (replyCall k m));
+    once = one;
+    shaped = shapes;
+    taken = i .taken;
+  }
+
+  refused-reply : (k : ℕ) (m : List ℕ) → isSealed (sealAnswer (w .state) (length (w .queue)) k) ≡ false → Sends masks (sends x (sealed· k m))
+  refused-reply k m f =
+      let a : SealAnswer = sealAnswer (w .state) (length (w .queue)) k in
+      subst (λ (b : Books). Sends masks (turns x (stored w (sealed· k m)) b (x .ivs) (sealedBy a (x .lent) (w .queue) (sealedMemory a (w .state) m (w .queue)) (x .sealed)) (x .taken)))
+      (sym (books-same a (x .lent) (w .queue) (sealedMemory a (w .state) m (w .queue)) (x .books) f))
+      (subst (λ (log : ℕ → List Sealed). Sends masks (turns x (stored w (sealed· k m)) (x .books) (x .ivs) log (x .taken)))
+      (sym (log-same a (x .lent) (w .queue) (sealedMemory a (w .state) m (w .queue)) (x .sealed) f))
+      (sealing k m (x .books) (x .sealed)
+      (subst (λ (s : Sending). Laying (x .sealed) (i .gone) (x .ivs) s (sealedMemory a (w .state) m (w .queue)) (afterReply a m (i .ds)) (x .books))
+      (sym (refused-state a f (w .state) (w .queue)))
+      (subst (λ (q : List ℕ). Laying (x .sealed) (i .gone) (x .ivs) (w .state) q (afterReply a m (i .ds)) (x .books)) (sym (refused-memory a f (w .state) (w .queue) m))
+      (subst (λ (us : List (List Queued)). Laying (x .sealed) (i .gone) (x .ivs) (w .state) (w .queue) us (x .books)) (sym (if-false _ _ f)) (i .laying))))
+      (i .once) (i .shaped)))
+
+  module _ (k : ℕ) (m : List ℕ) (d : isSealed (sealAnswer (w .state) (length (w .queue)) k) ≡ true) (fair : FairSeal masks (x .lent) (w .queue) k m)
+      (e t n : ℕ) (c p : List ℕ) (us : List Queued) (y : waitingOf (flat (i .ds)) ≡ waits e t n c p ∷ us) where
+    abbrev answer : SealAnswer
+    answer = sealAnswer (w .state) (length (w .queue)) k
+
+    abbrev behind : List ℕ
+    behind = sealedMemory (sealAnswer (w .state) (length (w .queue)) k) (w .state) m (w .queue)
+
+    shown : x .lent ≡ some (lentFor (w .state) e t n c)
+    shown = subst (LentIs (w .state) (x .lent)) y (i .lent)
+
+    is : sealedAs (lentFor (w .state) e t n c) (w .queue) behind ≡ logged e t n c m p
+    is = sealed-is (w .state) (w .queue) (i .ds) (i .laying .holds) k m d e t n c p us y
+
+    log-then : sealedBy answer (x .lent) (w .queue) behind (x .sealed) ≡ upd (x .sealed) e (logged e t n c m p ∷ x .sealed e)
+    log-then =
+        ap (λ (o : Option Lent). sealedBy answer o (w .queue) behind (x .sealed)) shown ∙ if-true _ _ d ∙ ap (λ (r : Sealed). upd (x .sealed) e (r ∷ x .sealed e)) is
+
+    books-then : finishedBy answer (x .lent) (w .queue) behind (x .books)
+        ≡ record { sent = x .books .sent; lines = finish e n (maskedHeader e n (length c + 17) m ++ p) (x .books .lines) }
+    books-then =
+        ap (λ (o : Option Lent). finishedBy answer o (w .queue) behind (x .books)) shown ∙ if-true _ _ d
+        ∙ ap (λ (r : Sealed). record { sent = x .books .sent; lines = finish e n (r .wire) (x .books .lines) }) is
+
+    -- the sender's mask
+    right-length : k ≡ length c + 17
+    right-length = sealed-tests (w .state) (w .queue) (i .ds) (i .laying .holds) k d .1 ∙ names-first (w .state) (w .queue) (i .ds) (i .laying .holds) e t n c p us y .size
+
+    mine : (getD m 0 0 ≡ getD (masks e (part (partStart (w .state)) 16 (w .queue))) 0 0) × (getD m 1 0 ≡ getD (masks e (part (partStart (w .state)) 16 (w .queue))) 1 0)
+    mine = subst (λ (o : Option Lent). FairSeal masks o (w .queue) k m) shown fair right-length
+
+    sample : part (partStart (w .state)) 16 (w .queue) ≡ take 16 p
+    sample =
+        sym (part-first (partStart (w .state)) 16 (length c + 17) (w .queue) (omega arith))
+        ∙ ap (take 16) (part-is (w .state) (w .queue) (i .ds) (i .laying .holds) e t n c p us y)
+
+    shape : Shape masks e (logged e t n c m p)
+    shape =
+        shape-is (w .state) (w .queue) (i .ds) (i .laying .holds) k m d e t n c p us y masks
+        (mine .0 ∙ ap (λ (l : List ℕ). getD (masks e l) 0 0) sample) (mine .1 ∙ ap (λ (l : List ℕ). getD (masks e l) 1 0) sample)
+
+    accepted-reply : Sends masks (sends x (sealed· k m))
+    accepted-reply =
+        subst (λ (b : Books). Sends masks (turns x (stored w (sealed· k m)) b (x .ivs) (sealedBy answer (x .lent) (w .queue) behind (x .sealed)) (x .taken))) (sym books-then)
+        (subst (λ (log : ℕ → List Sealed). Sends masks (turns x (stored w (sealed· k m))
+        (record { sent = x .books .sent; lines = finish e n (maskedHeader e n (length c + 17) m ++ p) (x .books .lines) }) (x .ivs) log (x .taken))) (sym log-then)
+        (sealing k m _ _
+        (reply-lays (x .sealed) (i .gone) (x .ivs) (i .over) (w .state) (w .queue) (i .ds) (x .books) (i .laying) k m d e t n c p us y)
+        (more-once (x .sealed) (i .once) e (logged e t n c m p)
+        (λ r o z. not-sealed (x .sealed) (i .gone) (x .ivs) (i .over) (w .state) (w .queue) (i .ds) (x .books) (i .laying) k m d e t n c p us y r o z))
+        (more-shaped masks (x .sealed) (i .shaped) e (logged e t n c m p) shape)))
+
+  reply-keeps : (k : ℕ) (m : List ℕ) → FairSeal masks (x .lent) (w .queue) k m → Sends masks (sends x (sealed· k m))
+  reply-keeps k m fair =
+      test-cases (isSealed (sealAnswer (w .state) (length (w .queue)) k))
+      (λ d.
+      let f = first-of (flat (i .ds)) (sealed-tests (w .state) (w .queue) (i .ds) (i .laying .holds) k d .0) in
+      accepted-reply k m d fair (f .epoch) (f .kind) (f .number) (f .content) (f .part) (f .others) (f .is))
+      (λ d. refused-reply k m d)
