@@ -4,15 +4,16 @@ use borrow.Author.Tests.{eqb-true, eqb-false, eq-eqb, ne-eqb}
 use lib.Dec.{eqb}
 use lib.ListN.{length, take, getD}
 use mathlib.Core.Bool.{Bool, true, false, true≢false, false≢true}
-use mathlib.Core.List.{List, [], _∷_, _++_, append-assoc, append-nil, List·Memᴰ as Mem, List·Memᴰ·head as here, List·Memᴰ·tail as there}
+use mathlib.Core.List.{List, [], _∷_, _++_, append-assoc, append-nil, List·Memᴰ as Mem, List·Memᴰ·head as here, List·Memᴰ·tail as there, Memᴰ·append-right as mem-right}
 use mathlib.Core.Logic.{_⊎_, inl, inr, ⊎-elim}
 use mathlib.Core.Option.{Option, none, some}
 use mathlib.Core.Path.{_≡_, refl, sym, ap, subst, _∙_}
 use native.Mathlib.Omega.{arith}
 use Rattle.base.specs.Choose.{choose, if-true, if-false, by-test, test-cases, eq-or-ne}
-use Rattle.base.specs.Parts.{part, part-first, splice-here}
+use Rattle.base.specs.Parts.{part, part-first, splice, splice-here}
 use Rattle.dtls_aead.specs.Nonce.{nonceOf}
 use Rattle.queue.specs.Queue.{isSetting, isSound}
+use Rattle.send_keys.specs.declared.SendKeys.{SendKeys}
 use Rattle.send_keys.specs.declared.KeyAnswer.{KeyAnswer}
 use Rattle.send_keys.specs.Keys.{isUsable, nextOf, ivOf, keyAnswer, keyed, noEpoch, noKeys}
 use Rattle.outgoing.specs.declared.Sending.{Sending}
@@ -23,7 +24,7 @@ use Rattle.messages.specs.Message.{messageAnswer}
 use Rattle.sealing.specs.declared.SealAnswer.{SealAnswer}
 use Rattle.sealing.specs.declared.TakeAnswer.the-variants as took
 use Rattle.sealing.specs.declared.TakeAnswer.{TakeAnswer}
-use Rattle.sealing.specs.Laws.{refused-state, refused-memory}
+use Rattle.sealing.specs.Laws.{refused-state, refused-memory, kept-state}
 use Rattle.sealing.specs.Sealing.{partStart, maskedHeader, isPut, putMemory, sealAnswer, isSealed, sealedState, sealedMemory}
 use Rattle.sealing.specs.Take.{frontLen, takeAnswer, isTaken, takeState, takeBuffer, takes}
 use Rattle.waiting.specs.Calls as call
@@ -36,7 +37,7 @@ use Rattle.waiting.specs.Keying.{keying-holds}
 use Rattle.waiting.specs.Oldest.{First, first-of, names-first}
 use Rattle.waiting.specs.Queued.{Queued, plain, waits, sealed, bytesOf, bytes, flat, waitingOf, waitsIn, Holds}
 use Rattle.waiting.specs.Seals.{afterPut, put-holds, afterReply}
-use Rattle.waiting.specs.Takes.{front-size, take-told, taken-settled, take-bytes}
+use Rattle.waiting.specs.Takes.{front-size, take-told, afterTaken, taken-settled, take-holds, take-bytes}
 use Rattle.history.specs.Account.{upd}
 use Rattle.history.specs.Claim.{Masks}
 use Rattle.history.specs.Direction.{Shaped}
@@ -120,6 +121,28 @@ settled-lines (sealed e t n x m p ∷ d) h = let r = settled-lines d h in (r .0,
 joined-more : (ts : List (List ℕ)) (b : List ℕ) → joined (ts ++ (b ∷ [])) ≡ joined ts ++ b
 joined-more [] b = append-nil b
 joined-more (t ∷ ts) b = ap (λ (l : List ℕ). t ++ l) (joined-more ts b) ∙ sym (append-assoc t (joined ts) b)
+
+-- ---- what is taken
+
+untaken : (a : TakeAnswer) (buffer : List ℕ) (ts : List (List ℕ)) → isTaken a ≡ false → takenBy a buffer ts ≡ ts
+untaken (took.Taken n) buffer ts f = absurd (true≢false f)
+untaken took.OutOfRange buffer ts f = refl
+untaken took.Nothing buffer ts f = refl
+untaken took.Unsealed buffer ts f = refl
+untaken (took.Short n) buffer ts f = refl
+
+untaken-ds : (a : TakeAnswer) (ds : List (List Queued)) → isTaken a ≡ false → afterTaken a ds ≡ ds
+untaken-ds a [] f = refl
+untaken-ds a (d ∷ ds) f = if-false _ _ f
+
+taken-length : (s : Sending) (room have : ℕ) → isTaken (takeAnswer s room have) ≡ true → takeAnswer s room have ≡ took.Taken (frontLen s)
+unfolding takeAnswer
+taken-length s room have =
+    let P : TakeAnswer → Type 0 = λ a. isTaken a ≡ true → a ≡ took.Taken (frontLen s) in
+    by-test P
+    (λ a. by-test P (λ b z. absurd (false≢true z))
+    (λ b. by-test P (λ c. by-test P (λ f z. absurd (false≢true z)) (λ f. by-test P (λ g z. absurd (false≢true z)) (λ g z. refl))) (λ c z. absurd (false≢true z))))
+    (λ a z. absurd (false≢true z))
 
 -- ---- the log
 
@@ -362,3 +385,90 @@ module _ (masks : Masks) (x : Sender) (i : Sends masks x) where
       let f = first-of (flat (i .ds)) (sealed-tests (w .state) (w .queue) (i .ds) (i .laying .holds) k d .0) in
       accepted-reply k m d fair (f .epoch) (f .kind) (f .number) (f .content) (f .part) (f .others) (f .is))
       (λ d. refused-reply k m d)
+
+  -- ---- taking a datagram
+
+  same-take : (buffer : List ℕ) → isTaken (takeAnswer (w .state) (length (w .queue)) (length buffer)) ≡ false → Sends masks (sends x (take· buffer))
+  same-take buffer f =
+      let a : TakeAnswer = takeAnswer (w .state) (length (w .queue)) (length buffer) in
+      subst (λ (ts : List (List ℕ)). Sends masks (turns x (stored w (take· buffer)) (x .books) (x .ivs) (x .sealed) ts))
+      (sym (untaken a (takeBuffer a (w .state) (w .queue) buffer) (x .taken) f))
+      (simple (stored w (take· buffer)) (afterTaken a (i .ds)) (x .books) (x .ivs)
+      (subst (λ (s : Sending). Laying (x .sealed) (i .gone) (x .ivs) s (w .queue) (afterTaken a (i .ds)) (x .books)) (sym (kept-state a f (w .state)))
+      (subst (λ (us : List (List Queued)). Laying (x .sealed) (i .gone) (x .ivs) (w .state) (w .queue) us (x .books)) (sym (untaken-ds a (i .ds) f)) (i .laying)))
+      (effect (takeCall (length buffer))))
+
+  module _ (buffer : List ℕ) (d : List Queued) (us : List (List Queued)) (is : i .ds ≡ d ∷ us)
+      (t : isTaken (takeAnswer (w .state) (length (w .queue)) (length buffer)) ≡ true) where
+    abbrev given : TakeAnswer
+    given = takeAnswer (w .state) (length (w .queue)) (length buffer)
+
+    holds-then : Holds (w .state) (w .queue) (d ∷ us)
+    holds-then = subst (Holds (w .state) (w .queue)) is (i .laying .holds)
+
+    settled : waitsIn d ≡ false
+    settled = taken-settled (w .state) (w .queue) d us holds-then (length buffer) t
+
+    after-is : afterTaken given (i .ds) ≡ us
+    after-is = ap (afterTaken given) is ∙ if-true _ _ t
+
+    -- what the host finds in its buffer
+    found : part 0 (frontLen (w .state)) (takeBuffer given (w .state) (w .queue) buffer) ≡ bytes d
+    found =
+        let size = front-size (w .state) (w .queue) d us holds-then in
+        let room = takes (w .state) (length (w .queue)) (length buffer) t .fits in
+        ap (part 0 (frontLen (w .state))) (take-bytes (w .state) (w .queue) buffer d us holds-then t) ∙ ap (λ (n : ℕ). part 0 n (splice 0 (bytes d) buffer)) size
+        ∙ splice-here 0 (bytes d) buffer (omega arith)
+
+    taken-then : takenBy given (takeBuffer given (w .state) (w .queue) buffer) (x .taken) ≡ x .taken ++ (bytes d ∷ [])
+    taken-then =
+        ap (λ (a : TakeAnswer). takenBy a (takeBuffer given (w .state) (w .queue) buffer) (x .taken)) (taken-length (w .state) (length (w .queue)) (length buffer) t)
+        ∙ ap (λ (b : List ℕ). x .taken ++ (b ∷ [])) found
+
+    abbrev gone′ : List Line
+    gone′ = i .gone ++ linesIn d
+
+    lays-then : Laying (x .sealed) gone′ (x .ivs) (stored w (take· buffer) .state) (w .queue) us (x .books)
+    lays-then = record {
+      holds = subst (Holds (stored w (take· buffer) .state) (w .queue)) after-is
+          (take-holds (w .state) (w .queue) (i .ds) (i .laying .holds) (length buffer));
+      numbers = keys-same (λ (k : SendKeys). Numbers k (x .books .sent)) (i .laying .numbers);
+      waiting-sent = λ e k n c p m. i .laying .waiting-sent e k n c p (earlier (waits e k n c p) m);
+      sealed-sent = i .laying .sealed-sent;
+      apart = λ e k n c p m. i .laying .apart e k n c p (earlier (waits e k n c p) m);
+      lines = i .laying .lines ∙ ap (λ (l : List (List Queued)). i .gone ++ linesIn (flat l)) is ∙ ap (λ (l : List Line). i .gone ++ l) (lines-append d (flat us))
+          ∙ sym (append-assoc (i .gone) (linesIn d) (linesIn (flat us)));
+      same-ivs = keys-same (λ (k : SendKeys). Ivs k (x .ivs)) (i .laying .same-ivs);
+    }
+      where
+        earlier : (r : Queued) → Mem r (flat us) → Mem r (flat (i .ds))
+        earlier r m = subst (λ (l : List (List Queued)). Mem r (flat l)) (sym is) (mem-right d m)
+
+        keys-same : (P : SendKeys → Type 0) → P (w .state .keys) → P (stored w (take· buffer) .state .keys)
+        keys-same P h = unfold takeState in (by-test (λ (s : Sending). P (s .keys)) (λ z. h) (λ z. h))
+
+    taken-keeps : Sends masks (sends x (take· buffer))
+    taken-keeps =
+        subst (λ (ts : List (List ℕ)). Sends masks (turns x (stored w (take· buffer)) (x .books) (x .ivs) (x .sealed) ts)) (sym taken-then) (record {
+          ds = us;
+          gone = gone′;
+          over = all-done (i .gone) (linesIn d) (i .over) (settled-lines d settled .0);
+          laying = lays-then;
+          lent = shown-then _ _ us (lays-then .holds)
+              (subst (λ (l : List (List Queued)). Waited (flat (i .ds)) (flat l)) after-is (effect (takeCall (length buffer))));
+          once = i .once;
+          shaped = i .shaped;
+          taken = joined-more (x .taken) (bytes d) ∙ ap (λ (l : List ℕ). l ++ bytes d) (i .taken)
+              ∙ ap (λ (l : List ℕ). finished (i .gone) ++ l) (sym (settled-lines d settled .1)) ∙ sym (finished-behind (i .gone) (linesIn d) (i .over));
+        })
+
+  take-by : (buffer : List ℕ) (ds : List (List Queued)) → i .ds ≡ ds → isTaken (takeAnswer (w .state) (length (w .queue)) (length buffer)) ≡ true
+      → Sends masks (sends x (take· buffer))
+  take-by buffer [] is t =
+      absurd (false≢true
+      (sym (ap isTaken (take-told (w .state) (w .queue) [] (subst (Holds (w .state) (w .queue)) is (i .laying .holds)) (length buffer))) ∙ t))
+  take-by buffer (d ∷ us) is t = taken-keeps buffer d us is t
+
+  take-keeps : (buffer : List ℕ) → Sends masks (sends x (take· buffer))
+  take-keeps buffer =
+      test-cases (isTaken (takeAnswer (w .state) (length (w .queue)) (length buffer))) (λ t. take-by buffer (i .ds) refl t) (λ t. same-take buffer t)
