@@ -15,7 +15,7 @@ use Rattle.dtls_aead.specs.Nonce.{nonceOf}
 use Rattle.queue.specs.Queue.{isSetting, isSound}
 use Rattle.send_keys.specs.declared.SendKeys.{SendKeys}
 use Rattle.send_keys.specs.declared.KeyAnswer.{KeyAnswer}
-use Rattle.send_keys.specs.Keys.{isUsable, nextOf, ivOf, keyAnswer, keyed, noEpoch, noKeys}
+use Rattle.send_keys.specs.Keys.{isUsable, nextOf, next-handshake, ivOf, keyAnswer, keyed, noEpoch, noKeys}
 use Rattle.outgoing.specs.declared.Sending.{Sending}
 use Rattle.outgoing.specs.State.{freshSending, isKeyedNow, withKeys, keyingState}
 use Rattle.outgoing.specs.Send.{sendAnswer}
@@ -30,12 +30,12 @@ use Rattle.sealing.specs.Take.{frontLen, takeAnswer, isTaken, takeState, takeBu
 use Rattle.waiting.specs.Calls as call
 use Rattle.waiting.specs.Calls.Call.{key as keyCall, send as sendCall, save as saveCall, message as messageCall, begin as beginCall, put as putCall, reply as replyCall, take as takeCall}
 use Rattle.waiting.specs.Effects.{Waited, oldest-first}
-use Rattle.waiting.specs.Facts.{waits-between, waits-under}
+use Rattle.waiting.specs.Facts.{each-lies, waits-between, waits-under}
 use Rattle.waiting.specs.First.{sealWith, putWith, firstIn, flat-first}
 use Rattle.waiting.specs.Fresh.{fresh-holds}
 use Rattle.waiting.specs.Keying.{keying-holds}
 use Rattle.waiting.specs.Oldest.{First, first-of, names-first}
-use Rattle.waiting.specs.Queued.{Queued, plain, waits, sealed, bytesOf, bytes, flat, waitingOf, waitsIn, Holds}
+use Rattle.waiting.specs.Queued.{Queued, plain, waits, sealed, bytesOf, bytes, flat, waitingOf, waitsIn, sealedOf, Holds}
 use Rattle.waiting.specs.Seals.{afterPut, put-holds, afterReply}
 use Rattle.waiting.specs.Takes.{front-size, take-told, afterTaken, taken-settled, take-holds, take-bytes}
 use Rattle.history.specs.Account.{upd}
@@ -472,3 +472,106 @@ module _ (masks : Masks) (x : Sender) (i : Sends masks x) where
   take-keeps : (buffer : List ℕ) → Sends masks (sends x (take· buffer))
   take-keeps buffer =
       test-cases (isTaken (takeAnswer (w .state) (length (w .queue)) (length buffer))) (λ t. take-by buffer (i .ds) refl t) (λ t. same-take buffer t)
+
+-- ---- all calls
+
+-- "keying" names an epoch of 16 bits; a sealing reply of the right length brings the sender's mask
+abbrev pub FairSend : Masks → Sender → SendCall → Type 0
+FairSend masks x (keySend· e iv) = e < 65536
+FairSend masks x (send· e t c) = Unit {0}
+FairSend masks x (save· e t c) = Unit {0}
+FairSend masks x (message· kind body) = Unit {0}
+FairSend masks x beginFlight· = Unit {0}
+FairSend masks x (fill· v) = Unit {0}
+FairSend masks x (sealed· k m) = FairSeal masks (x .lent) (x .stores .queue) k m
+FairSend masks x (take· buffer) = Unit {0}
+
+pub sends-keep : (masks : Masks) (x : Sender) (c : SendCall) → Sends masks x → FairSend masks x c → Sends masks (sends x c)
+sends-keep masks x (keySend· e iv) i h = key-keeps masks x i e iv h
+sends-keep masks x (send· e t c) i h = send-keeps masks x i e t c
+sends-keep masks x (save· e t c) i h = save-keeps masks x i e t c
+sends-keep masks x (message· kind body) i h = message-keeps masks x i kind body
+sends-keep masks x beginFlight· i h = begin-keeps masks x i
+sends-keep masks x (fill· v) i h = fill-keeps masks x i v
+sends-keep masks x (sealed· k m) i h = reply-keeps masks x i k m h
+sends-keep masks x (take· buffer) i h = take-keeps masks x i buffer
+
+-- what was sealed stays so
+sealed-more : (a : SealAnswer) (o : Option Lent) (before behind : List ℕ) (f : ℕ → List Sealed) (e : ℕ) (r : Sealed) → Mem r (f e) → Mem r (sealedBy a o before behind f e)
+sealed-more a none before behind f e r m = m
+sealed-more a (some l) before behind f e r m =
+    by-test (λ (g : ℕ → List Sealed). Mem r (g e))
+    (λ d. upd-by f (l .epoch) (sealedAs l before behind ∷ f (l .epoch)) (λ e s. Mem r (f e) → Mem r s) e (λ same m. there (subst (λ (v : ℕ). Mem r (f v)) same m)) (λ other m. m) m)
+    (λ d. m)
+
+pub sealed-grows : (x : Sender) (c : SendCall) (e : ℕ) (r : Sealed) → Mem r (x .sealed e) → Mem r (sends x c .sealed e)
+sealed-grows x (keySend· k iv) e r m = m
+sealed-grows x (send· k t c) e r m = m
+sealed-grows x (save· k t c) e r m = m
+sealed-grows x (message· kind body) e r m = m
+sealed-grows x beginFlight· e r m = m
+sealed-grows x (fill· v) e r m = m
+sealed-grows x (sealed· k n) e r m = sealed-more _ (x .lent) _ _ (x .sealed) e r m
+sealed-grows x (take· buffer) e r m = m
+
+-- ---- a fresh end
+
+pub new-sends : (masks : Masks) (mtu limit : ℕ) (queue kept : List ℕ) → isSetting mtu limit ≡ true → limit * mtu ≤ length queue
+    → Sends masks (newSender mtu limit queue kept)
+new-sends masks mtu limit queue kept s room = record {
+  ds = [];
+  gone = [];
+  over = tt;
+  laying = record {
+    holds = fresh-holds mtu limit queue s room;
+    numbers = record { once = λ e. tt; below = λ e h m. elim m [ ]; early = λ e h m. elim m [ ] };
+    waiting-sent = λ e t n c p m. elim m [ ];
+    sealed-sent = λ e r m. elim m [ ];
+    apart = λ e t n c p m. elim m [ ];
+    lines = refl;
+    same-ivs = unfold freshSending noKeys noEpoch in (record { handshake = λ z. absurd (omega arith); application = λ z. absurd (omega arith) });
+  };
+  lent = refl;
+  once = λ e r q m. elim m [ ];
+  shaped = λ e r m. elim m [ ];
+  taken = refl;
+}
+
+-- ---- the nonce of the question shown
+
+module _ (masks : Masks) (x : Sender) (i : Sends masks x) where
+  -- what waits is under an epoch that is keyed, with its IV
+  iv-is : (e t n : ℕ) (c p : List ℕ) → Mem (waits e t n c p) (flat (i .ds)) → ivOf (x .stores .state .keys) e ≡ x .ivs e
+  unfolding ivOf
+  iv-is e t n c p m =
+      let s : Sending = x .stores .state in
+      let k : SendKeys = s .keys in
+      let h = i .laying .holds in
+      let a = h .keys in
+      let between = waits-between s (x .stores .queue) (i .ds) h e t n c p m in
+      ⊎-elim
+      (λ (z : e ≡ 2).
+      let two : k .handshake .epoch ≡ 2 =
+      ⊎-elim (λ u. u)
+      (λ u.
+      let none-left = a .unkeyed u in
+      let lo : sealedOf k e ≡ k .handshake .sealed = if-true _ _ (eq-eqb e 2 z) in
+      let hi : nextOf k e ≡ k .handshake .next = next-handshake k (λ y. omega arith) z in
+      absurd (omega arith)) (eq-or-ne (k .handshake .epoch) 2) in
+      if-true _ _ (eq-eqb e 2 z) ∙ i .laying .same-ivs .handshake two ∙ ap (x .ivs) (sym z))
+      (λ (z : e ≡ k .application .epoch).
+      ⊎-elim
+      (λ (y : k .application .epoch ≡ 0).
+      absurd (let some = each-lies s (x .stores .queue) (i .ds) h (waits e t n c p) m .stands .sound .some in omega arith))
+      (λ (y : 3 ≤ k .application .epoch).
+      if-false _ _ (ne-eqb e 2 (λ v. omega arith)) ∙ i .laying .same-ivs .application y ∙ ap (x .ivs) (sym z)) (a .epoch))
+      (waits-under s (x .stores .queue) (i .ds) h e t n c p m)
+
+  pub nonce-is : (l : Lent) → x .lent ≡ some l → l .nonce ≡ nonceOf (x .ivs (l .epoch)) (l .num)
+  nonce-is l z =
+      waiting-cases (flat (i .ds)) (waitingOf (flat (i .ds))) refl
+      (λ y. some≢none (sym z ∙ subst (LentIs (x .stores .state) (x .lent)) y (i .lent)))
+      (λ e t n c p us y v.
+      let same : lentFor (x .stores .state) e t n c ≡ l = some-inj (sym (subst (LentIs (x .stores .state) (x .lent)) v (i .lent)) ∙ z) in
+      subst (λ (r : Lent). r .nonce ≡ nonceOf (x .ivs (r .epoch)) (r .num)) same
+      (ap (λ (w : List ℕ). nonceOf w n) (iv-is e t n c p (waiting-mem (waits e t n c p) (flat (i .ds)) (subst (Mem (waits e t n c p)) (sym y) (here refl))))))
