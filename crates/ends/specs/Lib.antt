@@ -4,3 +4,6 @@ pub mod Laying
 pub mod Asked
 pub mod Replies
 pub mod Sends
+pub mod World
+pub mod Claim
+pub mod Proof

@@ -1,6 +1,6 @@
 -- A sending end and its history: state, queue and flight as the last call left them, and what the claim speaks of, written from the host's
 -- arguments, the bytes and the answers and questions that the host sees; from the state only the next numbers to send.
-use Prim.Native.Nat.{ℕ, zero, suc, _+_, _-_}
+use Prim.Native.Nat.{ℕ, zero, suc, _+_, _-_, _<_}
 use lib.Dec.{eqb}
 use lib.ListN.{length, take, getD}
 use mathlib.Core.Bool.{Bool, true, false}
@@ -272,6 +272,17 @@ FairSeal masks none q k m = Unit {0}
 FairSeal masks (some l) q k m =
     k ≡ l .size
     → (getD m 0 0 ≡ getD (masks (l .epoch) (part (l .place) 16 q)) 0 0) × (getD m 1 0 ≡ getD (masks (l .epoch) (part (l .place) 16 q)) 1 0)
+
+-- an epoch is one of 16 bits; nothing is asked of any other call
+abbrev pub FairSend : Masks → Sender → SendCall → Type 0
+FairSend masks x (keySend· e iv) = e < 65536
+FairSend masks x (send· e t c) = Unit {0}
+FairSend masks x (save· e t c) = Unit {0}
+FairSend masks x (message· kind body) = Unit {0}
+FairSend masks x beginFlight· = Unit {0}
+FairSend masks x (fill· v) = Unit {0}
+FairSend masks x (sealed· k m) = FairSeal masks (x .lent) (x .stores .queue) k m
+FairSend masks x (take· buffer) = Unit {0}
 
 -- ---- a fresh end: nothing keyed, queued, saved or asked; the lent buffers have any bytes
 

@@ -62,6 +62,7 @@ use Rattle.ends.specs.Sender.{
   sealedAs,
   finish,
   FairSeal,
+  FairSend,
   SendCall,
   keySend·,
   send·,
@@ -475,17 +476,6 @@ module _ (masks : Masks) (x : Sender) (i : Sends masks x) where
 
 -- ---- all calls
 
--- "keying" names an epoch of 16 bits; a sealing reply of the right length brings the sender's mask
-abbrev pub FairSend : Masks → Sender → SendCall → Type 0
-FairSend masks x (keySend· e iv) = e < 65536
-FairSend masks x (send· e t c) = Unit {0}
-FairSend masks x (save· e t c) = Unit {0}
-FairSend masks x (message· kind body) = Unit {0}
-FairSend masks x beginFlight· = Unit {0}
-FairSend masks x (fill· v) = Unit {0}
-FairSend masks x (sealed· k m) = FairSeal masks (x .lent) (x .stores .queue) k m
-FairSend masks x (take· buffer) = Unit {0}
-
 pub sends-keep : (masks : Masks) (x : Sender) (c : SendCall) → Sends masks x → FairSend masks x c → Sends masks (sends x c)
 sends-keep masks x (keySend· e iv) i h = key-keeps masks x i e iv h
 sends-keep masks x (send· e t c) i h = send-keeps masks x i e t c
@@ -575,3 +565,12 @@ module _ (masks : Masks) (x : Sender) (i : Sends masks x) where
       let same : lentFor (x .stores .state) e t n c ≡ l = some-inj (sym (subst (LentIs (x .stores .state) (x .lent)) v (i .lent)) ∙ z) in
       subst (λ (r : Lent). r .nonce ≡ nonceOf (x .ivs (r .epoch)) (r .num)) same
       (ap (λ (w : List ℕ). nonceOf w n) (iv-is e t n c p (waiting-mem (waits e t n c p) (flat (i .ds)) (subst (Mem (waits e t n c p)) (sym y) (here refl))))))
+
+-- ---- what was taken
+
+pub taken-is : (masks : Masks) (x : Sender) → Sends masks x → (rest : List ℕ) × (joined (x .taken) ++ rest ≡ finished (x .books .lines))
+taken-is masks x i = (
+  finished (linesIn (flat (i .ds))),
+  ap (λ (l : List ℕ). l ++ finished (linesIn (flat (i .ds)))) (i .taken)
+      ∙ sym (ap finished (i .laying .lines) ∙ finished-behind (i .gone) (linesIn (flat (i .ds))) (i .over)),
+)
