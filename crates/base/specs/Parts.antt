@@ -108,3 +108,15 @@ module _ (p : ℕ) (v d : List ℕ) (fits : p + length v ≤ length d) where
       (sym (drop-drop (a - (p + length v)) (p + length v) (splice p v d)) ∙ ap (drop (a - (p + length v))) behind
       ∙ drop-drop (a - (p + length v)) (p + length v) d)
       ∙ ap (λ (k : ℕ). part k n d) (sym split)
+
+-- a list written over the whole of another
+pub splice-whole : (w d : List ℕ) → length d ≤ length w → splice 0 w d ≡ w
+unfolding splice
+splice-whole w d h = ap (λ (l : List ℕ). w ++ l) (drop-of-length-le d {i = length w} h) ∙ append-nil w
+
+-- the front of a buffer is what was written there
+pub part-put : {n : ℕ} (w z x : List ℕ) → x ≡ w → length w ≡ n → n ≤ length z → take (n - 0) (drop 0 (putMid 0 (n - 0) z x)) ≡ w
+part-put {n} w z x ex h l =
+    let e : n - 0 ≡ length w = omega arith in
+    rw ex (ap (λ (d : List ℕ). take (n - 0) (drop 0 d)) (lent 0 n z w (omega arith))
+    ∙ ap (λ (k : ℕ). part 0 k (splice 0 w z)) e ∙ splice-here 0 w z (omega arith))

@@ -3,7 +3,7 @@ use mathlib.Core.Bool.{Bool, false}
 use mathlib.Core.List.{List}
 use Prim.Native.Nat.{ℕ, _+_, _*_, _<_, _≤_}
 use lib.Dec.{leb}
-use lib.ListN.{length, set, replicate}
+use lib.ListN.{length, getD, set, replicate}
 use Rattle.base.specs.Choose.{choose, both}
 use Rattle.base.specs.Parts.{splice}
 use Rattle.outgoing.specs.declared.SendAnswer.the-variants.{Done, OutOfRange}
@@ -14,9 +14,17 @@ use Rattle.flight.specs.declared.Begun.{Begun}
 unfoldable pub entryOf : ℕ → ℕ → ℕ → ℕ → Entry
 entryOf t e n len = record { «content_type» = t; epoch = e; number = n; length = len; marked = false; remembered = 0 }
 
+-- no record
+abbrev pub noEntry : Entry
+noEntry = record { «content_type» = 0; epoch = 0; number = 0; length = 0; marked = false; remembered = 0 }
+
+-- the i-th saved record
+abbrev pub entryAt : Flight → ℕ → Entry
+entryAt f i = getD (f .entries) i noEntry
+
 -- nothing saved; "one flat table of 384 numbers starts as zeros"
 unfoldable pub freshFlight : Flight
-freshFlight = record { entries = replicate 12 (record { «content_type» = 0; epoch = 0; number = 0; length = 0; marked = false; remembered = 0 }); saved = 0; numbers = replicate 384 0 }
+freshFlight = record { entries = replicate 12 noEntry; saved = 0; numbers = replicate 384 0 }
 
 -- 12: at most 12 saved, and a buffer for 12 records of the MTU
 unfoldable pub isKept : Flight → ℕ → ℕ → Bool

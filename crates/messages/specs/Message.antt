@@ -1,15 +1,14 @@
 -- Sending a handshake message (01, refusals 12, 14, 17, 21, 18, 19, 20), wholly or not at all. Assumes nothing.
 use mathlib.Core.Bool.{true, false≢true}
-use mathlib.Core.List.{List, _++_, append-nil}
+use mathlib.Core.List.{List, _++_}
 use mathlib.Core.Path.{_≡_, sym, ap, _∙_}
 use Prim.Native.Nat.{ℕ, zero, suc, _+_, _-_, _<_, _≤_}
 use native.Mathlib.Omega.{arith}
 use lib.Dec.{ltb, leb, eqb}
-use lib.ListN.{length, take, drop, length-append, length-take, length-drop, drop-of-length-le}
-use borrow.Rule.Slice.PartMut.{putMid}
+use lib.ListN.{length, length-append, length-take, length-drop}
 use borrow.Author.Tests.{ltb-false, leb-true, leb-false, eq-eqb, ne-eqb}
 use Rattle.base.specs.Choose.{choose, by-test, both-left, if-true, if-false}
-use Rattle.base.specs.Parts.{part, splice, lent, splice-here}
+use Rattle.base.specs.Parts.{part}
 use Rattle.handshake.specs.Header.{headerBytes, length-header}
 use Rattle.queue.specs.Queue.{isReady, tailOf, lastLen, InRange, ready}
 use Rattle.send_keys.specs.Keys.{isKeyed, nextOf}
@@ -108,18 +107,6 @@ messageKept a s f q m kind body = choose (isDone a) (sentAll s f q m kind body .
 pub length-content : (kind seq : ℕ) (body : List ℕ) (at n : ℕ) → at + n ≤ length body → length (contentOf kind seq body at n) ≡ 12 + n
 unfolding contentOf
 length-content kind seq body at n h = simp (length-append, length-header, length-take, length-drop) (omega arith)
-
--- a list written over the whole of another
-pub splice-whole : (w d : List ℕ) → length d ≤ length w → splice 0 w d ≡ w
-unfolding splice
-splice-whole w d h = ap (λ (l : List ℕ). w ++ l) (drop-of-length-le d {i = length w} h) ∙ append-nil w
-
--- the front of a buffer is what was written there
-pub part-put : {n : ℕ} (w z x : List ℕ) → x ≡ w → length w ≡ n → n ≤ length z → take (n - 0) (drop 0 (putMid 0 (n - 0) z x)) ≡ w
-part-put {n} w z x ex h l =
-    let e : n - 0 ≡ length w = omega arith in
-    rw ex (ap (λ (d : List ℕ). take (n - 0) (drop 0 d)) (lent 0 n z w (omega arith))
-    ∙ ap (λ (k : ℕ). part 0 k (splice 0 w z)) e ∙ splice-here 0 w z (omega arith))
 
 pub laid-same : {a b : Laid} → a .saved ≡ b .saved → a .queue ≡ b .queue → a .kept ≡ b .kept → a ≡ b
 laid-same p q r = λ i. record { saved = p i; queue = q i; kept = r i }

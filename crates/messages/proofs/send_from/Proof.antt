@@ -1,7 +1,8 @@
 -- `messages::send_from` meets its contract. Assumes nothing.
 use Prim.Native.Nat.{_+_}
 use borrow.Author.Needs.{needs}
-use Rattle.messages.specs.Message.{contentOf, pieceOf, length-content, part-put}
+use Rattle.base.specs.Parts.{part-put}
+use Rattle.messages.specs.Message.{contentOf, pieceOf, length-content}
 use Rattle.messages.proofs.send_from.Statement.{statement}
 use Rattle.messages.proofs.send_from.Tie as tie
 

@@ -5,10 +5,10 @@ use lib.ListN.{length, take, drop}
 use mathlib.Core.List.{_++_}
 use mathlib.Core.Path.{_≡_, ap, _∙_}
 use native.Mathlib.Omega.{arith}
-use Rattle.base.specs.Parts.{part, length-part}
+use Rattle.base.specs.Parts.{part, length-part, splice-whole}
 use Rattle.handshake.specs.Header.{headerBytes, length-header}
 use Rattle.handshake.specs.declared.Header.{Header}
-use Rattle.messages.specs.Message.{contentOf, length-content, splice-whole}
+use Rattle.messages.specs.Message.{contentOf, length-content}
 use Rattle.queue.proofs.Writing.{two-parts}
 use Rattle.messages.proofs.write_content.Statement.{statement}
 use Rattle.messages.proofs.write_content.Tie as tie

@@ -1,0 +1,113 @@
+-- A flight sent again (01, "Flights acknowledged or sent again"), wholly or not at all. Assumes nothing.
+use mathlib.Core.Bool.{Bool, true, false}
+use mathlib.Core.List.{List}
+use mathlib.Core.Path.{_≡_, refl, sym, ap, _∙_}
+use Prim.Native.Nat.{ℕ, zero, suc, _+_, _*_, _≤_, _<_}
+use native.Mathlib.Numerals.{add-one}
+use native.Mathlib.Omega.{arith}
+use lib.Dec.{ltb}
+use lib.ListN.{length, set}
+use borrow.Author.Tests.{ltb-true}
+use Rattle.base.specs.Choose.{choose, both, by-test, both-right}
+use Rattle.base.specs.Parts.{part}
+use Rattle.queue.specs.Queue.{InRange}
+use Rattle.send_keys.specs.Keys.{nextOf}
+use Rattle.outgoing.specs.declared.Sending.{Sending}
+use Rattle.outgoing.specs.declared.SendAnswer.{SendAnswer}
+use Rattle.outgoing.specs.State.{isDone as isSent}
+use Rattle.outgoing.specs.Send.{sendAnswer, sendState, sendMemory}
+use Rattle.outgoing.specs.Laws.{send-range}
+use Rattle.flight.specs.declared.Entry.{Entry}
+use Rattle.flight.specs.declared.Flight.{Flight}
+use Rattle.flight.specs.Flight.{entryAt}
+use Rattle.resend.specs.declared.Again.{Again}
+use Rattle.resend.specs.declared.Resent.{Resent}
+use Rattle.resend.specs.declared.ResendAnswer.{ResendAnswer}
+use Rattle.resend.specs.Tests.{isDone, remembers, closedState}
+
+-- a new present number, and so many remembered
+unfoldable pub withNumber : Entry → ℕ → ℕ → Entry
+withNumber e number n = record { «content_type» = e .«content_type»; epoch = e .epoch; number = number; length = e .length; marked = e .marked; remembered = n }
+
+-- its present number is to be remembered, and a cell is free for it
+unfoldable pub canRemember : Entry → Bool
+canRemember e = both (remembers e) (ltb (e .remembered) 32)
+
+-- the old number goes into the i-th record's next cell of the table; 22 was found before where there is none
+unfoldable pub renewed : Flight → ℕ → ℕ → Flight
+renewed f i number =
+    choose (canRemember (entryAt f i))
+    (record {
+      entries = set (f .entries) i (withNumber (entryAt f i) number (entryAt f i .remembered + 1));
+      saved = f .saved;
+      numbers = set (f .numbers) (i * 32 + entryAt f i .remembered) (entryAt f i .number);
+    })
+    (record { entries = set (f .entries) i (withNumber (entryAt f i) number (entryAt f i .remembered)); saved = f .saved; numbers = f .numbers })
+
+unfoldable pub renewedIf : SendAnswer → Flight → ℕ → ℕ → Flight
+renewedIf a f i number = choose (isSent a) (renewed f i number) f
+
+-- state, flight and queue while records are sent again
+pub record Laying : Type 0 where
+  pub state : Sending
+  pub flight : Flight
+  pub queue : List ℕ
+
+abbrev pub laying : Again → List ℕ → Laying
+laying r q = record { state = r .state; flight = r .flight; queue = q }
+
+-- the content of the i-th saved record, at the start of its slot of MTU bytes
+abbrev pub contentAt : List ℕ → ℕ → Laying → List ℕ
+contentAt kept i l = part (i * l .state .queue .mtu) (entryAt (l .flight) i .length) kept
+
+-- a record with the saved one's epoch, type and content, sent as any other
+unfoldable pub sentAgain : SendAnswer → List ℕ → ℕ → Laying → Laying
+sentAgain a kept i l = record {
+  state = sendState a (l .state) (entryAt (l .flight) i .epoch) (length (contentAt kept i l)) .state;
+  flight = renewedIf a (l .flight) i (nextOf (l .state .keys) (entryAt (l .flight) i .epoch));
+  queue = sendMemory a (l .state) (entryAt (l .flight) i .epoch) (entryAt (l .flight) i .«content_type») (contentAt kept i l) (l .queue);
+}
+
+abbrev pub againAnswer : List ℕ → ℕ → Laying → SendAnswer
+againAnswer kept i l = sendAnswer (l .state) (length (l .queue)) (entryAt (l .flight) i .epoch) (entryAt (l .flight) i .«content_type») (length (contentAt kept i l))
+
+-- "skips acknowledged records, and sends the rest under new numbers"
+unfoldable pub againAt : List ℕ → ℕ → Laying → Laying
+againAt kept i l = choose (entryAt (l .flight) i .marked) l (sentAgain (againAnswer kept i l) kept i l)
+
+-- the first n saved records
+unfoldable pub againAfter : List ℕ → Laying → ℕ → Laying
+againAfter kept l zero = l
+againAfter kept l (suc n) = againAt kept n (againAfter kept l n)
+
+abbrev pub allAgain : Sending → Flight → List ℕ → List ℕ → Laying
+allAgain s f kept q = againAfter kept (record { state = closedState s; flight = f; queue = q }) (f .saved)
+
+-- wholly or not at all
+unfoldable pub resendState : ResendAnswer → Sending → Flight → List ℕ → List ℕ → Resent
+resendState a s f kept q =
+    choose (isDone a) (record { answer = a; state = allAgain s f kept q .state; flight = allAgain s f kept q .flight })
+    (record { answer = a; state = s; flight = f })
+
+unfoldable pub resendQueue : ResendAnswer → Sending → Flight → List ℕ → List ℕ → List ℕ
+resendQueue a s f kept q = choose (isDone a) (allAgain s f kept q .queue) q
+
+-- ---- laws
+
+pub again-next : (kept : List ℕ) (l : Laying) (n : ℕ) → againAfter kept l (n + 1) ≡ againAt kept n (againAfter kept l n)
+unfolding againAfter
+again-next kept l n = rw add-one
+
+-- sending again keeps the ranges
+pub again-range : (kept : List ℕ) (i : ℕ) (l : Laying) → InRange (l .state .queue) → InRange (againAt kept i l .state .queue)
+unfolding againAt sentAgain
+again-range kept i l r =
+    by-test (λ (x : Laying). InRange (x .state .queue)) (λ m. r)
+    (λ m. send-range (l .state) (length (l .queue)) (entryAt (l .flight) i .epoch) (entryAt (l .flight) i .«content_type») (length (contentAt kept i l)) r)
+
+pub laying-same : {a b : Laying} → a .state ≡ b .state → a .flight ≡ b .flight → a .queue ≡ b .queue → a ≡ b
+laying-same p q r = λ i. record { state = p i; flight = q i; queue = r i }
+
+pub can-few : (e : Entry) → canRemember e ≡ true → e .remembered < 32
+unfolding canRemember
+can-few e h = ltb-true (e .remembered) 32 (both-right (remembers e) _ h)
