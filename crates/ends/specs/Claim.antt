@@ -1,5 +1,5 @@
--- What holds after every list of calls on two fresh ends, at each receiving end and in each receive epoch: demand 3 but for saved records
--- that are marked, which joins with resends and ACKs.
+-- What holds after every list of calls on two fresh ends, at each receiving end and in each receive epoch: demand 3 but for its clause on
+-- saved records marked acknowledged.
 use Prim.Native.Nat.{ℕ, _*_, _≤_}
 use lib.ListN.{length}
 use mathlib.Core.Bool.{true, false}

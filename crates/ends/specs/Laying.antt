@@ -141,7 +141,7 @@ module _ {log : ℕ → List Sealed} {gone : List Line} {ivs : ℕ → List ℕ}
 -- ---- a message, piece by piece
 
 -- four choices by one test
-by-four : {A B C D : Type 0} (P : A → B → C → D → Type 0) (t : Bool) {a a′ : A} {b b′ : B} {c c′ : C} {d d′ : D} → (t ≡ true → P a b c d) → (t ≡ false → P a′ b′ c′ d′)
+pub by-four : {A B C D : Type 0} (P : A → B → C → D → Type 0) (t : Bool) {a a′ : A} {b b′ : B} {c c′ : C} {d d′ : D} → (t ≡ true → P a b c d) → (t ≡ false → P a′ b′ c′ d′)
     → P (choose t a a′) (choose t b b′) (choose t c c′) (choose t d d′)
 unfolding choose
 by-four P true f g = f refl

@@ -3,7 +3,9 @@ pub mod Numbers
 pub mod Laying
 pub mod Asked
 pub mod Replies
+pub mod Resends
 pub mod Sends
+pub mod Flights
 pub mod World
 pub mod Claim
 pub mod Proof

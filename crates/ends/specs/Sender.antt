@@ -17,8 +17,14 @@ use Rattle.outgoing.specs.declared.Sending.{Sending}
 use Rattle.outgoing.specs.State.{isDone, freshSending, isKeyedNow, keyingState}
 use Rattle.outgoing.specs.Send.{sendAnswer, sendState, sendMemory}
 use Rattle.flight.specs.declared.Flight.{Flight}
-use Rattle.flight.specs.Flight.{freshFlight, begun}
+use Rattle.flight.specs.Flight.{entryAt, freshFlight, begun}
 use Rattle.flight.specs.Save.{saveAnswer, saveState, saveQueue, saveKept}
+use Rattle.acks.specs.declared.Notes.{Notes}
+use Rattle.acks.specs.Acks.{freshNotes, noted, ackEpoch, ackContent, ackLen, ackAnswer, sentAck, ackMemory}
+use Rattle.process_ack.specs.Ack.{acked}
+use Rattle.resend.specs.declared.ResendAnswer.{ResendAnswer}
+use Rattle.resend.specs.Resend.{Laying as Again, contentAt, againAnswer, againAfter, resendState, resendQueue}
+use Rattle.resend.specs.Tests.{isDone as isResent, closedState, resendAnswer}
 use Rattle.messages.specs.Cut.{epochOf}
 use Rattle.messages.specs.Message.{contentOf, Laid, sizeNow, pieceOf, beginning, messageAnswer, messageState, messageQueue, messageKept}
 use Rattle.sealing.specs.declared.SealAnswer.{SealAnswer}
@@ -34,12 +40,13 @@ use Rattle.history.specs.Receiver.{Sealed, Handed}
 
 -- ---- what the history holds
 
--- what the host keeps: the state, the queue's memory, the flight and its memory
+-- what the host keeps: the state, the queue's memory, the flight and its memory, the records noted for the next ACK
 pub record Stores : Type 0 where
   pub state : Sending
   pub queue : List ℕ
   pub flight : Flight
   pub kept : List ℕ
+  pub notes : Notes
 
 -- a record laid in the queue, in the order of laying: finished with its bytes, or still to be sealed under its epoch and number
 pub data Line : Type 0 where
@@ -125,6 +132,28 @@ laysAll (suc k) kind body at l b =
 unfoldable pub messageBooks : SendAnswer → Stores → ℕ → List ℕ → Books → Books
 messageBooks a w kind body b = choose (isDone a) (laysAll 13 kind body 0 (beginning (w .state) (w .flight) (w .queue) (w .kept)) b) b
 
+-- the records of a flight sent again, one after the other: those not acknowledged, each with its epoch, type and the content that was saved
+unfoldable pub againBooks : List ℕ → Again → ℕ → Books → Books
+againBooks kept l zero b = b
+againBooks kept l (suc n) b =
+    let r = againAfter kept l n in
+    choose (entryAt (r .flight) n .marked) (againBooks kept l n b)
+    (lays (againAnswer kept n r) (r .state) (entryAt (r .flight) n .epoch) (entryAt (r .flight) n .«content_type») (contentAt kept n r) (againBooks kept l n b))
+
+abbrev pub closing : Stores → Again
+closing w = record { state = closedState (w .state); flight = w .flight; queue = w .queue }
+
+unfoldable pub resendBooks : ResendAnswer → Stores → Books → Books
+resendBooks a w b = choose (isResent a) (againBooks (w .kept) (closing w) (w .flight .saved) b) b
+
+-- an ACK: a record of type 26 that names the records noted, if there are any
+unfoldable pub ackBooks : Stores → Books → Books
+ackBooks w b =
+    let k = ackEpoch (w .state .keys) in
+    choose (isDone (ackAnswer (w .state) (w .notes) (length (w .queue))))
+    (choose (eqb (w .notes .count) 0) b
+    (lays (sendAnswer (w .state) (length (w .queue)) k 26 (ackLen (w .notes))) (w .state) k 26 (ackContent (w .notes)) b)) b
+
 -- ---- what was sealed
 
 -- the first record still to be sealed under an epoch and number is finished
@@ -164,6 +193,11 @@ pub data SendCall : Type 0 where
   save· : ℕ → ℕ → List ℕ → SendCall
   message· : ℕ → List ℕ → SendCall
   beginFlight· : SendCall
+  -- the flight again; a record noted by epoch and number; the ACK of those noted; an ACK's bytes acted on
+  resend· : SendCall
+  note· : ℕ → ℕ → SendCall
+  sendAck· : SendCall
+  ack· : List ℕ → SendCall
   -- the host's bytes in the part lent for the oldest sealing; its reply, a length and the mask; taking a datagram into a buffer
   fill· : List ℕ → SendCall
   sealed· : ℕ → List ℕ → SendCall
@@ -203,10 +237,10 @@ takenBy (took.Short n) buffer ts = ts
 
 -- state and memory behind each call, by the definitions that the calls' contracts cite
 abbrev pub stored : Stores → SendCall → Stores
-stored w (keySend· e iv) = record { state = keyingState (w .state) e iv .state; queue = w .queue; flight = w .flight; kept = w .kept }
+stored w (keySend· e iv) = record { state = keyingState (w .state) e iv .state; queue = w .queue; flight = w .flight; kept = w .kept; notes = w .notes }
 stored w (send· e t x) =
     let a = sendAnswer (w .state) (length (w .queue)) e t (length x) in
-    record { state = sendState a (w .state) e (length x) .state; queue = sendMemory a (w .state) e t x (w .queue); flight = w .flight; kept = w .kept }
+    record { state = sendState a (w .state) e (length x) .state; queue = sendMemory a (w .state) e t x (w .queue); flight = w .flight; kept = w .kept; notes = w .notes }
 stored w (save· e t x) =
     let r = saveState (w .state) (w .flight) (length (w .queue)) (length (w .kept)) e t (length x) in
     record {
@@ -214,6 +248,7 @@ stored w (save· e t x) =
       queue = saveQueue (w .state) (w .flight) (length (w .kept)) e t x (w .queue);
       flight = r .flight;
       kept = saveKept (w .state) (w .flight) (length (w .queue)) e t x (w .kept);
+      notes = w .notes;
     }
 stored w (message· kind body) =
     let a = messageAnswer (w .state) (w .flight) (length (w .queue)) (length (w .kept)) kind (length body) in
@@ -223,18 +258,29 @@ stored w (message· kind body) =
       queue = messageQueue a (w .state) (w .flight) (w .queue) (w .kept) kind body;
       flight = r .flight;
       kept = messageKept a (w .state) (w .flight) (w .queue) (w .kept) kind body;
+      notes = w .notes;
     }
-stored w beginFlight· = record { state = w .state; queue = w .queue; flight = begun (w .flight) .flight; kept = w .kept }
-stored w (fill· v) = record { state = w .state; queue = putMemory (w .state) v (w .queue); flight = w .flight; kept = w .kept }
+stored w beginFlight· = record { state = w .state; queue = w .queue; flight = begun (w .flight) .flight; kept = w .kept; notes = w .notes }
+stored w resend· =
+    let a = resendAnswer (w .state) (w .flight) (length (w .queue)) (length (w .kept)) in
+    let r = resendState a (w .state) (w .flight) (w .kept) (w .queue) in
+    record { state = r .state; queue = resendQueue a (w .state) (w .flight) (w .kept) (w .queue); flight = r .flight; kept = w .kept; notes = w .notes }
+stored w (note· e n) = record { state = w .state; queue = w .queue; flight = w .flight; kept = w .kept; notes = noted (w .notes) e n .notes }
+stored w sendAck· =
+    let r = sentAck (w .state) (w .notes) (length (w .queue)) in
+    record { state = r .state; queue = ackMemory (w .state) (w .notes) (w .queue); flight = w .flight; kept = w .kept; notes = r .notes }
+stored w (ack· d) = record { state = w .state; queue = w .queue; flight = acked (w .flight) d .flight; kept = w .kept; notes = w .notes }
+stored w (fill· v) = record { state = w .state; queue = putMemory (w .state) v (w .queue); flight = w .flight; kept = w .kept; notes = w .notes }
 stored w (sealed· n m) =
     let a = sealAnswer (w .state) (length (w .queue)) n in
-    record { state = sealedState a (w .state) (w .queue) .state; queue = sealedMemory a (w .state) m (w .queue); flight = w .flight; kept = w .kept }
+    record { state = sealedState a (w .state) (w .queue) .state; queue = sealedMemory a (w .state) m (w .queue); flight = w .flight; kept = w .kept; notes = w .notes }
 stored w (take· buffer) =
     record {
       state = takeState (takeAnswer (w .state) (length (w .queue)) (length buffer)) (w .state) .state;
       queue = w .queue;
       flight = w .flight;
       kept = w .kept;
+      notes = w .notes;
     }
 
 -- and the history
@@ -253,6 +299,12 @@ sends x (message· kind body) =
     turns x (stored w (message· kind body))
     (messageBooks (messageAnswer (w .state) (w .flight) (length (w .queue)) (length (w .kept)) kind (length body)) w kind body (x .books)) (x .ivs) (x .sealed) (x .taken)
 sends x beginFlight· = turns x (stored (x .stores) beginFlight·) (x .books) (x .ivs) (x .sealed) (x .taken)
+sends x resend· =
+    let w = x .stores in
+    turns x (stored w resend·) (resendBooks (resendAnswer (w .state) (w .flight) (length (w .queue)) (length (w .kept))) w (x .books)) (x .ivs) (x .sealed) (x .taken)
+sends x (note· e n) = turns x (stored (x .stores) (note· e n)) (x .books) (x .ivs) (x .sealed) (x .taken)
+sends x sendAck· = turns x (stored (x .stores) sendAck·) (ackBooks (x .stores) (x .books)) (x .ivs) (x .sealed) (x .taken)
+sends x (ack· d) = turns x (stored (x .stores) (ack· d)) (x .books) (x .ivs) (x .sealed) (x .taken)
 sends x (fill· v) = turns x (stored (x .stores) (fill· v)) (x .books) (x .ivs) (x .sealed) (x .taken)
 sends x (sealed· n m) =
     let w = x .stores in
@@ -280,6 +332,10 @@ FairSend masks x (send· e t c) = Unit {0}
 FairSend masks x (save· e t c) = Unit {0}
 FairSend masks x (message· kind body) = Unit {0}
 FairSend masks x beginFlight· = Unit {0}
+FairSend masks x resend· = Unit {0}
+FairSend masks x (note· e n) = Unit {0}
+FairSend masks x sendAck· = Unit {0}
+FairSend masks x (ack· d) = Unit {0}
 FairSend masks x (fill· v) = Unit {0}
 FairSend masks x (sealed· k m) = FairSeal masks (x .lent) (x .stores .queue) k m
 FairSend masks x (take· buffer) = Unit {0}
@@ -288,7 +344,7 @@ FairSend masks x (take· buffer) = Unit {0}
 
 abbrev pub newSender : ℕ → ℕ → List ℕ → List ℕ → Sender
 newSender mtu limit queue kept = record {
-  stores = record { state = freshSending mtu limit; queue = queue; flight = freshFlight; kept = kept };
+  stores = record { state = freshSending mtu limit; queue = queue; flight = freshFlight; kept = kept; notes = freshNotes };
   books = record { sent = λ e. []; lines = [] };
   ivs = λ e. [];
   lent = none;

@@ -21,6 +21,8 @@ use Rattle.outgoing.specs.State.{freshSending, isKeyedNow, withKeys, keyingStat
 use Rattle.outgoing.specs.Send.{sendAnswer}
 use Rattle.flight.specs.Save.{saveAnswer}
 use Rattle.messages.specs.Message.{messageAnswer}
+use Rattle.resend.specs.declared.ResendAnswer.{ResendAnswer}
+use Rattle.resend.specs.Tests.{resendAnswer}
 use Rattle.sealing.specs.declared.SealAnswer.{SealAnswer}
 use Rattle.sealing.specs.declared.TakeAnswer.the-variants as took
 use Rattle.sealing.specs.declared.TakeAnswer.{TakeAnswer}
@@ -29,12 +31,13 @@ use Rattle.sealing.specs.Sealing.{partStart, maskedHeader, isPut, putMemory, se
 use Rattle.sealing.specs.Take.{frontLen, takeAnswer, isTaken, takeState, takeBuffer, takes}
 use Rattle.waiting.specs.Calls as call
 use Rattle.waiting.specs.Calls.Call.{key as keyCall, send as sendCall, save as saveCall, message as messageCall, begin as beginCall, put as putCall, reply as replyCall, take as takeCall}
-use Rattle.waiting.specs.Effects.{Waited, oldest-first}
+use Rattle.waiting.specs.Effects.{adds, Waited, oldest-first}
 use Rattle.waiting.specs.Facts.{each-lies, waits-between, waits-under}
 use Rattle.waiting.specs.First.{sealWith, putWith, firstIn, flat-first}
 use Rattle.waiting.specs.Fresh.{fresh-holds}
 use Rattle.waiting.specs.Keying.{keying-holds}
 use Rattle.waiting.specs.Oldest.{First, first-of, names-first}
+use Rattle.waiting.specs.Pieces.{Behind}
 use Rattle.waiting.specs.Queued.{Queued, plain, waits, sealed, bytesOf, bytes, flat, waitingOf, waitsIn, sealedOf, Holds}
 use Rattle.waiting.specs.Seals.{afterPut, put-holds, afterReply}
 use Rattle.waiting.specs.Takes.{front-size, take-told, afterTaken, taken-settled, take-holds, take-bytes}
@@ -48,6 +51,7 @@ use Rattle.ends.specs.Asked.{lentFor, LentIs, waiting-cases, waiting-mem
 use Rattle.ends.specs.Laying.{lineIn, linesIn, lines-append, Laying, send-lays, save-lays, message-lays}
 use Rattle.ends.specs.Numbers.{Numbers, NewEpoch, new-epoch, keyed-numbers, Ivs, keyed-ivs}
 use Rattle.ends.specs.Replies.{logged, sealed-tests, sealed-is, shape-is, AllDone, not-sealed, reply-lays}
+use Rattle.ends.specs.Resends.{afterResend, ackDs, resend-lays, resend-behind, ack-lays, ack-behind}
 use Rattle.ends.specs.Sender.{
   Stores,
   Line,
@@ -69,6 +73,10 @@ use Rattle.ends.specs.Sender.{
   save·,
   message·,
   beginFlight·,
+  resend·,
+  note·,
+  sendAck·,
+  ack·,
   fill·,
   sealed·,
   take·,
@@ -239,6 +247,26 @@ module _ (masks : Masks) (x : Sender) (i : Sends masks x) where
 
   begin-keeps : Sends masks (sends x beginFlight·)
   begin-keeps = simple _ (i .ds) _ (x .ivs) (i .laying) (effect beginCall)
+
+  -- ---- what is laid behind the others, and what touches no queue
+
+  added : (us : List (List Queued)) → Behind (flat (i .ds)) (flat us) → Waited (flat (i .ds)) (flat us)
+  added us b = oldest-first _ _ (adds (b .more) (b .laid) (b .all))
+
+  resend-keeps : Sends masks (sends x resend·)
+  resend-keeps =
+      let a : ResendAnswer = resendAnswer (w .state) (w .flight) (length (w .queue)) (length (w .kept)) in
+      simple _ _ _ (x .ivs) (resend-lays (x .sealed) (i .gone) (x .ivs) a w (i .ds) (x .books) (i .laying)) (added (afterResend a w (i .ds)) (resend-behind (x .sealed) (i .gone) (x .ivs) a w (i .ds)))
+
+  sendAck-keeps : Sends masks (sends x sendAck·)
+  sendAck-keeps =
+      simple _ _ _ (x .ivs) (ack-lays (x .sealed) (i .gone) (x .ivs) w (i .ds) (x .books) (i .laying)) (added (ackDs w (i .ds)) (ack-behind (x .sealed) (i .gone) (x .ivs) w (i .ds)))
+
+  note-keeps : (e n : ℕ) → Sends masks (sends x (note· e n))
+  note-keeps e n = simple _ (i .ds) _ (x .ivs) (i .laying) (effect beginCall)
+
+  ack-keeps : (d : List ℕ) → Sends masks (sends x (ack· d))
+  ack-keeps d = simple _ (i .ds) _ (x .ivs) (i .laying) (effect beginCall)
 
   -- ---- the host's bytes
 
@@ -482,6 +510,10 @@ sends-keep masks x (send· e t c) i h = send-keeps masks x i e t c
 sends-keep masks x (save· e t c) i h = save-keeps masks x i e t c
 sends-keep masks x (message· kind body) i h = message-keeps masks x i kind body
 sends-keep masks x beginFlight· i h = begin-keeps masks x i
+sends-keep masks x resend· i h = resend-keeps masks x i
+sends-keep masks x (note· e n) i h = note-keeps masks x i e n
+sends-keep masks x sendAck· i h = sendAck-keeps masks x i
+sends-keep masks x (ack· d) i h = ack-keeps masks x i d
 sends-keep masks x (fill· v) i h = fill-keeps masks x i v
 sends-keep masks x (sealed· k m) i h = reply-keeps masks x i k m h
 sends-keep masks x (take· buffer) i h = take-keeps masks x i buffer
@@ -500,6 +532,10 @@ sealed-grows x (send· k t c) e r m = m
 sealed-grows x (save· k t c) e r m = m
 sealed-grows x (message· kind body) e r m = m
 sealed-grows x beginFlight· e r m = m
+sealed-grows x resend· e r m = m
+sealed-grows x (note· k n) e r m = m
+sealed-grows x sendAck· e r m = m
+sealed-grows x (ack· d) e r m = m
 sealed-grows x (fill· v) e r m = m
 sealed-grows x (sealed· k n) e r m = sealed-more _ (x .lent) _ _ (x .sealed) e r m
 sealed-grows x (take· buffer) e r m = m

@@ -1,5 +1,5 @@
 -- Two ends that talk: each sends and receives, and each call gets state, queue, flight and datagram as the last call at its end left them,
--- refused or not. Resending, noting, and sending and acting on ACKs join with their definitions.
+-- refused or not.
 use Prim.Native.Nat.{ℕ}
 use mathlib.Core.List.{List, [], _∷_}
 use Rattle.send_keys.specs.declared.SendKeys.{SendKeys}
