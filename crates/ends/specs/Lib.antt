@@ -6,6 +6,8 @@ pub mod Replies
 pub mod Resends
 pub mod Sends
 pub mod Flights
+pub mod Marks
+pub mod Acting
 pub mod World
 pub mod Claim
 pub mod Proof
