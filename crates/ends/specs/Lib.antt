@@ -8,6 +8,7 @@ pub mod Sends
 pub mod Flights
 pub mod Marks
 pub mod Acting
+pub mod Plan
 pub mod World
 pub mod Claim
 pub mod Proof

@@ -41,7 +41,7 @@ keyed-two k e h q = eqb-true _ _ (sym (if-true _ _ (eq-eqb e 2 q)) ∙ h)
 
 -- ---- a record is sent
 
-used-epochs : (k : SendKeys) (e : ℕ) → (used k e .handshake .epoch ≡ k .handshake .epoch) × (used k e .application .epoch ≡ k .application .epoch)
+pub used-epochs : (k : SendKeys) (e : ℕ) → (used k e .handshake .epoch ≡ k .handshake .epoch) × (used k e .application .epoch ≡ k .application .epoch)
 unfolding used
 used-epochs k e =
     let P : SendKeys → Type 0 = λ l. (l .handshake .epoch ≡ k .handshake .epoch) × (l .application .epoch ≡ k .application .epoch) in
@@ -52,7 +52,7 @@ unfolding isUsable
 usable-same k l x q = ap (λ (n : ℕ). either (eqb x 0) (either (eqb x 2) (both (leb 3 x) (eqb x n)))) q
 
 -- the others' next numbers stay
-next-other : (k : SendKeys) (e x : ℕ) → isUsable k e ≡ true → isUsable k x ≡ true → (x ≡ e → ⊥) → nextOf (used k e) x ≡ nextOf k x
+pub next-other : (k : SendKeys) (e x : ℕ) → isUsable k e ≡ true → isUsable k x ≡ true → (x ≡ e → ⊥) → nextOf (used k e) x ≡ nextOf k x
 unfolding nextOf used choose
 next-other k e x ue ux ne =
     test-cases (eqb e 0)
