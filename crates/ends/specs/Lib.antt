@@ -9,6 +9,7 @@ pub mod Flights
 pub mod Marks
 pub mod Acting
 pub mod Plan
+pub mod Again
 pub mod World
 pub mod Claim
 pub mod Proof

@@ -181,7 +181,7 @@ module _ (s : Sending) (f : Flight) (kept : List ℕ) (p : Plan s f (length kept
     abbrev x : Entry
     x = entryAt f i
 
-    content-long : length (contentAt kept i r) ≡ entryAt f i .length
+    pub content-long : length (contentAt kept i r) ≡ entryAt f i .length
     content-long =
         let g : (i + 1) * s .queue .mtu ≤ 12 * s .queue .mtu = mul-le-mul-right (s .queue .mtu) (omega arith) in
         let w : i * s .queue .mtu + s .queue .mtu ≤ 12 * s .queue .mtu = omega arith in
@@ -296,7 +296,7 @@ module _ (s : Sending) (f : Flight) (kept : List ℕ) (p : Plan s f (length kept
         ))
         (λ z. (refl, length-set (r .flight .entries) i _, refl, λ j l. getD-set-other (r .flight .entries) i j _ noEntry (λ q. omega arith)))
 
-    sent-under : (ds : List (List Queued)) → Holds (r .state) (r .queue) ds → Under s f q (suc i) (sentAgain (againAnswer kept i r) kept i r)
+    pub sent-under : (ds : List (List Queued)) → Holds (r .state) (r .queue) ds → Under s f q (suc i) (sentAgain (againAnswer kept i r) kept i r)
     unfolding sentAgain renewedIf laidState laid
     sent-under ds h =
         let d = sent-on ds h in
@@ -316,3 +316,35 @@ module _ (s : Sending) (f : Flight) (kept : List ℕ) (p : Plan s f (length kept
           long = ap (λ (v : Flight). length (v .entries)) fl ∙ g .1 ∙ u .long;
           table = ap (λ (v : Flight). length (v .numbers)) fl ∙ g .2 ∙ u .table;
         }
+
+  -- one that is acknowledged is passed over
+  pub skip-under : (q : ℕ) (i : ℕ) (r : Again) → Under s f q i r → entryAt f i .marked ≡ true → Under s f q (suc i) r
+  unfolding countAfter tailAfter joined
+  skip-under q i r u m = record {
+    mtu = u .mtu;
+    limit = u .limit;
+    handshake = u .handshake;
+    application = u .application;
+    next = λ e v. let z : _≡_ {A = ℕ} (choose (entryAt f i .marked) 0 (choose (eqb (entryAt f i .epoch) e) 1 0)) 0 = if-true _ _ m in omega (arith, u .next e v);
+    tail = u .tail ∙ sym (if-true _ _ m);
+    later = λ j l. u .later j (omega arith);
+    saved = u .saved;
+    long = u .long;
+    table = u .table;
+  }
+
+  -- the start: the datagram is closed
+  pub start-under : (queue : List ℕ) → Under s f 0 0 (record { state = closedState s; flight = f; queue = queue })
+  unfolding closedState countAfter tailAfter
+  start-under queue = record {
+    mtu = refl;
+    limit = refl;
+    handshake = refl;
+    application = refl;
+    next = λ e v. omega arith;
+    tail = refl;
+    later = λ j l. refl;
+    saved = refl;
+    long = entries;
+    table = cells;
+  }

@@ -51,7 +51,7 @@ ackDs w ds =
     (afterSend (sendAnswer (w .state) (length (w .queue)) (ackEpoch (w .state .keys)) 26 (ackLen (w .notes))) (w .state) (ackEpoch (w .state .keys)) 26 (ackContent (w .notes)) ds)) ds
 
 module _ (log : ℕ → List Sealed) (gone : List Line) (ivs : ℕ → List ℕ) where
-  again-lays : (kept : List ℕ) (l : Again) (n : ℕ) (ds : List (List Queued)) (b : Books) → Laying log gone ivs (l .state) (l .queue) ds b
+  pub again-lays : (kept : List ℕ) (l : Again) (n : ℕ) (ds : List (List Queued)) (b : Books) → Laying log gone ivs (l .state) (l .queue) ds b
       → Laying log gone ivs (againAfter kept l n .state) (againAfter kept l n .queue) (againDs kept l n ds) (againBooks kept l n b)
   unfolding againAfter againAt sentAgain againDs againBooks
   again-lays kept l zero ds b i = i
@@ -78,7 +78,7 @@ module _ (log : ℕ → List Sealed) (gone : List Line) (ivs : ℕ → List ℕ)
   rows-closed s mem k [] r = tt
   rows-closed s mem k (d ∷ ds) r = (record { some = r .0 .some; size = r .0 .size; short = r .0 .short; lies = r .0 .lies }, rows-closed s mem (k + 1) ds (r .1))
 
-  closed-lays : (s : Sending) (q : List ℕ) (ds : List (List Queued)) (b : Books) → Laying log gone ivs s q ds b → Laying log gone ivs (closedState s) q ds b
+  pub closed-lays : (s : Sending) (q : List ℕ) (ds : List (List Queued)) (b : Books) → Laying log gone ivs s q ds b → Laying log gone ivs (closedState s) q ds b
   unfolding closedState
   closed-lays s q ds b i = record {
     holds = record {
