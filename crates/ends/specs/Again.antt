@@ -29,7 +29,7 @@ use Rattle.history.specs.Receiver.{Sealed, Handed}
 use Rattle.ends.specs.Laying.{Laying}
 use Rattle.ends.specs.Marks.{Grows}
 use Rattle.ends.specs.Plan.{Plan, Under, content-long, sent-on, sent-under, skip-under, start-under}
-use Rattle.ends.specs.Resends.{againDs, again-lays, closed-lays}
+use Rattle.ends.specs.Resends.{by-three, againDs, again-lays, closed-lays}
 use Rattle.ends.specs.Sender.{Line, Books, written, lays, againBooks}
 
 -- the content of the i-th saved record
@@ -227,3 +227,36 @@ module _ (s : Sending) (f : Flight) (kept : List ℕ) (p : Plan s f (length kept
       where
         fl : sentAgain (againAnswer kept n r) kept n r .flight ≡ renewed (r .flight) n num
         fl = unfold sentAgain in flight-is
+
+  -- ---- record by record
+
+  skip-sofar : (n : ℕ) (r : Again) (rs : List Queued) (sent : ℕ → List Handed) → Sofar s f kept n r rs sent → entryAt f n .marked ≡ true → Sofar s f kept (suc n) r rs sent
+  skip-sofar n r rs sent i m = record {
+    under = skip-under s f kept p most entries table short 0 n r (i .under) m;
+    each = λ j l.
+        ⊎-elim
+        (λ (q : j ≡ n).
+        subst (Outcome s f (r .flight) kept rs sent) (sym q) (same m (i .under .later n (omega arith)) (λ c o. i .cells (n * 32 + c) (omega arith))))
+        (λ q. i .each j (omega arith)) (eq-or-ne j n);
+    cells = λ c l. i .cells c (omega arith);
+  }
+
+  pub all-sofar : (log : ℕ → List Sealed) (gone : List Line) (ivs : ℕ → List ℕ) (queue : List ℕ) (ds : List (List Queued)) (b : Books)
+      → Laying log gone ivs (closedState s) queue ds b → (n : ℕ) → n ≤ f .saved
+      → let l : Again = record { state = closedState s; flight = f; queue = queue } in
+      Sofar s f kept n (againAfter kept l n) (flat (againDs kept l n ds)) (againBooks kept l n b .sent)
+  unfolding againAfter againAt againDs againBooks
+  all-sofar log gone ivs queue ds b i zero h = record {
+    under = start-under s f kept p most entries table short queue;
+    each = λ j l. absurd (omega arith);
+    cells = λ c l. refl;
+  }
+  all-sofar log gone ivs queue ds b i (suc n) h =
+      let l : Again = record { state = closedState s; flight = f; queue = queue } in
+      let r : Again = againAfter kept l n in
+      let ih = all-sofar log gone ivs queue ds b i n (omega arith) in
+      let now = again-lays log gone ivs kept l n ds b i in
+      let entry-is : entryAt (r .flight) n ≡ entryAt f n = ih .under .later n (omega arith) in
+      by-three (λ (v : Again) (us : List (List Queued)) (c : Books). Sofar s f kept (suc n) v (flat us) (c .sent)) (entryAt (r .flight) n .marked)
+      (λ m. skip-sofar n r (flat (againDs kept l n ds)) (againBooks kept l n b .sent) ih (ap (λ (e : Entry). e .marked) (sym entry-is) ∙ m))
+      (λ m. sent-sofar n r (againDs kept l n ds) (againBooks kept l n b) (now .holds) ih (omega arith) (ap (λ (e : Entry). e .marked) (sym entry-is) ∙ m))

@@ -10,6 +10,7 @@ pub mod Marks
 pub mod Acting
 pub mod Plan
 pub mod Again
+pub mod Passed
 pub mod World
 pub mod Claim
 pub mod Proof

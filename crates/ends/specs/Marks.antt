@@ -90,7 +90,7 @@ flown-grows a b p q up on mtu f kept gs t = record {
 
 -- ---- nothing is missing, and what is marked arrived
 
-same-bytes : (l : List ℕ) → sameBytes l l ≡ true
+pub same-bytes : (l : List ℕ) → sameBytes l l ≡ true
 same-bytes [] = refl
 same-bytes (a ∷ l) = both-true (eq-eqb a a refl) ∙ same-bytes l
 

@@ -26,7 +26,7 @@ use Rattle.ends.specs.Laying.{Laying, send-lays, by-four}
 use Rattle.ends.specs.Sender.{Stores, Line, Books, lays, againBooks, closing, resendBooks, ackBooks}
 
 -- three choices by one test
-by-three : {A B C : Type 0} (P : A → B → C → Type 0) (t : Bool) {a a′ : A} {b b′ : B} {c c′ : C} → (t ≡ true → P a b c) → (t ≡ false → P a′ b′ c′)
+pub by-three : {A B C : Type 0} (P : A → B → C → Type 0) (t : Bool) {a a′ : A} {b b′ : B} {c c′ : C} → (t ≡ true → P a b c) → (t ≡ false → P a′ b′ c′)
     → P (choose t a a′) (choose t b b′) (choose t c c′)
 unfolding choose
 by-three P true f g = f refl
