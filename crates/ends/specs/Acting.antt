@@ -155,20 +155,20 @@ tally-marked f (suc n) i h =
 
 module _ (handed sent : ℕ → List Handed) (mtu : ℕ) (f : Flight) (kept : List ℕ) where
   -- a tally with a record of epoch 2 comes of a saved one
-  tally-any : (n : ℕ) → tallyAfter f n .any ≡ true → (i : ℕ) × (i < n) × (entryAt f i .epoch ≡ 2)
+  pub tally-any : (n : ℕ) → tallyAfter f n .any ≡ true → (i : ℕ) × (i < n) × (entryAt f i .epoch ≡ 2)
   unfolding tallyAfter tallyWith
   tally-any zero = λ z. absurd (false≢true z)
   tally-any (suc n) =
       by-test (λ (t : Tally). t .any ≡ true → (i : ℕ) × (i < suc n) × (entryAt f i .epoch ≡ 2)) (λ a z. (n, omega arith, eqb-true _ _ a))
       (λ a z. let r = tally-any n z in (r .0, omega (arith, r .1), r .2))
 
-  any-two : (i : ℕ) (gs : List Saved) → Tracked handed sent mtu f kept i gs → (j : ℕ) → i ≤ j → j < i + length gs → entryAt f j .epoch ≡ 2 → anyTwo gs ≡ true
+  pub any-two : (i : ℕ) (gs : List Saved) → Tracked handed sent mtu f kept i gs → (j : ℕ) → i ≤ j → j < i + length gs → entryAt f j .epoch ≡ 2 → anyTwo gs ≡ true
   any-two i [] t j l h e = absurd (omega arith)
   any-two i (g ∷ gs) t j l h e =
       ⊎-elim (λ (q : j ≡ i). either-true _ (eq-eqb _ _ (t .0 .epoch ∙ ap (λ (k : ℕ). entryAt f k .epoch) (sym q) ∙ e)))
       (λ q. test-cases (eqb (g .epoch) 2) (λ z. either-true _ z) (λ z. either-false z ∙ any-two (suc i) gs (t .1) j (omega arith) (omega arith) e)) (eq-or-ne j i)
 
-  two-arrived : (n i : ℕ) (gs : List Saved) → i + length gs ≤ n → Tracked handed sent mtu f kept i gs → tallyAfter f n .unmarked ≡ false
+  pub two-arrived : (n i : ℕ) (gs : List Saved) → i + length gs ≤ n → Tracked handed sent mtu f kept i gs → tallyAfter f n .unmarked ≡ false
       → (g : Saved) → 2 ≤ g .epoch → Mem g (ofTwo gs) → Arrived handed g
   two-arrived n i [] l t z g two = λ m. elim m [ ]
   two-arrived n i (h ∷ hs) l t z g two =

@@ -64,7 +64,7 @@ lays-grows a s e t x b k h m =
     (λ q o. there (subst (λ (v : ℕ). Mem h (b .sent v)) q o)) (λ q o. o) m)
     (λ d. m)
 
-lays-new : (a : SendAnswer) (s : Sending) (e t : ℕ) (x : List ℕ) (b : Books) → isDone a ≡ true
+pub lays-new : (a : SendAnswer) (s : Sending) (e t : ℕ) (x : List ℕ) (b : Books) → isDone a ≡ true
     → Mem (record { num = nextOf (s .keys) e; type = t; content = x }) (lays a s e t x b .sent e)
 unfolding lays
 lays-new a s e t x b d =

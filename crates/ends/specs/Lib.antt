@@ -11,6 +11,7 @@ pub mod Acting
 pub mod Plan
 pub mod Again
 pub mod Passed
+pub mod Saving
 pub mod World
 pub mod Claim
 pub mod Proof

@@ -13,6 +13,7 @@ use native.Mathlib.Omega.{arith}
 use Rattle.base.specs.Choose.{choose, both, either, if-true, if-false, by-test, test-cases, both-true, either-true, either-false}
 use Rattle.base.specs.Parts.{part}
 use Rattle.queue.specs.Laid.{recordBytes}
+use Rattle.send_keys.specs.declared.SendKeys.{SendKeys}
 use Rattle.send_keys.specs.Keys.{nextOf}
 use Rattle.outgoing.specs.declared.Sending.{Sending}
 use Rattle.flight.specs.declared.Entry.{Entry}
@@ -121,3 +122,32 @@ module _ (handed sent sent′ : ℕ → List Handed) (grows : Grows sent sent′
       log-here =
           subst (λ (e : ℕ). Mem (handedOf h n) (sent′ e)) (sym (k .epoch))
           (subst (λ (v : Handed). Mem v (sent′ (entryAt f i .epoch))) (same-handed (sym (k .type)) (sym (k .content))) in-log)
+
+  pub renewed-one : (i : ℕ) (h : Saved) → Kept handed sent (s .queue .mtu) f kept i h → Outcome s f g kept rs sent′ i
+      → Kept handed sent′ (s .queue .mtu) g kept i (choose (wasLaid (s .keys) queue h (entryAt g i .number)) (againAs h (entryAt g i .number)) h)
+      × (wasLaid (s .keys) queue h (entryAt g i .number) ≡ false → 2 ≤ h .epoch → Arrived handed h)
+  renewed-one i h k (same m q c) = as-was i h k m q c
+  renewed-one i h k (anew m n r q few high c in-queue in-log) = sent-anew i h k m n r q few high c in-queue in-log
+
+  pub renewed-tracked : (end : ℕ) → ((i : ℕ) → i < end → Outcome s f g kept rs sent′ i) → (i : ℕ) (hs : List Saved) → i + length hs ≤ end
+      → Tracked handed sent (s .queue .mtu) f kept i hs → Tracked handed sent′ (s .queue .mtu) g kept i (renewedBy (s .keys) queue g i hs)
+  renewed-tracked end o i [] l t = tt
+  renewed-tracked end o i (h ∷ hs) l t = (renewed-one i h (t .0) (o i (omega arith)) .0, renewed-tracked end o (suc i) hs (omega arith) (t .1))
+
+  pub passed-arrived : (end : ℕ) → ((i : ℕ) → i < end → Outcome s f g kept rs sent′ i) → (i : ℕ) (hs : List Saved) → i + length hs ≤ end
+      → Tracked handed sent (s .queue .mtu) f kept i hs → (v : Saved) → 2 ≤ v .epoch → Mem v (passedOver (s .keys) queue g i hs) → Arrived handed v
+  passed-arrived end o i [] l t v two = λ m. elim m [ ]
+  passed-arrived end o i (h ∷ hs) l t v two =
+      by-test (λ (ks : List Saved). Mem v ks → Arrived handed v) (λ z m. passed-arrived end o (suc i) hs (omega arith) (t .1) v two m)
+      (λ z m.
+      mem-by m
+      (λ (q : v ≡ h). subst (λ (u : Saved). 2 ≤ u .epoch → Arrived handed u) (sym q) (renewed-one i h (t .0) (o i (omega arith)) .1 z) two)
+      (λ m′. passed-arrived end o (suc i) hs (omega arith) (t .1) v two m′))
+
+pub length-renewed : (k : SendKeys) (q : List ℕ) (g : Flight) (i : ℕ) (hs : List Saved) → length (renewedBy k q g i hs) ≡ length hs
+length-renewed k q g i [] = refl
+length-renewed k q g i (h ∷ hs) = ap suc (length-renewed k q g (suc i) hs)
+
+-- each record of the queue is found in its bytes
+pub each-found : (s : Sending) (q : List ℕ) (ds : List (List Queued)) → Holds s q ds → (r : Queued) → Mem r (flat ds) → liesIn q (bytesOf r) ≡ true
+each-found s q ds h r m = let l = each-lies s q ds h r m in lies-found q (bytesOf r) (l .at) (l .stands .here)
