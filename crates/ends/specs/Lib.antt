@@ -12,6 +12,7 @@ pub mod Plan
 pub mod Again
 pub mod Passed
 pub mod Saving
+pub mod Width
 pub mod World
 pub mod Claim
 pub mod Proof
