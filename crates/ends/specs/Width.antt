@@ -20,6 +20,7 @@ use Rattle.acks.specs.declared.AckSent.{AckSent}
 use Rattle.acks.specs.Acks.{noticeState, ackSent, sentAck}
 use Rattle.messages.specs.Message.{Laid, pieceOf, sendAll, beginning, messageState}
 use Rattle.resend.specs.declared.Resent.{Resent}
+use Rattle.resend.specs.declared.ResendAnswer.{ResendAnswer}
 use Rattle.resend.specs.Resend.{Laying as Again, contentAt, sentAgain, againAnswer, againAt, againAfter, resendState}
 use Rattle.resend.specs.Tests.{closedState}
 use Rattle.sealing.specs.Sealing.{sealedState}
@@ -162,3 +163,21 @@ ack-grows w b e h m =
 finished-same : (a : SealAnswer) (o : Option Lent) (p q : List ℕ) (b : Books) → finishedBy a o p q b .sent ≡ b .sent
 finished-same a none p q b = refl
 finished-same a (some l) p q b = by-test (λ (c : Books). c .sent ≡ b .sent) (λ z. refl) (λ z. refl)
+
+resend-grows : (a : ResendAnswer) (w : Stores) (b : Books) → Grows (b .sent) (resendBooks a w b .sent)
+unfolding resendBooks
+resend-grows a w b e h m = by-test (λ (c : Books). Mem h (c .sent e)) (λ z. again-grows (w .kept) (closing w) (w .flight .saved) b e h m) (λ z. m)
+
+pub sent-grows : (x : Sender) (c : SendCall) → Grows (x .books .sent) (sends x c .books .sent)
+sent-grows x (keySend· k iv) e h m = m
+sent-grows x (send· k t c) e h m = lays-grows _ (x .stores .state) k t c (x .books) e h m
+sent-grows x (save· k t c) e h m = lays-grows _ (x .stores .state) k t c (x .books) e h m
+sent-grows x (message· kind body) e h m = message-grows _ (x .stores) kind body (x .books) e h m
+sent-grows x beginFlight· e h m = m
+sent-grows x resend· e h m = resend-grows _ (x .stores) (x .books) e h m
+sent-grows x (note· k n) e h m = m
+sent-grows x sendAck· e h m = ack-grows (x .stores) (x .books) e h m
+sent-grows x (ack· d) e h m = m
+sent-grows x (fill· v) e h m = m
+sent-grows x (sealed· k n) e h m = subst (λ (f : ℕ → List Handed). Mem h (f e)) (sym (finished-same _ (x .lent) _ _ (x .books))) m
+sent-grows x (take· b) e h m = m

@@ -1,0 +1,131 @@
+-- Every sending call keeps the flight and the claim's account of it together. Assumes nothing.
+use Prim.Native.Nat.{ℕ, zero, suc, _+_, _-_, _*_, _<_, _≤_}
+use borrow.Author.Tests.{le-leb}
+use lib.Dec.{leb, eqb}
+use lib.ListN.{length}
+use mathlib.Core.Bool.{Bool, true, false, true≢false, false≢true}
+use mathlib.Core.List.{List, [], _∷_, _++_, List·Memᴰ as Mem, List·Memᴰ·append-cases as mem-append}
+use mathlib.Core.Logic.{⊎-elim}
+use mathlib.Core.Path.{_≡_, refl, sym, ap, subst, _∙_}
+use native.Mathlib.Omega.{arith}
+use Rattle.base.specs.Choose.{choose, if-true, if-false, by-test, test-cases}
+use Rattle.queue.specs.Queue.{lastLen}
+use Rattle.outgoing.specs.declared.SendAnswer.{SendAnswer}
+use Rattle.outgoing.specs.declared.Sending.{Sending}
+use Rattle.outgoing.specs.State.{isDone}
+use Rattle.flight.specs.declared.Begun.{Begun}
+use Rattle.flight.specs.declared.Flight.{Flight}
+use Rattle.flight.specs.declared.Saved.{Saved as SavedState}
+use Rattle.flight.specs.Flight.{entryAt, withSaved as flightWith, begun}
+use Rattle.flight.specs.Save.{saveAnswer, saveState, saveKept}
+use Rattle.messages.specs.Cut.{epochOf, overhead, size-rest}
+use Rattle.messages.specs.Message.{contentOf, Laid, pieceOf, sendAll, numbered, beginning, messageAnswer, messageState, messageKept, length-content}
+use Rattle.resend.specs.declared.ResendAnswer.{ResendAnswer}
+use Rattle.resend.specs.declared.Resent.{Resent}
+use Rattle.resend.specs.Resend.{Laying as Again, againAfter, resendState, resendQueue}
+use Rattle.resend.specs.Tests.{isDone as isResent, closedState, resendAnswer}
+use Rattle.waiting.specs.Queued.{Queued, flat, Holds}
+use Rattle.history.specs.Claim.{Masks}
+use Rattle.history.specs.Receiver.{Handed}
+use Rattle.ends.specs.Again.{Sofar, all-sofar}
+use Rattle.ends.specs.Flights.{
+  Saved,
+  Saves,
+  Arrived,
+  keepsOne,
+  pieceSaved,
+  keepsAll,
+  renewedBy,
+  passedOver,
+  FairAck,
+  withSaved,
+  checked,
+  resendsBy,
+  savesBy,
+}
+use Rattle.ends.specs.Laying.{Laying, by-four}
+use Rattle.ends.specs.Marks.{Kept, Tracked, Flown, Grows, flown-grows}
+use Rattle.ends.specs.Passed.{renewed-tracked, passed-arrived, length-renewed, each-found}
+use Rattle.ends.specs.Plan.{Plan, plan}
+use Rattle.ends.specs.Resends.{by-three, againDs, again-lays, closed-lays}
+use Rattle.ends.specs.Saving.{FlightOk, ok-grows, checked-ok, with-ok, save-flown, ack-ok}
+use Rattle.ends.specs.Sender.{
+  Stores,
+  Books,
+  Line,
+  lays,
+  pieceSize,
+  piece,
+  pieceBooks,
+  laysAll,
+  messageBooks,
+  againBooks,
+  closing,
+  resendBooks,
+  Sender,
+  SendCall,
+  keySend·,
+  send·,
+  save·,
+  message·,
+  beginFlight·,
+  resend·,
+  note·,
+  sendAck·,
+  ack·,
+  fill·,
+  sealed·,
+  take·,
+  stored,
+  sends,
+}
+use Rattle.ends.specs.Sends.{Sends}
+use Rattle.ends.specs.Width.{piece-width, again-grows, sent-grows}
+
+-- ---- a message
+
+module _ (handed : ℕ → List Handed) where
+  piece-flown : (kind : ℕ) (body : List ℕ) (at : ℕ) (l : Laid) (b : Books) (gs : List Saved) → at + pieceSize kind body at l ≤ length body
+      → Flown handed (b .sent) (l .saved .state .queue .mtu) (l .saved .flight) (l .kept) gs
+      → Flown handed (pieceBooks kind body at l b .sent) (l .saved .state .queue .mtu) (piece kind body at l .saved .flight) (piece kind body at l .kept) (pieceSaved kind body at l gs)
+  unfolding pieceOf
+  piece-flown kind body at l b gs low i =
+      let s : Sending = l .saved .state in
+      let f : Flight = l .saved .flight in
+      let x : List ℕ = contentOf kind (s .«message_seq») body at (pieceSize kind body at l) in
+      let e : ℕ = epochOf kind in
+      subst (λ (k : ℕ). let a = saveAnswer s f (length (l .queue)) (length (l .kept)) e 22 k in
+      Flown handed (lays a s e 22 x b .sent) (s .queue .mtu) (saveState s f (length (l .queue)) (length (l .kept)) e 22 k .flight) (saveKept s f (length (l .queue)) e 22 x (l .kept)) (keepsOne a s e 22 x gs))
+      (length-content kind (s .«message_seq») body at (pieceSize kind body at l) low) (save-flown handed s f (length (l .queue)) (l .kept) e 22 x b gs i)
+
+  all-flown : (mtu k kind : ℕ) (body : List ℕ) (at : ℕ) (l : Laid) (b : Books) (gs : List Saved) → at ≤ length body → l .saved .state .queue .mtu ≡ mtu
+      → Flown handed (b .sent) mtu (l .saved .flight) (l .kept) gs
+      → Flown handed (laysAll k kind body at l b .sent) mtu (sendAll k kind body at l .saved .flight) (sendAll k kind body at l .kept) (keepsAll k kind body at l gs)
+  unfolding sendAll laysAll keepsAll
+  all-flown mtu zero kind body at l b gs h w i = i
+  all-flown mtu (suc k) kind body at l b gs h w i =
+      let m : ℕ = pieceSize kind body at l in
+      let low : at + m ≤ length body = omega (arith, size-rest (l .saved .state .queue .mtu) (overhead (epochOf kind)) (lastLen (l .saved .state .queue)) (length body - at)) in
+      let one : Flown handed (pieceBooks kind body at l b .sent) mtu (piece kind body at l .saved .flight) (piece kind body at l .kept) (pieceSaved kind body at l gs) =
+      subst (λ (v : ℕ). Flown handed (pieceBooks kind body at l b .sent) v (piece kind body at l .saved .flight) (piece kind body at l .kept) (pieceSaved kind body at l gs)) w
+      (piece-flown kind body at l b gs low (subst (λ (v : ℕ). Flown handed (b .sent) v (l .saved .flight) (l .kept) gs) (sym w) i)) in
+      by-three (λ (v : Laid) (c : Books) (hs : List Saved). Flown handed (c .sent) mtu (v .saved .flight) (v .kept) hs) (eqb (length body - (at + m)) 0) (λ z. one)
+      (λ z. all-flown mtu k kind body (at + m) (piece kind body at l) (pieceBooks kind body at l b) (pieceSaved kind body at l gs) low (piece-width kind body at l ∙ w) one)
+
+  pub message-flown : (mtu : ℕ) (a : SendAnswer) (w : Stores) (kind : ℕ) (body : List ℕ) (b : Books) (gs : List Saved) → w .state .queue .mtu ≡ mtu
+      → Flown handed (b .sent) mtu (w .flight) (w .kept) gs
+      → Flown handed (messageBooks a w kind body b .sent) mtu (messageState a (w .state) (w .flight) (w .queue) (w .kept) kind body .flight)
+      (messageKept a (w .state) (w .flight) (w .queue) (w .kept) kind body) (choose (isDone a) (keepsAll 13 kind body 0 (beginning (w .state) (w .flight) (w .queue) (w .kept)) gs) gs)
+  unfolding messageState messageKept messageBooks
+  message-flown mtu a w kind body b gs q i =
+      by-four (λ (c : Books) (r : SavedState) (m : List ℕ) (hs : List Saved). Flown handed (c .sent) mtu (r .flight) m hs) (isDone a)
+      (λ z. all-flown mtu 13 kind body 0 (beginning (w .state) (w .flight) (w .queue) (w .kept)) b gs (omega arith) q i) (λ z. i)
+
+-- ---- beginning a flight
+
+pub begin-flown : (handed sent : ℕ → List Handed) (mtu : ℕ) (f : Flight) (kept : List ℕ) (gs : List Saved) → Flown handed sent mtu f kept gs
+    → Flown handed sent mtu (begun f .flight) kept []
+unfolding begun
+begin-flown handed sent mtu f kept gs i =
+    subst (λ (r : Begun). Flown handed sent mtu (r .flight) kept []) (sym (if-true _ _ (le-leb (f .saved) 12 (i .most))))
+    (record { each = tt; count = refl; most = omega arith; long = i .long; table = i .table })
