@@ -8,7 +8,7 @@ use mathlib.Core.List.{List, [], _∷_, _++_, List·Memᴰ as Mem, List·Memᴰ�
 use mathlib.Core.Logic.{⊎-elim}
 use mathlib.Core.Path.{_≡_, refl, sym, ap, subst, _∙_}
 use native.Mathlib.Omega.{arith}
-use Rattle.base.specs.Choose.{choose, if-true, if-false, by-test, test-cases}
+use Rattle.base.specs.Choose.{choose, if-true, if-false, by-test, test-cases, eq-or-ne}
 use Rattle.queue.specs.Queue.{lastLen}
 use Rattle.outgoing.specs.declared.SendAnswer.{SendAnswer}
 use Rattle.outgoing.specs.declared.Sending.{Sending}
@@ -26,7 +26,7 @@ use Rattle.resend.specs.Resend.{Laying as Again, againAfter, resendState, resen
 use Rattle.resend.specs.Tests.{isDone as isResent, closedState, resendAnswer}
 use Rattle.waiting.specs.Queued.{Queued, flat, Holds}
 use Rattle.history.specs.Claim.{Masks}
-use Rattle.history.specs.Receiver.{Handed}
+use Rattle.history.specs.Receiver.{Sealed, Handed}
 use Rattle.ends.specs.Again.{Sofar, all-sofar}
 use Rattle.ends.specs.Flights.{
   Saved,
@@ -129,3 +129,93 @@ unfolding begun
 begin-flown handed sent mtu f kept gs i =
     subst (λ (r : Begun). Flown handed sent mtu (r .flight) kept []) (sym (if-true _ _ (le-leb (f .saved) 12 (i .most))))
     (record { each = tt; count = refl; most = omega arith; long = i .long; table = i .table })
+
+-- ---- a resend
+
+-- choices by one test, the last over those before it
+by-resend : {A B C D : Type 0} (P : A → B → C → D → Type 0) (t : Bool) {a a′ : A} {b b′ : B} {c c′ : C} (d : B → C → D) {d′ : D} → (t ≡ true → P a b c (d b c)) → (t ≡ false → P a′ b′ c′ d′)
+    → P (choose t a a′) (choose t b b′) (choose t c c′) (choose t (d (choose t b b′) (choose t c c′)) d′)
+unfolding choose
+by-resend P true d f g = f refl
+by-resend P false d f g = g refl
+
+-- what is known of each saved record
+tracked-field : (handed sent : ℕ → List Handed) (mtu : ℕ) (f : Flight) (kept : List ℕ) (P : ℕ → Type 0) → ((i : ℕ) (g : Saved) → Kept handed sent mtu f kept i g → P i)
+    → (i : ℕ) (gs : List Saved) → Tracked handed sent mtu f kept i gs → (j : ℕ) → i ≤ j → j < i + length gs → P j
+tracked-field handed sent mtu f kept P h i [] t j l u = absurd (omega arith)
+tracked-field handed sent mtu f kept P h i (g ∷ gs) t j l u =
+    ⊎-elim (λ (q : j ≡ i). subst P (sym q) (h i g (t .0))) (λ q. tracked-field handed sent mtu f kept P h (suc i) gs (t .1) j (omega arith) (omega arith)) (eq-or-ne j i)
+
+module _ (handed : ℕ → List Handed) (log : ℕ → List Sealed) (gone : List Line) (ivs : ℕ → List ℕ) (w : Stores) (ds : List (List Queued)) (b : Books)
+    (lay : Laying log gone ivs (w .state) (w .queue) ds b) (a : Saves) (o : FlightOk handed (b .sent) (w .state .queue .mtu) (w .flight) (w .kept) a) where
+  abbrev answer : ResendAnswer
+  answer = resendAnswer (w .state) (w .flight) (length (w .queue)) (length (w .kept))
+
+  abbrev last : Again
+  last = againAfter (w .kept) (closing w) (w .flight .saved)
+
+  abbrev log′ : ℕ → List Handed
+  log′ = againBooks (w .kept) (closing w) (w .flight .saved) b .sent
+
+  short-at : (i : ℕ) → i < w .flight .saved → entryAt (w .flight) i .length ≤ w .state .queue .mtu
+  short-at i h =
+      tracked-field handed (b .sent) (w .state .queue .mtu) (w .flight) (w .kept) (λ j. entryAt (w .flight) j .length ≤ w .state .queue .mtu) (λ j g k. k .short) 0 (a .saved)
+      (o .flown .each) i (omega arith) (omega (arith, o .flown .count))
+
+  few-at : (i : ℕ) → i < w .flight .saved → entryAt (w .flight) i .remembered ≤ 32
+  few-at i h =
+      tracked-field handed (b .sent) (w .state .queue .mtu) (w .flight) (w .kept) (λ j. entryAt (w .flight) j .remembered ≤ 32) (λ j g k. k .few) 0 (a .saved)
+      (o .flown .each) i (omega arith) (omega (arith, o .flown .count))
+
+  sofar : isResent (resendAnswer (w .state) (w .flight) (length (w .queue)) (length (w .kept))) ≡ true
+      → Sofar (w .state) (w .flight) (w .kept) (w .flight .saved) last (flat (againDs (w .kept) (closing w) (w .flight .saved) ds)) log′
+  sofar d =
+      all-sofar (w .state) (w .flight) (w .kept) (plan (w .state) (w .flight) (length (w .queue)) (length (w .kept)) d) (o .flown .most) (o .flown .long) (o .flown .table) short-at few-at
+      log gone ivs (w .queue) ds b (closed-lays log gone ivs (w .state) (w .queue) ds b lay) (w .flight .saved) (omega arith)
+
+  holds-then : Holds (last .state) (last .queue) (againDs (w .kept) (closing w) (w .flight .saved) ds)
+  holds-then = again-lays log gone ivs (w .kept) (closing w) (w .flight .saved) ds b (closed-lays log gone ivs (w .state) (w .queue) ds b lay) .holds
+
+  done-ok : isResent (resendAnswer (w .state) (w .flight) (length (w .queue)) (length (w .kept))) ≡ true
+      → FlightOk handed log′ (w .state .queue .mtu) (last .flight) (w .kept) (record {
+        saved = renewedBy (w .state .keys) (last .queue) (last .flight) 0 (a .saved);
+        skipped = passedOver (w .state .keys) (last .queue) (last .flight) 0 (a .saved) ++ a .skipped;
+        cleared = a .cleared;
+        vanished = a .vanished;
+      })
+  done-ok d =
+      let z = sofar d in
+      let up = again-grows (w .kept) (closing w) (w .flight .saved) b in
+      let found = each-found (last .state) (last .queue) (againDs (w .kept) (closing w) (w .flight .saved) ds) holds-then in
+      let rs : List Queued = flat (againDs (w .kept) (closing w) (w .flight .saved) ds) in
+      record {
+        flown = record {
+          each = renewed-tracked handed (b .sent) log′ up (w .state) (w .flight) (last .flight) (w .kept) (last .queue) rs found (w .flight .saved) (z .each) 0 (a .saved)
+              (omega (arith, o .flown .count)) (o .flown .each);
+          count = length-renewed (w .state .keys) (last .queue) (last .flight) 0 (a .saved) ∙ o .flown .count ∙ sym (z .under .saved);
+          most = subst (λ (n : ℕ). n ≤ 12) (sym (z .under .saved)) (o .flown .most);
+          long = z .under .long;
+          table = z .under .table;
+        };
+        skipped = λ g two m.
+            ⊎-elim
+            (λ y.
+            passed-arrived handed (b .sent) log′ up (w .state) (w .flight) (last .flight) (w .kept) (last .queue) rs found (w .flight .saved) (z .each) 0 (a .saved)
+            (omega (arith, o .flown .count)) (o .flown .each) g two y)
+            (λ y. o .skipped g two y) (mem-append (passedOver (w .state .keys) (last .queue) (last .flight) 0 (a .saved)) m);
+        cleared = o .cleared;
+        vanished = o .vanished;
+      }
+
+  pub resend-ok : FlightOk handed (resendBooks (resendAnswer (w .state) (w .flight) (length (w .queue)) (length (w .kept))) w b .sent) (w .state .queue .mtu) (stored w resend· .flight) (w .kept)
+      (resendsBy (isResent (resendAnswer (w .state) (w .flight) (length (w .queue)) (length (w .kept)))) (w .state .keys) (stored w resend·) a)
+  unfolding resendState resendQueue resendBooks
+  resend-ok =
+      by-resend (λ (c : Books) (r : Resent) (q : List ℕ) (e : Saves). FlightOk handed (c .sent) (w .state .queue .mtu) (r .flight) (w .kept) e) (isResent answer)
+      (λ (r : Resent) (q : List ℕ). record {
+        saved = renewedBy (w .state .keys) q (r .flight) 0 (a .saved);
+        skipped = passedOver (w .state .keys) q (r .flight) 0 (a .saved) ++ a .skipped;
+        cleared = a .cleared;
+        vanished = a .vanished;
+      })
+      (λ d. done-ok d) (λ d. o)
