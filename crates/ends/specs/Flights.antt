@@ -208,3 +208,18 @@ savesBy mtu w (ack· d) a = checked (stored w (ack· d)) mtu (acksBy (stored w (
 savesBy mtu w (fill· v) a = checked (stored w (fill· v)) mtu a
 savesBy mtu w (sealed· k m) a = checked (stored w (sealed· k m)) mtu a
 savesBy mtu w (take· buffer) a = checked (stored w (take· buffer)) mtu a
+
+-- nothing is asked of any other call
+abbrev pub FairNames : (ℕ → List Handed) → SendCall → Type 0
+FairNames handed (keySend· e iv) = Unit {0}
+FairNames handed (send· e t x) = Unit {0}
+FairNames handed (save· e t x) = Unit {0}
+FairNames handed (message· kind body) = Unit {0}
+FairNames handed beginFlight· = Unit {0}
+FairNames handed resend· = Unit {0}
+FairNames handed (note· e n) = Unit {0}
+FairNames handed sendAck· = Unit {0}
+FairNames handed (ack· d) = FairAck handed d
+FairNames handed (fill· v) = Unit {0}
+FairNames handed (sealed· k m) = Unit {0}
+FairNames handed (take· buffer) = Unit {0}

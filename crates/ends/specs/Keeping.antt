@@ -37,10 +37,11 @@ use Rattle.ends.specs.Flights.{
   keepsAll,
   renewedBy,
   passedOver,
-  FairAck,
+  FairNames,
   withSaved,
   checked,
   resendsBy,
+  acksBy,
   savesBy,
 }
 use Rattle.ends.specs.Laying.{Laying, by-four}
@@ -219,3 +220,60 @@ module _ (handed : ℕ → List Handed) (log : ℕ → List Sealed) (gone : List
         vanished = a .vanished;
       })
       (λ d. done-ok d) (λ d. o)
+
+-- ---- every call
+
+module _ (handed : ℕ → List Handed) (masks : Masks) (x : Sender) (i : Sends masks x)
+    (one : (e : ℕ) (h k : Handed) → Mem h (handed e) → Mem k (x .books .sent e) → h .num ≡ k .num → h ≡ k)
+    (mtu : ℕ) (width : x .stores .state .queue .mtu ≡ mtu) (a : Saves) (o : FlightOk handed (x .books .sent) mtu (x .stores .flight) (x .stores .kept) a) where
+  -- flight and memory as they were
+  grown-ok : (c : SendCall) → FlightOk handed (sends x c .books .sent) mtu (x .stores .flight) (x .stores .kept) a
+  grown-ok c = ok-grows handed handed (x .books .sent) (sends x c .books .sent) (λ e h m. m) (sent-grows x c) mtu (x .stores .flight) (x .stores .kept) a o
+
+  saved-then : (e t : ℕ) (c : List ℕ)
+      → Flown handed (sends x (save· e t c) .books .sent) mtu (stored (x .stores) (save· e t c) .flight) (stored (x .stores) (save· e t c) .kept)
+      (keepsOne (saveAnswer (x .stores .state) (x .stores .flight) (length (x .stores .queue)) (length (x .stores .kept)) e t (length c)) (x .stores .state) e t c (a .saved))
+  saved-then e t c =
+      subst (λ (v : ℕ). Flown handed (sends x (save· e t c) .books .sent) v (stored (x .stores) (save· e t c) .flight) (stored (x .stores) (save· e t c) .kept)
+      (keepsOne (saveAnswer (x .stores .state) (x .stores .flight) (length (x .stores .queue)) (length (x .stores .kept)) e t (length c)) (x .stores .state) e t c (a .saved))) width
+      (save-flown handed (x .stores .state) (x .stores .flight) (length (x .stores .queue)) (x .stores .kept) e t c (x .books) (a .saved)
+      (subst (λ (v : ℕ). Flown handed (x .books .sent) v (x .stores .flight) (x .stores .kept) (a .saved)) (sym width) (o .flown)))
+
+  resent-then : FlightOk handed (sends x resend· .books .sent) mtu (stored (x .stores) resend· .flight) (x .stores .kept)
+      (resendsBy (isResent (resendAnswer (x .stores .state) (x .stores .flight) (length (x .stores .queue)) (length (x .stores .kept)))) (x .stores .state .keys) (stored (x .stores) resend·) a)
+  resent-then =
+      subst (λ (v : ℕ). FlightOk handed (sends x resend· .books .sent) v (stored (x .stores) resend· .flight) (x .stores .kept)
+      (resendsBy (isResent (resendAnswer (x .stores .state) (x .stores .flight) (length (x .stores .queue)) (length (x .stores .kept)))) (x .stores .state .keys) (stored (x .stores) resend·) a)) width
+      (resend-ok handed (x .sealed) (i .gone) (x .ivs) (x .stores) (i .ds) (x .books) (i .laying) a
+      (subst (λ (v : ℕ). FlightOk handed (x .books .sent) v (x .stores .flight) (x .stores .kept) a) (sym width) o))
+
+  pub saves-keep : (c : SendCall) → FairNames handed c
+      → FlightOk handed (sends x c .books .sent) mtu (stored (x .stores) c .flight) (stored (x .stores) c .kept) (savesBy mtu (x .stores) c a)
+  saves-keep (keySend· e iv) h = checked-ok handed (sends x (keySend· e iv) .books .sent) mtu (stored (x .stores) (keySend· e iv)) a (grown-ok (keySend· e iv))
+  saves-keep (send· e t c) h = checked-ok handed (sends x (send· e t c) .books .sent) mtu (stored (x .stores) (send· e t c)) a (grown-ok (send· e t c))
+  saves-keep (save· e t c) h =
+      let w = x .stores in
+      let gs : List Saved = keepsOne (saveAnswer (w .state) (w .flight) (length (w .queue)) (length (w .kept)) e t (length c)) (w .state) e t c (a .saved) in
+      checked-ok handed (sends x (save· e t c) .books .sent) mtu (stored (x .stores) (save· e t c)) (withSaved a gs)
+      (with-ok handed (sends x (save· e t c) .books .sent) mtu (w .flight) (stored w (save· e t c) .flight) (w .kept) (stored w (save· e t c) .kept) a gs
+      (grown-ok (save· e t c)) (saved-then e t c))
+  saves-keep (message· kind body) h =
+      let w = x .stores in
+      let r : SendAnswer = messageAnswer (w .state) (w .flight) (length (w .queue)) (length (w .kept)) kind (length body) in
+      let gs : List Saved = choose (isDone r) (keepsAll 13 kind body 0 (beginning (w .state) (w .flight) (w .queue) (w .kept)) (a .saved)) (a .saved) in
+      checked-ok handed (sends x (message· kind body) .books .sent) mtu (stored w (message· kind body)) (withSaved a gs)
+      (with-ok handed (sends x (message· kind body) .books .sent) mtu (w .flight) (stored w (message· kind body) .flight) (w .kept) (stored w (message· kind body) .kept) a gs
+      (grown-ok (message· kind body)) (message-flown handed mtu r w kind body (x .books) (a .saved) width (o .flown)))
+  saves-keep beginFlight· h =
+      let w = x .stores in
+      with-ok handed (x .books .sent) mtu (w .flight) (begun (w .flight) .flight) (w .kept) (w .kept) a [] o
+      (begin-flown handed (x .books .sent) mtu (w .flight) (w .kept) (a .saved) (o .flown))
+  saves-keep resend· h = checked-ok handed (sends x resend· .books .sent) mtu (stored (x .stores) resend·) _ resent-then
+  saves-keep (note· e n) h = checked-ok handed (sends x (note· e n) .books .sent) mtu (stored (x .stores) (note· e n)) a (grown-ok (note· e n))
+  saves-keep sendAck· h = checked-ok handed (sends x sendAck· .books .sent) mtu (stored (x .stores) sendAck·) a (grown-ok sendAck·)
+  saves-keep (ack· d) h =
+      checked-ok handed (x .books .sent) mtu (stored (x .stores) (ack· d)) (acksBy (stored (x .stores) (ack· d)) a)
+      (ack-ok handed (x .books .sent) one mtu (x .stores .flight) (x .stores .kept) a o d h)
+  saves-keep (fill· v) h = checked-ok handed (sends x (fill· v) .books .sent) mtu (stored (x .stores) (fill· v)) a (grown-ok (fill· v))
+  saves-keep (sealed· k m) h = checked-ok handed (sends x (sealed· k m) .books .sent) mtu (stored (x .stores) (sealed· k m)) a (grown-ok (sealed· k m))
+  saves-keep (take· b) h = checked-ok handed (sends x (take· b) .books .sent) mtu (stored (x .stores) (take· b)) a (grown-ok (take· b))
