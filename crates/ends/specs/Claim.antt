@@ -1,5 +1,4 @@
--- What holds after every list of calls on two fresh ends, at each receiving end and in each receive epoch: demand 3 but for its clause on
--- saved records marked acknowledged.
+-- What holds after every list of calls on two fresh ends, at each receiving end and in each receive epoch: demand 3.
 use Prim.Native.Nat.{ℕ, _*_, _≤_}
 use lib.ListN.{length}
 use mathlib.Core.Bool.{true, false}
@@ -11,6 +10,7 @@ use Rattle.queue.specs.Queue.{isSetting}
 use Rattle.send_keys.specs.Keys.{nextOf}
 use Rattle.history.specs.Claim.{Masks, Once, asHanded, Received}
 use Rattle.history.specs.Receiver.{Sealed, accepts, Move}
+use Rattle.ends.specs.Flights.{Saved, Arrived, Marked}
 use Rattle.ends.specs.Sender.{Lent, finished, joined}
 use Rattle.ends.specs.World.{Side, far, Count, World, Event, run, Setting, fresh-pair, Honest}
 
@@ -24,6 +24,15 @@ pub record Holds (w : World) (s : Side) (e : ℕ) : Type 0 where
   pub received : Received (w (far s) .out .sealed) (w s .into) e
   -- "moved no record number": no call that reads a datagram moves a next number to send, in any epoch
   pub moved-no-number : (c : Count) → Mem c (w s .counts) → SameNumbers c
+  -- "Each saved record of epoch 2 or later that was marked acknowledged, at any time, was handed over at the far end under one of its
+  -- sendings": as the state holds it, at its place in the flight
+  pub marked-handed : (g : Saved) → 2 ≤ g .epoch → Marked (w (far s) .out .stores .flight) 0 (w (far s) .saves .saved) g → Arrived (w s .into .into .handed) g
+  -- as the host sees it: "skipped by resends while saved"
+  pub skipped-handed : (g : Saved) → 2 ≤ g .epoch → Mem g (w (far s) .saves .skipped) → Arrived (w s .into .into .handed) g
+  -- "or of epoch 2 when an ACK empties the flight"
+  pub cleared-handed : (g : Saved) → 2 ≤ g .epoch → Mem g (w (far s) .saves .cleared) → Arrived (w s .into .into .handed) g
+  -- and no saved record goes in another way, but by the beginning of a flight
+  pub none-vanished : (g : Saved) → Mem g (w (far s) .saves .vanished) → ⊥
   -- beside the demand, so that the above is not hollow:
   -- "it" is one record: no number is sealed twice in an epoch
   pub sealed-once : (r q : Sealed) → Mem r (w (far s) .out .sealed e) → Mem q (w (far s) .out .sealed e) → r .num ≡ q .num → r ≡ q

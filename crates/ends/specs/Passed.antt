@@ -51,7 +51,7 @@ module _ (handed sent sent′ : ℕ → List Handed) (grows : Grows sent sent′
       → ((j : ℕ) → j < 32 → getD (g .numbers) (i * 32 + j) 0 ≡ getD (f .numbers) (i * 32 + j) 0) → Renewed i h
   as-was i h k m q cells = (
     by-test (λ (v : Saved). Kept handed sent′ mtu g kept i v) (λ z. more (here refl) (λ n o. there o) (λ n o. mem-by o (λ (w : n ≡ entryAt g i .number). inl w) (λ o′. inr o′)) (againAs h (entryAt g i .number)) refl)
-    (λ z. more (subst (λ (e : Entry). Mem (e .number) (h .sendings)) (sym q) (k .now)) (λ n o. o) (λ n o. inr o) h refl),
+        (λ z. more (subst (λ (e : Entry). Mem (e .number) (h .sendings)) (sym q) (k .now)) (λ n o. o) (λ n o. inr o) h refl),
     λ z two. k .if-marked m two,
   )
     where

@@ -286,7 +286,7 @@ module _ (s : Sending) (f : Flight) (kept : List ℕ) (p : Plan s f (length kept
     unfolding renewed
     renewed-same n =
         let P : Flight → Type 0 = λ g. (g .saved ≡ r .flight .saved) × (length (g .entries) ≡ length (r .flight .entries)) × (length (g .numbers) ≡ length (r .flight .numbers))
-            × ((j : ℕ) → suc i ≤ j → entryAt g j ≡ entryAt (r .flight) j) in
+        × ((j : ℕ) → suc i ≤ j → entryAt g j ≡ entryAt (r .flight) j) in
         by-test P
         (λ z. (
           refl,

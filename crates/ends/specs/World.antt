@@ -22,6 +22,7 @@ use Rattle.history.specs.Receiver.{
   openOver·,
   does,
 }
+use Rattle.ends.specs.Flights.{Saves, noSaves, savesBy, FairNames}
 use Rattle.ends.specs.Sender.{Sender, newSender, SendCall, sends, FairSend}
 
 pub data Side : Type 0 where
@@ -37,8 +38,11 @@ pub record Count : Type 0 where
   pub before : SendKeys
   pub behind : SendKeys
 
+-- the MTU it was created with, what it sends, the claim's account of what it saved, what it receives, and the counts of its readings
 pub record End : Type 0 where
+  pub mtu : ℕ
   pub out : Sender
+  pub saves : Saves
   pub into : Inbound
   pub counts : List Count
 
@@ -60,7 +64,7 @@ abbrev pub counted : End → End → ℕ → List Count
 counted e e′ k = record { datagram = k; before = e .out .stores .state .keys; behind = e′ .out .stores .state .keys } ∷ e .counts
 
 abbrev pub takesIn : End → Inbound → List Count → End
-takesIn e i cs = record { out = e .out; into = i; counts = cs }
+takesIn e i cs = record { mtu = e .mtu; out = e .out; saves = e .saves; into = i; counts = cs }
 
 abbrev pub countsBy : End → End → Call → List Count
 countsBy e e′ (key· k iv) = e .counts
@@ -77,7 +81,8 @@ countsBy e e′ (maskOver· m d) = counted e e′ (e .into .serial)
 countsBy e e′ (openOver· p d) = counted e e′ (e .into .serial)
 
 abbrev pub acts : End → End → Deed → End
-acts far-end e (sending c) = record { out = sends (e .out) c; into = e .into; counts = e .counts }
+acts far-end e (sending c) =
+    record { mtu = e .mtu; out = sends (e .out) c; saves = savesBy (e .mtu) (e .out .stores) c (e .saves); into = e .into; counts = e .counts }
 acts far-end e (receiving c) =
     let i = does (far-end .out .sealed) (e .into) c in
     takesIn e i (countsBy e (takesIn e i (e .counts)) c)
@@ -105,16 +110,23 @@ pub record Setting : Type 0 where
   pub kept : List ℕ
 
 abbrev pub newEnd : Setting → End
-newEnd s = record { out = newSender (s .mtu) (s .limit) (s .queue) (s .kept); into = newInbound (s .min); counts = [] }
+newEnd s = record {
+  mtu = s .mtu;
+  out = newSender (s .mtu) (s .limit) (s .queue) (s .kept);
+  saves = noSaves;
+  into = newInbound (s .min);
+  counts = [];
+}
 
 abbrev pub fresh-pair : (Side → Setting) → World
 fresh-pair settings s = newEnd (settings s)
 
 -- ---- what is asked of the hosts
 
--- the mask is "fixed by direction, epoch and the 16 bytes": one function for each sending side
+-- the mask is "fixed by direction, epoch and the 16 bytes": one function for each sending side; and "every ACK acted on .. named, from
+-- epoch 2 up, only records handed over to that end"
 abbrev pub FairDeed : (Side → Masks) → Side → End → End → Deed → Type 0
-FairDeed masks s far-end e (sending c) = FairSend (masks s) (e .out) c
+FairDeed masks s far-end e (sending c) = FairSend (masks s) (e .out) c × FairNames (far-end .into .into .handed) c
 FairDeed masks s far-end e (receiving c) = FairCall (masks (far s)) (far-end .out .sealed) (e .into) c
 
 abbrev pub Fair : (Side → Masks) → World → Event → Type 0
