@@ -11,7 +11,7 @@ use Rattle.send_keys.specs.Keys.{nextOf}
 use Rattle.history.specs.Claim.{Masks, Once, asHanded, Received}
 use Rattle.history.specs.Receiver.{Sealed, accepts, Move}
 use Rattle.ends.specs.Flights.{Saved, Arrived, Marked}
-use Rattle.ends.specs.Sender.{Lent, finished, joined}
+use Rattle.ends.specs.Sender.{Lent, Taken}
 use Rattle.ends.specs.World.{Side, far, Count, World, Event, run, Setting, fresh-pair, Honest}
 
 -- every next number to send is as it was
@@ -31,7 +31,7 @@ pub record Holds (w : World) (s : Side) (e : ℕ) : Type 0 where
   pub skipped-handed : (g : Saved) → 2 ≤ g .epoch → Mem g (w (far s) .saves .skipped) → Arrived (w s .into .into .handed) g
   -- "or of epoch 2 when an ACK empties the flight"
   pub cleared-handed : (g : Saved) → 2 ≤ g .epoch → Mem g (w (far s) .saves .cleared) → Arrived (w s .into .into .handed) g
-  -- and no saved record goes in another way, but by the beginning of a flight
+  -- and none goes in another way: only with the beginning of a flight or, of another epoch, with a flight that an ACK empties
   pub none-vanished : (g : Saved) → Mem g (w (far s) .saves .vanished) → ⊥
   -- beside the demand, so that the above is not hollow:
   -- "it" is one record: no number is sealed twice in an epoch
@@ -39,8 +39,8 @@ pub record Holds (w : World) (s : Side) (e : ℕ) : Type 0 where
   -- what was sealed is what was sent, by the host's own arguments, and no number is sent twice in an epoch
   pub sealed-sent : (r : Sealed) → Mem r (w (far s) .out .sealed e) → Mem (asHanded r) (w (far s) .out .books .sent e)
   pub sent-once : Once (w (far s) .out .books .sent e)
-  -- the datagrams taken, one behind the other, are the records sent in order, plaintext ones as laid, sealed ones as sealed and masked
-  pub taken-lines : (rest : List ℕ) × (joined (w (far s) .out .taken) ++ rest ≡ finished (w (far s) .out .books .lines))
+  -- each datagram taken is some whole records, together all that were sent, in order: plaintext ones as laid, sealed ones as sealed and masked
+  pub taken-lines : Taken (w (far s) .out .taken) (w (far s) .out .books .lines)
   -- the sealing question's nonce is that keying's IV with the number on it
   pub seal-nonce : (l : Lent) → w (far s) .out .lent ≡ some l → l .nonce ≡ nonceOf (w (far s) .out .ivs (l .epoch)) (l .num)
 

@@ -37,7 +37,7 @@ use Rattle.history.specs.Receiver.{Sealed, Handed}
 use Rattle.ends.specs.Asked.{lentFor, part-is, waiting-mem, mem-waiting, first-alone}
 use Rattle.ends.specs.Laying.{lineIn, linesIn, Laying}
 use Rattle.ends.specs.Numbers.{Reached, Numbers, usable-same, Ivs, sealed-ivs}
-use Rattle.ends.specs.Sender.{Line, done, due, Books, finish, sealedAs}
+use Rattle.ends.specs.Sender.{Line, done, due, Books, finish, AllDone, sealedAs}
 
 -- a record as it is logged
 abbrev pub logged : ℕ → ℕ → ℕ → List ℕ → List ℕ → List ℕ → Sealed
@@ -167,11 +167,6 @@ lines-sealed m e t n x p us (waits a b c d f ∷ rs) y =
 lines-sealed m e t n x p us (sealed a b c d f g ∷ rs) y = ap (λ (l : List Line). lineIn (sealed a b c d f g) ∷ l) (lines-sealed m e t n x p us rs y)
 
 -- lines that are finished
-abbrev pub AllDone : List Line → Type 0
-AllDone [] = Unit {0}
-AllDone (done b ∷ ls) = AllDone ls
-AllDone (due e n ∷ ls) = ⊥
-
 pub finish-behind : (e n : ℕ) (b : List ℕ) (gone ls : List Line) → AllDone gone → finish e n b (gone ++ ls) ≡ gone ++ finish e n b ls
 finish-behind e n b [] ls a = refl
 finish-behind e n b (done c ∷ gone) ls a = ap (λ (l : List Line). done c ∷ l) (finish-behind e n b gone ls a)

@@ -174,15 +174,34 @@ sealedAs l before behind = record {
   wire = part (l .place - 5) (5 + l .size) behind;
 }
 
--- the bytes of the records that are finished, up to the first that is not; and of the datagrams taken
+-- the bytes of the records that are finished, up to the first that is not
 abbrev pub finished : List Line → List ℕ
 finished [] = []
 finished (done b ∷ ls) = b ++ finished ls
 finished (due e n ∷ ls) = []
 
-abbrev pub joined : List (List ℕ) → List ℕ
+-- all finished
+abbrev pub AllDone : List Line → Type 0
+AllDone [] = Unit {0}
+AllDone (done b ∷ ls) = AllDone ls
+AllDone (due e n ∷ ls) = ⊥
+
+-- records in groups, one group for each datagram: the records one behind the other, and each datagram's bytes
+abbrev pub joined : List (List Line) → List Line
 joined [] = []
-joined (b ∷ bs) = b ++ joined bs
+joined (g ∷ gs) = g ++ joined gs
+
+abbrev pub datagrams : List (List Line) → List (List ℕ)
+datagrams [] = []
+datagrams (g ∷ gs) = finished g ∷ datagrams gs
+
+-- the datagrams taken are the records sent, in order, in whole groups of finished ones
+pub record Taken (taken : List (List ℕ)) (sent : List Line) : Type 0 where
+  pub groups : List (List Line)
+  pub rest : List Line
+  pub lines : sent ≡ joined groups ++ rest
+  pub whole : AllDone (joined groups)
+  pub bytes : taken ≡ datagrams groups
 
 -- ---- the calls
 

@@ -50,7 +50,7 @@ use Rattle.history.specs.Receiver.{Sealed, Handed}
 use Rattle.ends.specs.Asked.{lentFor, LentIs, waiting-cases, waiting-mem, part-is, lends-is, shows-after}
 use Rattle.ends.specs.Laying.{lineIn, linesIn, lines-append, Laying, send-lays, save-lays, message-lays}
 use Rattle.ends.specs.Numbers.{Numbers, NewEpoch, new-epoch, keyed-numbers, Ivs, keyed-ivs}
-use Rattle.ends.specs.Replies.{logged, sealed-tests, sealed-is, shape-is, AllDone, not-sealed, reply-lays}
+use Rattle.ends.specs.Replies.{logged, sealed-tests, sealed-is, shape-is, not-sealed, reply-lays}
 use Rattle.ends.specs.Resends.{afterResend, ackDs, resend-lays, resend-behind, ack-lays, ack-behind}
 use Rattle.ends.specs.Sender.{
   Stores,
@@ -61,7 +61,10 @@ use Rattle.ends.specs.Sender.{
   Lent,
   lends,
   finished,
+  AllDone,
   joined,
+  datagrams,
+  Taken,
   Sender,
   sealedAs,
   finish,
@@ -103,18 +106,16 @@ pub record Sends (masks : Masks) (x : Sender) : Type 0 where
   pub lent : LentIs (x .stores .state) (x .lent) (waitingOf (flat ds))
   pub once : SealedOnce (x .sealed)
   pub shaped : Shaped masks (x .sealed)
-  pub taken : joined (x .taken) ≡ finished gone
+  -- the lines gone, in groups: one for each datagram taken
+  pub groups : List (List Line)
+  pub parted : joined groups ≡ gone
+  pub taken : x .taken ≡ datagrams groups
 
 -- the host's stores as the queue's laws have them
 abbrev endOf : Stores → call.End
 endOf w = record { state = w .state; queue = w .queue; flight = w .flight; kept = w .kept }
 
 -- ---- lines
-
-finished-behind : (gone ls : List Line) → AllDone gone → finished (gone ++ ls) ≡ finished gone ++ finished ls
-finished-behind [] ls a = refl
-finished-behind (done b ∷ gone) ls a = ap (λ (l : List ℕ). b ++ l) (finished-behind gone ls a) ∙ sym (append-assoc b (finished gone) (finished ls))
-finished-behind (due e n ∷ gone) ls a = absurd a
 
 all-done : (gone ls : List Line) → AllDone gone → AllDone ls → AllDone (gone ++ ls)
 all-done [] ls a b = b
@@ -127,9 +128,13 @@ settled-lines (plain t n x ∷ d) h = let r = settled-lines d h in (r .0, ap (λ
 settled-lines (waits e t n x p ∷ d) h = absurd (true≢false h)
 settled-lines (sealed e t n x m p ∷ d) h = let r = settled-lines d h in (r .0, ap (λ (l : List ℕ). bytesOf (sealed e t n x m p) ++ l) (r .1))
 
-joined-more : (ts : List (List ℕ)) (b : List ℕ) → joined (ts ++ (b ∷ [])) ≡ joined ts ++ b
-joined-more [] b = append-nil b
-joined-more (t ∷ ts) b = ap (λ (l : List ℕ). t ++ l) (joined-more ts b) ∙ sym (append-assoc t (joined ts) b)
+joined-more : (gs : List (List Line)) (g : List Line) → joined (gs ++ (g ∷ [])) ≡ joined gs ++ g
+joined-more [] g = append-nil g
+joined-more (h ∷ gs) g = ap (λ (l : List Line). h ++ l) (joined-more gs g) ∙ sym (append-assoc h (joined gs) g)
+
+datagrams-more : (gs : List (List Line)) (g : List Line) → datagrams (gs ++ (g ∷ [])) ≡ datagrams gs ++ (finished g ∷ [])
+datagrams-more [] g = refl
+datagrams-more (h ∷ gs) g = ap (λ (l : List (List ℕ)). finished h ∷ l) (datagrams-more gs g)
 
 -- ---- what is taken
 
@@ -226,6 +231,8 @@ module _ (masks : Masks) (x : Sender) (i : Sends masks x) where
     lent = shown-then (v .state) (v .queue) us (l .holds) wt;
     once = i .once;
     shaped = i .shaped;
+    groups = i .groups;
+    parted = i .parted;
     taken = i .taken;
   }
 
@@ -338,6 +345,8 @@ module _ (masks : Masks) (x : Sender) (i : Sends masks x) where
     lent = shown-then _ _ _ (l .holds) (effect (replyCall k m));
     once = one;
     shaped = shapes;
+    groups = i .groups;
+    parted = i .parted;
     taken = i .taken;
   }
 
@@ -487,8 +496,10 @@ module _ (masks : Masks) (x : Sender) (i : Sends masks x) where
               (subst (λ (l : List (List Queued)). Waited (flat (i .ds)) (flat l)) after-is (effect (takeCall (length buffer))));
           once = i .once;
           shaped = i .shaped;
-          taken = joined-more (x .taken) (bytes d) ∙ ap (λ (l : List ℕ). l ++ bytes d) (i .taken)
-              ∙ ap (λ (l : List ℕ). finished (i .gone) ++ l) (sym (settled-lines d settled .1)) ∙ sym (finished-behind (i .gone) (linesIn d) (i .over));
+          groups = i .groups ++ (linesIn d ∷ []);
+          parted = joined-more (i .groups) (linesIn d) ∙ ap (λ (l : List Line). l ++ linesIn d) (i .parted);
+          taken = ap (λ (l : List (List ℕ)). l ++ (bytes d ∷ [])) (i .taken) ∙ ap (λ (b : List ℕ). datagrams (i .groups) ++ (b ∷ [])) (sym (settled-lines d settled .1))
+              ∙ sym (datagrams-more (i .groups) (linesIn d));
         })
 
   take-by : (buffer : List ℕ) (ds : List (List Queued)) → i .ds ≡ ds → isTaken (takeAnswer (w .state) (length (w .queue)) (length buffer)) ≡ true
@@ -560,6 +571,8 @@ new-sends masks mtu limit queue kept s room = record {
   lent = refl;
   once = λ e r q m. elim m [ ];
   shaped = λ e r m. elim m [ ];
+  groups = [];
+  parted = refl;
   taken = refl;
 }
 
@@ -604,9 +617,11 @@ module _ (masks : Masks) (x : Sender) (i : Sends masks x) where
 
 -- ---- what was taken
 
-pub taken-is : (masks : Masks) (x : Sender) → Sends masks x → (rest : List ℕ) × (joined (x .taken) ++ rest ≡ finished (x .books .lines))
-taken-is masks x i = (
-  finished (linesIn (flat (i .ds))),
-  ap (λ (l : List ℕ). l ++ finished (linesIn (flat (i .ds)))) (i .taken)
-      ∙ sym (ap finished (i .laying .lines) ∙ finished-behind (i .gone) (linesIn (flat (i .ds))) (i .over)),
-)
+pub taken-is : (masks : Masks) (x : Sender) → Sends masks x → Taken (x .taken) (x .books .lines)
+taken-is masks x i = record {
+  groups = i .groups;
+  rest = linesIn (flat (i .ds));
+  lines = i .laying .lines ∙ ap (λ (l : List Line). l ++ linesIn (flat (i .ds))) (sym (i .parted));
+  whole = subst AllDone (sym (i .parted)) (i .over);
+  bytes = i .taken;
+}
