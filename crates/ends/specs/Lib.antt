@@ -13,6 +13,7 @@ pub mod Again
 pub mod Passed
 pub mod Saving
 pub mod Width
+pub mod Short
 pub mod Keeping
 pub mod World
 pub mod Claim

@@ -52,7 +52,8 @@ use Rattle.ends.specs.Flights.{Saved, Arrived, Marked, savesBy}
 use Rattle.ends.specs.Keeping.{saves-keep}
 use Rattle.ends.specs.Marks.{Grows, Flown, marked-arrived}
 use Rattle.ends.specs.Saving.{FlightOk, ok-grows}
-use Rattle.ends.specs.Width.{same-width}
+use Rattle.ends.specs.Short.{short-stays}
+use Rattle.ends.specs.Width.{same-width, same-limit}
 use Rattle.ends.specs.Sender.{
   Stores,
   Sender,
@@ -71,8 +72,10 @@ use Rattle.ends.specs.Sender.{
   take·,
   stored,
   sends,
+  lending,
+  Short,
 }
-use Rattle.ends.specs.Sends.{Sends, sends-keep, sealed-grows, new-sends, nonce-is, taken-is}
+use Rattle.ends.specs.Sends.{Sends, sends-keep, sealed-grows, new-sends, nonce-is, taken-is, turned}
 use Rattle.ends.specs.World.{
   Side,
   post,
@@ -82,6 +85,7 @@ use Rattle.ends.specs.World.{
   End,
   Deed,
   sending,
+  over,
   receiving,
   Event,
   World,
@@ -100,6 +104,7 @@ use Rattle.ends.specs.World.{
 -- the sender's flight and its MTU, against what the far end handed over
 record Flies (f e : End) : Type 0 where
   width : e .out .stores .state .queue .mtu ≡ e .mtu
+  limit : e .out .stores .state .queue .limit ≡ e .limit
   ok : FlightOk (f .into .into .handed) (e .out .books .sent) (e .mtu) (e .out .stores .flight) (e .out .stores .kept) (e .saves)
 
 -- two sent under one number are one
@@ -167,9 +172,9 @@ same-stores x (fill· v) = refl
 same-stores x (sealed· k m) = refl
 same-stores x (take· b) = refl
 
-fresh-width : (mtu limit : ℕ) → freshSending mtu limit .queue .mtu ≡ mtu
+fresh-width : (mtu limit : ℕ) → (freshSending mtu limit .queue .mtu ≡ mtu) × (freshSending mtu limit .queue .limit ≡ limit)
 unfolding freshSending
-fresh-width mtu limit = refl
+fresh-width mtu limit = (refl, refl)
 
 fresh-flies : (mtu : ℕ) (kept : List ℕ) → Flown (λ e. []) (λ e. []) mtu freshFlight kept []
 unfolding freshFlight
@@ -213,24 +218,35 @@ module _ (masks : Side → Masks) where
   counts-keep e i (maskOver· m d) h = more-counts (e .counts) _ refl h
   counts-keep e i (openOver· p d) h = more-counts (e .counts) _ refl h
 
+  -- a call over memory too short leaves this end's stores
+  over-stores : (f e : End) (c : SendCall) (q k : List ℕ) → Flies f e → Short (e .mtu) (e .limit) q k c
+      → lending (stored (lending (e .out .stores) q k) c) (e .out .stores .queue) (e .out .stores .kept) ≡ e .out .stores
+  over-stores f e c q k o h =
+      short-stays (e .out .stores) q k c
+      (subst (λ (n : ℕ). Short (e .out .stores .state .queue .mtu) n q k c) (sym (o .limit)) (subst (λ (n : ℕ). Short n (e .limit) q k c) (sym (o .width)) h))
+
   -- ---- one call, seen from the end that acts and from the other
 
-  out-keeps : (s : Side) (f e : End) (d : Deed) → Sends (masks s) (e .out) → FairDeed masks s f e d → Sends (masks s) (acts f e d .out)
-  out-keeps s f e (sending c) i h = sends-keep (masks s) (e .out) c i (h .0)
-  out-keeps s f e (receiving c) i h = i
+  out-keeps : (s : Side) (f e : End) (d : Deed) → Sends (masks s) (e .out) → Flies f e → FairDeed masks s f e d → Sends (masks s) (acts f e d .out)
+  out-keeps s f e (sending c) i o h = sends-keep (masks s) (e .out) c i (h .0)
+  out-keeps s f e (over c q k) i o h = turned (masks s) (e .out) i _ (over-stores f e c q k o h)
+  out-keeps s f e (receiving c) i o h = i
 
   own-link : (s : Side) (f e : End) (d : Deed) → Link (masks (far s)) (f .out .sealed) (e .into) → FairDeed masks s f e d
       → Link (masks (far s)) (f .out .sealed) (acts f e d .into)
   own-link s f e (sending c) l h = l
+  own-link s f e (over c q k) l h = l
   own-link s f e (receiving c) l h = call-keeps (masks (far s)) (f .out .sealed) (e .into) l c h
 
   other-link : (s : Side) (f e : End) (d : Deed) → Sends (masks s) (e .out) → FairDeed masks s f e d → Link (masks s) (e .out .sealed) (f .into)
       → Link (masks s) (acts f e d .out .sealed) (f .into)
   other-link s f e (sending c) i h l = grown (e .out) c (masks s) (sends-keep (masks s) (e .out) c i (h .0)) (f .into) l
+  other-link s f e (over c q k) i h l = l
   other-link s f e (receiving c) i h l = l
 
   own-counts : (f e : End) (d : Deed) → ((c : Count) → Mem c (e .counts) → SameNumbers c) → (c : Count) → Mem c (acts f e d .counts) → SameNumbers c
   own-counts f e (sending c) h = h
+  own-counts f e (over c q k) h = h
   own-counts f e (receiving c) h = counts-keep e _ c h
 
   -- what was handed over was sent, and only once under its number
@@ -242,17 +258,21 @@ module _ (masks : Side → Masks) where
   own-flight : (s : Side) (f e : End) (d : Deed) → Sends (masks s) (e .out) → Link (masks s) (e .out .sealed) (f .into) → FairDeed masks s f e d → Flies f e → Flies f (acts f e d)
   own-flight s f e (sending c) i l h o = record {
     width = ap (λ (w : Stores). w .state .queue .mtu) (same-stores (e .out) c) ∙ same-width (e .out .stores) c ∙ o .width;
+    limit = ap (λ (w : Stores). w .state .queue .limit) (same-stores (e .out) c) ∙ same-limit (e .out .stores) c ∙ o .limit;
     ok =
         subst (λ (w : Stores). FlightOk (f .into .into .handed) (sends (e .out) c .books .sent) (e .mtu) (w .flight) (w .kept) (savesBy (e .mtu) (e .out .stores) c (e .saves)))
         (sym (same-stores (e .out) c))
         (saves-keep (f .into .into .handed) (masks s) (e .out) i (one-handed (masks s) (e .out) (f .into) i l) (e .mtu) (o .width) (e .saves) (o .ok) c (h .1));
   }
-  own-flight s f e (receiving c) i l h o = record { width = o .width; ok = o .ok }
+  own-flight s f e (over c q k) i l h o = record { width = ap (λ (w : Stores). w .state .queue .mtu) (over-stores f e c q k o h) ∙ o .width; limit = ap (λ (w : Stores). w .state .queue .limit) (over-stores f e c q k o h) ∙ o .limit; ok = subst (λ (w : Stores). FlightOk (f .into .into .handed) (e .out .books .sent) (e .mtu) (w .flight) (w .kept) (e .saves)) (sym (over-stores f e c q k o h)) (o .ok) }
+  own-flight s f e (receiving c) i l h o = record { width = o .width; limit = o .limit; ok = o .ok }
 
   other-flight : (f e : End) (d : Deed) → Flies e f → Flies (acts f e d) f
-  other-flight f e (sending c) o = record { width = o .width; ok = o .ok }
+  other-flight f e (sending c) o = record { width = o .width; limit = o .limit; ok = o .ok }
+  other-flight f e (over c q k) o = record { width = o .width; limit = o .limit; ok = o .ok }
   other-flight f e (receiving c) o = record {
     width = o .width;
+    limit = o .limit;
     ok =
         ok-grows (e .into .into .handed) (does (f .out .sealed) (e .into) c .into .handed) (f .out .books .sent) (f .out .books .sent) (handed-on (f .out .sealed) (e .into) c) (λ k h m. m)
         (f .mtu) (f .out .stores .flight) (f .out .stores .kept) (f .saves) (o .ok);
@@ -267,10 +287,10 @@ module _ (masks : Side → Masks) where
 
   step-out : (w : World) (at : Side) (d : Deed) → Good w → FairDeed masks at (w (far at)) (w at) d → (s : Side)
       → Sends (masks s) (step w (record { side = at; deed = d }) s .out)
-  step-out w post d g h post = out-keeps post (w gateway) (w post) d (g .out post) h
+  step-out w post d g h post = out-keeps post (w gateway) (w post) d (g .out post) (g .flight gateway) h
   step-out w post d g h gateway = g .out gateway
   step-out w gateway d g h post = g .out post
-  step-out w gateway d g h gateway = out-keeps gateway (w post) (w gateway) d (g .out gateway) h
+  step-out w gateway d g h gateway = out-keeps gateway (w post) (w gateway) d (g .out gateway) (g .flight post) h
 
   step-link : (w : World) (at : Side) (d : Deed) → Good w → FairDeed masks at (w (far at)) (w at) d → (s : Side)
       → Link (masks (far s)) (step w (record { side = at; deed = d }) (far s) .out .sealed) (step w (record { side = at; deed = d }) s .into)
@@ -301,7 +321,8 @@ module _ (masks : Side → Masks) where
     link = λ s. new-link (masks (far s)) (settings s .min) (ok s .min);
     counts = λ s c m. elim m [ ];
     flight = λ s. record {
-      width = fresh-width (settings (far s) .mtu) (settings (far s) .limit);
+      width = fresh-width (settings (far s) .mtu) (settings (far s) .limit) .0;
+      limit = fresh-width (settings (far s) .mtu) (settings (far s) .limit) .1;
       ok = record { flown = fresh-flies (settings (far s) .mtu) (settings (far s) .kept); skipped = λ g two m. elim m [ ]; cleared = λ g two m. elim m [ ]; vanished = λ g m. elim m [ ] };
     };
   }

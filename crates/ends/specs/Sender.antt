@@ -1,10 +1,11 @@
 -- A sending end and its history: state, queue and flight as the last call left them, and what the claim speaks of, written from the host's
 -- arguments, the bytes and the answers and questions that the host sees; from the state only the next numbers to send.
-use Prim.Native.Nat.{ℕ, zero, suc, _+_, _-_, _<_}
+use Prim.Native.Nat.{ℕ, zero, suc, _+_, _-_, _*_, _<_}
 use lib.Dec.{eqb}
 use lib.ListN.{length, take, getD}
 use mathlib.Core.Bool.{Bool, true, false}
 use mathlib.Core.List.{List, [], _∷_, _++_}
+use mathlib.Core.Logic.{_⊎_}
 use mathlib.Core.Option.{Option, none, some}
 use mathlib.Core.Path.{_≡_}
 use Rattle.base.specs.Choose.{choose, both}
@@ -334,6 +335,33 @@ sends x (take· buffer) =
     let w = x .stores in
     let a = takeAnswer (w .state) (length (w .queue)) (length buffer) in
     turns x (stored w (take· buffer)) (x .books) (x .ivs) (x .sealed) (takenBy a (takeBuffer a (w .state) (w .queue) buffer) (x .taken))
+
+-- ---- a call over other memory than this end's own
+
+-- memory in place of what is lent to this end
+abbrev pub lending : Stores → List ℕ → List ℕ → Stores
+lending w q k = record { state = w .state; queue = q; flight = w .flight; kept = k; notes = w .notes }
+
+-- the call is made over it; this end's own memory stays
+abbrev pub sendsOver : Sender → SendCall → List ℕ → List ℕ → Sender
+sendsOver x c q k =
+    turns x (lending (stored (lending (x .stores) q k) c) (x .stores .queue) (x .stores .kept)) (x .books) (x .ivs) (x .sealed) (x .taken)
+
+-- too short: a queue "under its limit times the MTU", or a flight's memory under 12 times the MTU where the call takes one; a call that takes
+-- none is not made over any
+abbrev pub Short : ℕ → ℕ → List ℕ → List ℕ → SendCall → Type 0
+Short mtu limit q k (keySend· e iv) = ⊥
+Short mtu limit q k (send· e t x) = length q < limit * mtu
+Short mtu limit q k (save· e t x) = (length q < limit * mtu) ⊎ (length k < 12 * mtu)
+Short mtu limit q k (message· kind body) = (length q < limit * mtu) ⊎ (length k < 12 * mtu)
+Short mtu limit q k beginFlight· = ⊥
+Short mtu limit q k resend· = (length q < limit * mtu) ⊎ (length k < 12 * mtu)
+Short mtu limit q k (note· e n) = ⊥
+Short mtu limit q k sendAck· = length q < limit * mtu
+Short mtu limit q k (ack· d) = ⊥
+Short mtu limit q k (fill· v) = length q < limit * mtu
+Short mtu limit q k (sealed· n m) = length q < limit * mtu
+Short mtu limit q k (take· buffer) = length q < limit * mtu
 
 -- ---- what is asked of the host that seals
 

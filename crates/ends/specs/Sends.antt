@@ -275,6 +275,12 @@ module _ (masks : Masks) (x : Sender) (i : Sends masks x) where
   ack-keeps : (d : List ℕ) → Sends masks (sends x (ack· d))
   ack-keeps d = simple _ (i .ds) _ (x .ivs) (i .laying) (effect beginCall)
 
+  -- stores as they were
+  pub turned : (v : Stores) → v ≡ x .stores → Sends masks (turns x v (x .books) (x .ivs) (x .sealed) (x .taken))
+  turned v is =
+      subst (λ (v : Stores). Sends masks (turns x v (x .books) (x .ivs) (x .sealed) (x .taken))) (sym is)
+      (simple (x .stores) (i .ds) (x .books) (x .ivs) (i .laying) (effect beginCall))
+
   -- ---- the host's bytes
 
   put-lays : (v : List ℕ) → Laying (x .sealed) (i .gone) (x .ivs) (w .state) (putMemory (w .state) v (w .queue))

@@ -64,27 +64,28 @@ use Rattle.sealing.specs.declared.SealAnswer.{SealAnswer}
 
 -- ---- the MTU
 
-abbrev widthOf : Sending → ℕ
-widthOf s = s .queue .mtu
+-- and the limit
+abbrev widthOf : Sending → ℕ × ℕ
+widthOf s = (s .queue .mtu, s .queue .limit)
 
 send-width : (a : SendAnswer) (s : Sending) (e n : ℕ) → widthOf (sendState a s e n .state) ≡ widthOf s
 unfolding sendState laidState laid
 send-width a s e n = by-test (λ (u : Sending). widthOf u ≡ widthOf s) (λ z. refl) (λ z. refl)
 
-pub save-width : (s : Sending) (f : Flight) (room kept e t n : ℕ) → widthOf (saveState s f room kept e t n .state) ≡ widthOf s
+save-width : (s : Sending) (f : Flight) (room kept e t n : ℕ) → widthOf (saveState s f room kept e t n .state) ≡ widthOf s
 unfolding saveState laidState laid
 save-width s f room kept e t n = by-test (λ (u : Sending). widthOf u ≡ widthOf s) (λ z. refl) (λ z. refl)
 
-pub piece-width : (kind : ℕ) (body : List ℕ) (at : ℕ) (l : Laid) → widthOf (piece kind body at l .saved .state) ≡ widthOf (l .saved .state)
+piece-size : (kind : ℕ) (body : List ℕ) (at : ℕ) (l : Laid) → widthOf (piece kind body at l .saved .state) ≡ widthOf (l .saved .state)
 unfolding pieceOf
-piece-width kind body at l = save-width (l .saved .state) (l .saved .flight) (length (l .queue)) (length (l .kept)) _ 22 _
+piece-size kind body at l = save-width (l .saved .state) (l .saved .flight) (length (l .queue)) (length (l .kept)) _ 22 _
 
 all-width : (k kind : ℕ) (body : List ℕ) (at : ℕ) (l : Laid) → widthOf (sendAll k kind body at l .saved .state) ≡ widthOf (l .saved .state)
 unfolding sendAll
 all-width zero kind body at l = refl
 all-width (suc k) kind body at l =
-    by-test (λ (v : Laid). widthOf (v .saved .state) ≡ widthOf (l .saved .state)) (λ z. piece-width kind body at l)
-    (λ z. all-width k kind body _ (piece kind body at l) ∙ piece-width kind body at l)
+    by-test (λ (v : Laid). widthOf (v .saved .state) ≡ widthOf (l .saved .state)) (λ z. piece-size kind body at l)
+    (λ z. all-width k kind body _ (piece kind body at l) ∙ piece-size kind body at l)
 
 message-width : (a : SendAnswer) (s : Sending) (f : Flight) (q m : List ℕ) (kind : ℕ) (body : List ℕ) → widthOf (messageState a s f q m kind body .state) ≡ widthOf s
 unfolding messageState
@@ -120,19 +121,28 @@ take-width : (w : Stores) (b : List ℕ) → widthOf (stored w (take· b) .state
 unfolding takeState
 take-width w b = by-test (λ (u : Sending). widthOf u ≡ widthOf (w .state)) (λ z. refl) (λ z. refl)
 
+same-size : (w : Stores) (c : SendCall) → widthOf (stored w c .state) ≡ widthOf (w .state)
+same-size w (keySend· e iv) = key-width (w .state) e iv
+same-size w (send· e t x) = send-width _ (w .state) e (length x)
+same-size w (save· e t x) = save-width (w .state) (w .flight) (length (w .queue)) (length (w .kept)) e t (length x)
+same-size w (message· kind body) = message-width _ (w .state) (w .flight) (w .queue) (w .kept) kind body
+same-size w beginFlight· = refl
+same-size w resend· = resend-width w
+same-size w (note· e n) = refl
+same-size w sendAck· = ack-width w
+same-size w (ack· d) = refl
+same-size w (fill· v) = refl
+same-size w (sealed· k m) = seal-width w k m
+same-size w (take· b) = take-width w b
+
 pub same-width : (w : Stores) (c : SendCall) → stored w c .state .queue .mtu ≡ w .state .queue .mtu
-same-width w (keySend· e iv) = key-width (w .state) e iv
-same-width w (send· e t x) = send-width _ (w .state) e (length x)
-same-width w (save· e t x) = save-width (w .state) (w .flight) (length (w .queue)) (length (w .kept)) e t (length x)
-same-width w (message· kind body) = message-width _ (w .state) (w .flight) (w .queue) (w .kept) kind body
-same-width w beginFlight· = refl
-same-width w resend· = resend-width w
-same-width w (note· e n) = refl
-same-width w sendAck· = ack-width w
-same-width w (ack· d) = refl
-same-width w (fill· v) = refl
-same-width w (sealed· k m) = seal-width w k m
-same-width w (take· b) = take-width w b
+same-width w c = ap (λ (p : ℕ × ℕ). p .0) (same-size w c)
+
+pub same-limit : (w : Stores) (c : SendCall) → stored w c .state .queue .limit ≡ w .state .queue .limit
+same-limit w c = ap (λ (p : ℕ × ℕ). p .1) (same-size w c)
+
+pub piece-width : (kind : ℕ) (body : List ℕ) (at : ℕ) (l : Laid) → piece kind body at l .saved .state .queue .mtu ≡ l .saved .state .queue .mtu
+piece-width kind body at l = ap (λ (p : ℕ × ℕ). p .0) (piece-size kind body at l)
 
 -- ---- the log
 

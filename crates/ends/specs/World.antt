@@ -23,7 +23,7 @@ use Rattle.history.specs.Receiver.{
   does,
 }
 use Rattle.ends.specs.Flights.{Saves, noSaves, savesBy, FairNames}
-use Rattle.ends.specs.Sender.{Sender, newSender, SendCall, sends, FairSend}
+use Rattle.ends.specs.Sender.{Sender, newSender, SendCall, sends, sendsOver, Short, FairSend}
 
 pub data Side : Type 0 where
   post gateway : Side
@@ -38,16 +38,19 @@ pub record Count : Type 0 where
   pub before : SendKeys
   pub behind : SendKeys
 
--- the MTU it was created with, what it sends, the claim's account of what it saved, what it receives, and the counts of its readings
+-- the MTU and the queue's limit it was created with, what it sends, the claim's account of what it saved, what it receives, and the counts of its readings
 pub record End : Type 0 where
   pub mtu : ℕ
+  pub limit : ℕ
   pub out : Sender
   pub saves : Saves
   pub into : Inbound
   pub counts : List Count
 
+-- a sending call over this end's own memory, or over other memory that is too short; a receiving call
 pub data Deed : Type 0 where
   sending : SendCall → Deed
+  over : SendCall → List ℕ → List ℕ → Deed
   receiving : Call → Deed
 
 pub record Event : Type 0 where
@@ -64,7 +67,7 @@ abbrev pub counted : End → End → ℕ → List Count
 counted e e′ k = record { datagram = k; before = e .out .stores .state .keys; behind = e′ .out .stores .state .keys } ∷ e .counts
 
 abbrev pub takesIn : End → Inbound → List Count → End
-takesIn e i cs = record { mtu = e .mtu; out = e .out; saves = e .saves; into = i; counts = cs }
+takesIn e i cs = record { mtu = e .mtu; limit = e .limit; out = e .out; saves = e .saves; into = i; counts = cs }
 
 abbrev pub countsBy : End → End → Call → List Count
 countsBy e e′ (key· k iv) = e .counts
@@ -82,7 +85,8 @@ countsBy e e′ (openOver· p d) = counted e e′ (e .into .serial)
 
 abbrev pub acts : End → End → Deed → End
 acts far-end e (sending c) =
-    record { mtu = e .mtu; out = sends (e .out) c; saves = savesBy (e .mtu) (e .out .stores) c (e .saves); into = e .into; counts = e .counts }
+    record { mtu = e .mtu; limit = e .limit; out = sends (e .out) c; saves = savesBy (e .mtu) (e .out .stores) c (e .saves); into = e .into; counts = e .counts }
+acts far-end e (over c q k) = record { mtu = e .mtu; limit = e .limit; out = sendsOver (e .out) c q k; saves = e .saves; into = e .into; counts = e .counts }
 acts far-end e (receiving c) =
     let i = does (far-end .out .sealed) (e .into) c in
     takesIn e i (countsBy e (takesIn e i (e .counts)) c)
@@ -112,6 +116,7 @@ pub record Setting : Type 0 where
 abbrev pub newEnd : Setting → End
 newEnd s = record {
   mtu = s .mtu;
+  limit = s .limit;
   out = newSender (s .mtu) (s .limit) (s .queue) (s .kept);
   saves = noSaves;
   into = newInbound (s .min);
@@ -124,9 +129,10 @@ fresh-pair settings s = newEnd (settings s)
 -- ---- what is asked of the hosts
 
 -- the mask is "fixed by direction, epoch and the 16 bytes": one function for each sending side; and "every ACK acted on .. named, from
--- epoch 2 up, only records handed over to that end"
+-- epoch 2 up, only records handed over to that end"; other memory than an end's own is lent to it only if too short
 abbrev pub FairDeed : (Side → Masks) → Side → End → End → Deed → Type 0
 FairDeed masks s far-end e (sending c) = FairSend (masks s) (e .out) c × FairNames (far-end .into .into .handed) c
+FairDeed masks s far-end e (over c q k) = Short (e .mtu) (e .limit) q k c
 FairDeed masks s far-end e (receiving c) = FairCall (masks (far s)) (far-end .out .sealed) (e .into) c
 
 abbrev pub Fair : (Side → Masks) → World → Event → Type 0
