@@ -18,3 +18,4 @@ pub mod Keeping
 pub mod World
 pub mod Claim
 pub mod Proof
+pub mod Example
