@@ -87,11 +87,11 @@ unfolding oneMask sealedAs
 shape e n c low = record { typed = λ z. omega arith; size = refl; short = omega arith; number = low; header = refl; wire = refl }
 
 -- no record of the list has number n
-abbrev free : ℕ → List Sealed → Bool
+abbrev pub free : ℕ → List Sealed → Bool
 free n [] = true
 free n (r ∷ l) = choose (eqb (r .num) n) false (free n l)
 
-abbrev distinct : List Sealed → Bool
+abbrev pub distinct : List Sealed → Bool
 distinct [] = true
 distinct (r ∷ l) = both (free (r .num) l) (distinct l)
 
@@ -111,7 +111,7 @@ one-of (x ∷ l) t q r m o e =
     (λ o′. one-of l (both-right _ _ t) q r m′ o′ e))
 
 -- a yes that brings what was sealed, and a no for a number that was not
-yes-fair : (l : List Sealed) (r : Sealed) → Mem r l → distinct l ≡ true → (x : List ℕ) → x ≡ r .content ++ (r .type ∷ [])
+pub yes-fair : (l : List Sealed) (r : Sealed) → Mem r l → distinct l ≡ true → (x : List ℕ) → x ≡ r .content ++ (r .type ∷ [])
     → (p : List ℕ) → (some x ≡ some p) ↔ ((q : Sealed) × Mem q l × Opens q (r .num) (r .header) (r .cipher) p)
 yes-fair l r m t x plain p = (
   λ e. (r, m, record { number = refl; header = refl; cipher = refl; plaintext = sym (some-inj e) ∙ plain }),
