@@ -19,7 +19,7 @@ use Rattle.flight.specs.declared.Entry.{Entry}
 use Rattle.flight.specs.declared.Flight.{Flight}
 use Rattle.flight.specs.Flight.{noEntry, entryAt}
 use Rattle.resend.specs.Resend.{withNumber, canRemember, can-few, renewed, renewedIf, Laying as Again, contentAt, sentAgain, againAnswer, againAt, againAfter}
-use Rattle.resend.specs.Tests.{closedState}
+use Rattle.resend.specs.Tests.{countAfter, closedState}
 use Rattle.waiting.specs.Pieces.{Behind, behind-send}
 use Rattle.waiting.specs.Queued.{Queued, laidAs, flat, Holds}
 use Rattle.waiting.specs.Sends.{recordOf, afterSend, sent-last}
@@ -39,7 +39,8 @@ savedContent mtu f kept i = part (i * mtu) (entryAt f i .length) kept
 pub data Outcome (s : Sending) (f g : Flight) (kept : List ℕ) (rs : List Queued) (sent : ℕ → List Handed) (i : ℕ) : Type 0 where
   same : entryAt f i .marked ≡ true → entryAt g i ≡ entryAt f i → ((j : ℕ) → j < 32 → getD (g .numbers) (i * 32 + j) 0 ≡ getD (f .numbers) (i * 32 + j) 0)
       → Outcome s f g kept rs sent i
-  anew : entryAt f i .marked ≡ false → (n k : ℕ) → entryAt g i ≡ withNumber (entryAt f i) n k → k ≤ 32 → nextOf (s .keys) (entryAt f i .epoch) ≤ n
+  anew : entryAt f i .marked ≡ false → (n k : ℕ) → entryAt g i ≡ withNumber (entryAt f i) n k → k ≤ 32
+      → n ≡ nextOf (s .keys) (entryAt f i .epoch) + countAfter f (entryAt f i .epoch) i
       → ((j : ℕ) → j < k → (getD (g .numbers) (i * 32 + j) 0 ≡ entryAt f i .number)
       ⊎ ((j < entryAt f i .remembered) × (getD (g .numbers) (i * 32 + j) 0 ≡ getD (f .numbers) (i * 32 + j) 0)))
       → Mem (laidAs (entryAt f i .epoch) (entryAt f i .«content_type») n (savedContent (s .queue .mtu) f kept i)) rs
@@ -51,8 +52,8 @@ outcome-on : (s : Sending) (f g g′ : Flight) (kept : List ℕ) (rs rs′ : Lis
     → ((j : ℕ) → j < 32 → getD (g′ .numbers) (i * 32 + j) 0 ≡ getD (g .numbers) (i * 32 + j) 0) → ((r : Queued) → Mem r rs → Mem r rs′) → Grows sent sent′
     → Outcome s f g kept rs sent i → Outcome s f g′ kept rs′ sent′ i
 outcome-on s f g g′ kept rs rs′ sent sent′ i e c up on (same m q z) = same m (e ∙ q) (λ j l. c j l ∙ z j l)
-outcome-on s f g g′ kept rs rs′ sent sent′ i e c up on (anew m n k q few high z in-queue in-log) =
-    anew m n k (e ∙ q) few high
+outcome-on s f g g′ kept rs rs′ sent sent′ i e c up on (anew m n k q few exact z in-queue in-log) =
+    anew m n k (e ∙ q) few exact
     (λ j l. let w = c j (omega arith) in ⊎-elim (λ a. inl (w ∙ a)) (λ a. inr (a .0, w ∙ a .1)) (z j l)) (up _ in-queue) (on _ _ in-log)
 
 pub lays-grows : (a : SendAnswer) (s : Sending) (e t : ℕ) (x : List ℕ) (b : Books) → Grows (b .sent) (lays a s e t x b .sent)
@@ -203,10 +204,8 @@ module _ (s : Sending) (f : Flight) (kept : List ℕ) (p : Plan s f (length kept
         (subst (λ (l : List ℕ). Mem (record { num = num; type = entryAt (r .flight) n .«content_type»; content = l }) (c .sent (entryAt (r .flight) n .epoch))) content-is
         (lays-new (againAnswer kept n r) (r .state) (entryAt (r .flight) n .epoch) (entryAt (r .flight) n .«content_type») (contentAt kept n r) b is-done))
 
-    high : nextOf (s .keys) (x .epoch) ≤ num
-    high =
-        let e : num ≡ nextOf (r .state .keys) (x .epoch) = ap (λ (v : Entry). nextOf (r .state .keys) (v .epoch)) entry-is in
-        omega (arith, i .under .next (x .epoch) (p .usable n within open-one))
+    exact : num ≡ nextOf (s .keys) (x .epoch) + countAfter f (x .epoch) n
+    exact = ap (λ (v : Entry). nextOf (r .state .keys) (v .epoch)) entry-is ∙ i .under .next (x .epoch) (p .usable n within open-one)
 
     sent-sofar : Sofar s f kept (suc n) (sentAgain (againAnswer kept n r) kept n r) (flat us) (c .sent)
     sent-sofar = record {
@@ -216,7 +215,7 @@ module _ (s : Sending) (f : Flight) (kept : List ℕ) (p : Plan s f (length kept
           (⊎-elim
           (λ (q : j ≡ n).
           subst (Outcome s f (renewed (r .flight) n num) kept (flat us) (c .sent)) (sym q)
-          (anew open-one num kk (here-entry kk refl ∙ ap (λ (e : Entry). withNumber e num kk) entry-is) kk-few high here-cells in-queue in-log))
+          (anew open-one num kk (here-entry kk refl ∙ ap (λ (e : Entry). withNumber e num kk) entry-is) kk-few exact here-cells in-queue in-log))
           (λ q.
           outcome-on s f (r .flight) (renewed (r .flight) n num) kept (flat ds) (flat us) (b .sent) (c .sent) j (other-entry j q)
           (λ m o. other-cell (j * 32 + m) (λ z. omega arith)) (λ u m. subst (Mem u) (sym flat-then) (mem-left _ m))

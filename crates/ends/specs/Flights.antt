@@ -69,6 +69,18 @@ abbrev pub Marked : Flight → ℕ → List Saved → Saved → Type 0
 Marked f i [] g = ⊥
 Marked f i (h ∷ hs) g = ((entryAt f i .marked ≡ true) × (h ≡ g)) ⊎ Marked f (suc i) hs g
 
+-- each sending is that of one saved record: no number is in two of one epoch
+abbrev pub Differ : Saved → Saved → Type 0
+Differ g h = h .epoch ≡ g .epoch → (n : ℕ) → Mem n (g .sendings) → Mem n (h .sendings) → ⊥
+
+abbrev pub Away : Saved → List Saved → Type 0
+Away g [] = Unit {0}
+Away g (h ∷ hs) = Differ g h × Away g hs
+
+abbrev pub Apart : List Saved → Type 0
+Apart [] = Unit {0}
+Apart (g ∷ gs) = Away g gs × Apart gs
+
 -- ---- saving
 
 -- under the number that was next

@@ -86,7 +86,7 @@ use Rattle.ends.specs.Width.{piece-width, again-grows, sent-grows}
 -- ---- a message
 
 module _ (handed : ℕ → List Handed) where
-  piece-flown : (kind : ℕ) (body : List ℕ) (at : ℕ) (l : Laid) (b : Books) (gs : List Saved) → at + pieceSize kind body at l ≤ length body
+  pub piece-flown : (kind : ℕ) (body : List ℕ) (at : ℕ) (l : Laid) (b : Books) (gs : List Saved) → at + pieceSize kind body at l ≤ length body
       → Flown handed (b .sent) (l .saved .state .queue .mtu) (l .saved .flight) (l .kept) gs
       → Flown handed (pieceBooks kind body at l b .sent) (l .saved .state .queue .mtu) (piece kind body at l .saved .flight) (piece kind body at l .kept) (pieceSaved kind body at l gs)
   unfolding pieceOf
@@ -134,7 +134,7 @@ begin-flown handed sent mtu f kept gs i =
 -- ---- a resend
 
 -- choices by one test, the last over those before it
-by-resend : {A B C D : Type 0} (P : A → B → C → D → Type 0) (t : Bool) {a a′ : A} {b b′ : B} {c c′ : C} (d : B → C → D) {d′ : D} → (t ≡ true → P a b c (d b c)) → (t ≡ false → P a′ b′ c′ d′)
+pub by-resend : {A B C D : Type 0} (P : A → B → C → D → Type 0) (t : Bool) {a a′ : A} {b b′ : B} {c c′ : C} (d : B → C → D) {d′ : D} → (t ≡ true → P a b c (d b c)) → (t ≡ false → P a′ b′ c′ d′)
     → P (choose t a a′) (choose t b b′) (choose t c c′) (choose t (d (choose t b b′) (choose t c c′)) d′)
 unfolding choose
 by-resend P true d f g = f refl
@@ -168,7 +168,7 @@ module _ (handed : ℕ → List Handed) (log : ℕ → List Sealed) (gone : List
       tracked-field handed (b .sent) (w .state .queue .mtu) (w .flight) (w .kept) (λ j. entryAt (w .flight) j .remembered ≤ 32) (λ j g k. k .few) 0 (a .saved)
       (o .flown .each) i (omega arith) (omega (arith, o .flown .count))
 
-  sofar : isResent (resendAnswer (w .state) (w .flight) (length (w .queue)) (length (w .kept))) ≡ true
+  pub sofar : isResent (resendAnswer (w .state) (w .flight) (length (w .queue)) (length (w .kept))) ≡ true
       → Sofar (w .state) (w .flight) (w .kept) (w .flight .saved) last (flat (againDs (w .kept) (closing w) (w .flight .saved) ds)) log′
   sofar d =
       all-sofar (w .state) (w .flight) (w .kept) (plan (w .state) (w .flight) (length (w .queue)) (length (w .kept)) d) (o .flown .most) (o .flown .long) (o .flown .table) short-at few-at

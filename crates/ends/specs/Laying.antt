@@ -148,7 +148,7 @@ by-four P true f g = f refl
 by-four P false f g = g refl
 
 module _ (log : ℕ → List Sealed) (gone : List Line) (ivs : ℕ → List ℕ) where
-  piece-lays : (kind : ℕ) (body : List ℕ) (at : ℕ) (l : Laid) (ds : List (List Queued)) (b : Books) → at + pieceSize kind body at l ≤ length body
+  pub piece-lays : (kind : ℕ) (body : List ℕ) (at : ℕ) (l : Laid) (ds : List (List Queued)) (b : Books) → at + pieceSize kind body at l ≤ length body
       → Laying log gone ivs (l .saved .state) (l .queue) ds b
       → let s = l .saved .state in
       let x = contentOf kind (s .«message_seq») body at (pieceSize kind body at l) in

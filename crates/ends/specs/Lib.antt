@@ -15,6 +15,7 @@ pub mod Saving
 pub mod Width
 pub mod Short
 pub mod Keeping
+pub mod Apart
 pub mod World
 pub mod Claim
 pub mod Proof

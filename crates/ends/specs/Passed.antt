@@ -127,7 +127,7 @@ module _ (handed sent sent′ : ℕ → List Handed) (grows : Grows sent sent′
       → Kept handed sent′ (s .queue .mtu) g kept i (choose (wasLaid (s .keys) queue h (entryAt g i .number)) (againAs h (entryAt g i .number)) h)
       × (wasLaid (s .keys) queue h (entryAt g i .number) ≡ false → 2 ≤ h .epoch → Arrived handed h)
   renewed-one i h k (same m q c) = as-was i h k m q c
-  renewed-one i h k (anew m n r q few high c in-queue in-log) = sent-anew i h k m n r q few high c in-queue in-log
+  renewed-one i h k (anew m n r q few exact c in-queue in-log) = sent-anew i h k m n r q few (omega (arith, exact)) c in-queue in-log
 
   pub renewed-tracked : (end : ℕ) → ((i : ℕ) → i < end → Outcome s f g kept rs sent′ i) → (i : ℕ) (hs : List Saved) → i + length hs ≤ end
       → Tracked handed sent (s .queue .mtu) f kept i hs → Tracked handed sent′ (s .queue .mtu) g kept i (renewedBy (s .keys) queue g i hs)

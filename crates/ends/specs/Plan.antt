@@ -121,7 +121,7 @@ tail-grows mtu t f i (suc n) h =
     (omega (arith, tail-grows mtu t f i n h, tail-one mtu t f (i + n) h))
 
 -- how many come in an epoch
-count-grows : (f : Flight) (e i n : ℕ) → countAfter f e i ≤ countAfter f e (i + n)
+pub count-grows : (f : Flight) (e i n : ℕ) → countAfter f e i ≤ countAfter f e (i + n)
 count-grows f e i zero = let z : i + 0 ≡ i = omega arith in subst (λ (k : ℕ). countAfter f e i ≤ countAfter f e k) (sym z) (omega arith)
 count-grows f e i (suc n) =
     let z : i + suc n ≡ suc (i + n) = omega arith in
