@@ -10,7 +10,7 @@ use Rattle.queue.specs.Queue.{isSetting}
 use Rattle.send_keys.specs.Keys.{nextOf}
 use Rattle.history.specs.Claim.{Masks, Once, asHanded, Received}
 use Rattle.history.specs.Receiver.{Sealed, accepts, Move}
-use Rattle.ends.specs.Flights.{Saved, Arrived, Marked}
+use Rattle.ends.specs.Flights.{Saved, Arrived, Marked, Apart}
 use Rattle.ends.specs.Sender.{Lent, Taken}
 use Rattle.ends.specs.World.{Side, far, Count, World, Event, run, Setting, fresh-pair, Honest}
 
@@ -33,6 +33,8 @@ pub record Holds (w : World) (s : Side) (e : ℕ) : Type 0 where
   pub cleared-handed : (g : Saved) → 2 ≤ g .epoch → Mem g (w (far s) .saves .cleared) → Arrived (w s .into .into .handed) g
   -- and none goes in another way: only with the beginning of a flight or, of another epoch, with a flight that an ACK empties
   pub none-vanished : (g : Saved) → Mem g (w (far s) .saves .vanished) → ⊥
+  -- "Each sending of a saved record is a record of its own": no number is a sending of two saved records in an epoch
+  pub own-sendings : Apart (w (far s) .saves .saved)
   -- beside the demand, so that the above is not hollow:
   -- "it" is one record: no number is sealed twice in an epoch
   pub sealed-once : (r q : Sealed) → Mem r (w (far s) .out .sealed e) → Mem q (w (far s) .out .sealed e) → r .num ≡ q .num → r ≡ q

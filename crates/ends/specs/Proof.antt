@@ -47,8 +47,9 @@ use Rattle.history.specs.Receiver.{
   does,
 }
 use Rattle.send_keys.specs.Keys.{nextOf}
+use Rattle.ends.specs.Apart.{saves-apart}
 use Rattle.ends.specs.Claim.{SameNumbers, Holds, Startable, EveryList}
-use Rattle.ends.specs.Flights.{Saved, Arrived, Marked, savesBy}
+use Rattle.ends.specs.Flights.{Saved, Arrived, Marked, Apart, savesBy}
 use Rattle.ends.specs.Keeping.{saves-keep}
 use Rattle.ends.specs.Marks.{Grows, Flown, marked-arrived}
 use Rattle.ends.specs.Saving.{FlightOk, ok-grows}
@@ -187,6 +188,7 @@ module _ (masks : Side → Masks) where
     link : (s : Side) → Link (masks (far s)) (w (far s) .out .sealed) (w s .into)
     counts : (s : Side) → (c : Count) → Mem c (w s .counts) → SameNumbers c
     flight : (s : Side) → Flies (w s) (w (far s))
+    apart : (s : Side) → Apart (w s .saves .saved)
 
   -- more sealed at the far end
   grown : (x : Sender) (c : SendCall) (m : Masks) → Sends m (sends x c) → (i : Inbound) → Link m (x .sealed) i → Link m (sends x c .sealed) i
@@ -278,6 +280,17 @@ module _ (masks : Side → Masks) where
         (f .mtu) (f .out .stores .flight) (f .out .stores .kept) (f .saves) (o .ok);
   }
 
+  own-apart : (s : Side) (f e : End) (d : Deed) → Sends (masks s) (e .out) → Flies f e → Apart (e .saves .saved) → Apart (acts f e d .saves .saved)
+  own-apart s f e (sending c) i o p = saves-apart (f .into .into .handed) (masks s) (e .out) i (e .mtu) (o .width) (e .saves) (o .ok) p c
+  own-apart s f e (over c q k) i o p = p
+  own-apart s f e (receiving c) i o p = p
+
+  step-apart : (w : World) (at : Side) (d : Deed) → Good w → (s : Side) → Apart (step w (record { side = at; deed = d }) s .saves .saved)
+  step-apart w post d g post = own-apart post (w gateway) (w post) d (g .out post) (g .flight gateway) (g .apart post)
+  step-apart w post d g gateway = g .apart gateway
+  step-apart w gateway d g post = g .apart post
+  step-apart w gateway d g gateway = own-apart gateway (w post) (w gateway) d (g .out gateway) (g .flight post) (g .apart gateway)
+
   step-flight : (w : World) (at : Side) (d : Deed) → Good w → FairDeed masks at (w (far at)) (w at) d → (s : Side)
       → Flies (step w (record { side = at; deed = d }) s) (step w (record { side = at; deed = d }) (far s))
   step-flight w post d g h post = other-flight (w gateway) (w post) d (g .flight post)
@@ -313,6 +326,7 @@ module _ (masks : Side → Masks) where
         link = step-link w (v .side) (v .deed) g (h .0);
         counts = step-counts w (v .side) (v .deed) g;
         flight = step-flight w (v .side) (v .deed) g (h .0);
+        apart = step-apart w (v .side) (v .deed) g;
       }) (h .1)
 
   new-good : (settings : Side → Setting) → ((s : Side) → Startable (settings s)) → Good (fresh-pair settings)
@@ -325,6 +339,7 @@ module _ (masks : Side → Masks) where
       limit = fresh-width (settings (far s) .mtu) (settings (far s) .limit) .1;
       ok = record { flown = fresh-flies (settings (far s) .mtu) (settings (far s) .kept); skipped = λ g two m. elim m [ ]; cleared = λ g two m. elim m [ ]; vanished = λ g m. elim m [ ] };
     };
+    apart = λ s. tt;
   }
 
   holds : (w : World) → Good w → (s : Side) (e : ℕ) → Holds w s e
@@ -337,6 +352,7 @@ module _ (masks : Side → Masks) where
     skipped-handed = g .flight s .ok .skipped;
     cleared-handed = g .flight s .ok .cleared;
     none-vanished = g .flight s .ok .vanished;
+    own-sendings = g .apart (far s);
     sealed-once = g .out (far s) .once e;
     sealed-sent = g .out (far s) .laying .sealed-sent e;
     sent-once = g .out (far s) .laying .numbers .once e;
