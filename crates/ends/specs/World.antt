@@ -1,0 +1,144 @@
+-- Two ends that talk: each sends and receives, and each call gets state, queue, flight and datagram as the last call at its end left them,
+-- refused or not.
+use Prim.Native.Nat.{ℕ}
+use mathlib.Core.List.{List, [], _∷_}
+use Rattle.send_keys.specs.declared.SendKeys.{SendKeys}
+use Rattle.history.specs.Claim.{Masks, FairCall}
+use Rattle.history.specs.Receiver.{
+  Inbound,
+  newInbound,
+  Call,
+  key·,
+  remove·,
+  encrypt·,
+  release·,
+  begin·,
+  read·,
+  mask·,
+  write·,
+  open·,
+  readOver·,
+  maskOver·,
+  openOver·,
+  does,
+}
+use Rattle.ends.specs.Flights.{Saves, noSaves, savesBy, FairNames}
+use Rattle.ends.specs.Sender.{Sender, newSender, SendCall, sends, sendsOver, Short, FairSend}
+
+pub data Side : Type 0 where
+  post gateway : Side
+
+abbrev pub far : Side → Side
+far post = gateway
+far gateway = post
+
+-- the keys to send, with every next number, before and behind a call that reads the datagram with this serial number
+pub record Count : Type 0 where
+  pub datagram : ℕ
+  pub before : SendKeys
+  pub behind : SendKeys
+
+-- the MTU and the queue's limit it was created with, what it sends, the claim's account of what it saved, what it receives, and the counts of its readings
+pub record End : Type 0 where
+  pub mtu : ℕ
+  pub limit : ℕ
+  pub out : Sender
+  pub saves : Saves
+  pub into : Inbound
+  pub counts : List Count
+
+-- a sending call over this end's own memory, or over other memory that is too short; a receiving call
+pub data Deed : Type 0 where
+  sending : SendCall → Deed
+  over : SendCall → List ℕ → List ℕ → Deed
+  receiving : Call → Deed
+
+pub record Event : Type 0 where
+  pub side : Side
+  pub deed : Deed
+
+abbrev pub World : Type 0
+World = Side → End
+
+-- ---- one call
+
+-- the datagram that a receiving call reads, if it reads one: a begin gives a serial number
+abbrev pub counted : End → End → ℕ → List Count
+counted e e′ k = record { datagram = k; before = e .out .stores .state .keys; behind = e′ .out .stores .state .keys } ∷ e .counts
+
+abbrev pub takesIn : End → Inbound → List Count → End
+takesIn e i cs = record { mtu = e .mtu; limit = e .limit; out = e .out; saves = e .saves; into = i; counts = cs }
+
+abbrev pub countsBy : End → End → Call → List Count
+countsBy e e′ (key· k iv) = e .counts
+countsBy e e′ (remove· k) = e .counts
+countsBy e e′ encrypt· = e .counts
+countsBy e e′ release· = e .counts
+countsBy e e′ (begin· d) = counted e e′ (e′ .into .lastSerial)
+countsBy e e′ read· = counted e e′ (e .into .serial)
+countsBy e e′ (mask· m) = counted e e′ (e .into .serial)
+countsBy e e′ (write· p) = e .counts
+countsBy e e′ (open· p) = counted e e′ (e .into .serial)
+countsBy e e′ (readOver· d) = counted e e′ (e .into .serial)
+countsBy e e′ (maskOver· m d) = counted e e′ (e .into .serial)
+countsBy e e′ (openOver· p d) = counted e e′ (e .into .serial)
+
+abbrev pub acts : End → End → Deed → End
+acts far-end e (sending c) =
+    record { mtu = e .mtu; limit = e .limit; out = sends (e .out) c; saves = savesBy (e .mtu) (e .out .stores) c (e .saves); into = e .into; counts = e .counts }
+acts far-end e (over c q k) = record { mtu = e .mtu; limit = e .limit; out = sendsOver (e .out) c q k; saves = e .saves; into = e .into; counts = e .counts }
+acts far-end e (receiving c) =
+    let i = does (far-end .out .sealed) (e .into) c in
+    takesIn e i (countsBy e (takesIn e i (e .counts)) c)
+
+abbrev pub put : Side → End → World → World
+put post e w post = e
+put post e w gateway = w gateway
+put gateway e w post = w post
+put gateway e w gateway = e
+
+abbrev pub step : World → Event → World
+step w v = put (v .side) (acts (w (far (v .side))) (w (v .side)) (v .deed)) w
+
+abbrev pub run : World → List Event → World
+run w [] = w
+run w (v ∷ vs) = run (step w v) vs
+
+-- ---- the start: each end has its own settings, and lent buffers with any first contents
+
+pub record Setting : Type 0 where
+  pub mtu : ℕ
+  pub limit : ℕ
+  pub min : ℕ
+  pub queue : List ℕ
+  pub kept : List ℕ
+
+abbrev pub newEnd : Setting → End
+newEnd s = record {
+  mtu = s .mtu;
+  limit = s .limit;
+  out = newSender (s .mtu) (s .limit) (s .queue) (s .kept);
+  saves = noSaves;
+  into = newInbound (s .min);
+  counts = [];
+}
+
+abbrev pub fresh-pair : (Side → Setting) → World
+fresh-pair settings s = newEnd (settings s)
+
+-- ---- what is asked of the hosts
+
+-- the mask is "fixed by direction, epoch and the 16 bytes": one function for each sending side; and "every ACK acted on .. named, from
+-- epoch 2 up, only records handed over to that end"; other memory than an end's own is lent to it only if too short
+abbrev pub FairDeed : (Side → Masks) → Side → End → End → Deed → Type 0
+FairDeed masks s far-end e (sending c) = FairSend (masks s) (e .out) c × FairNames (far-end .into .into .handed) c
+FairDeed masks s far-end e (over c q k) = Short (e .mtu) (e .limit) q k c
+FairDeed masks s far-end e (receiving c) = FairCall (masks (far s)) (far-end .out .sealed) (e .into) c
+
+abbrev pub Fair : (Side → Masks) → World → Event → Type 0
+Fair masks w v = FairDeed masks (v .side) (w (far (v .side))) (w (v .side)) (v .deed)
+
+-- each premise is read in the world in which its call happens
+abbrev pub Honest : (Side → Masks) → World → List Event → Type 0
+Honest masks w [] = Unit {0}
+Honest masks w (v ∷ vs) = Fair masks w v × Honest masks (step w v) vs
