@@ -28,7 +28,7 @@ use Rattle.outgoing.specs.Send as outgoing-send
 use Rattle.outgoing.specs.State as outgoing-state
 use Rattle.sealing.specs.Sealing as sealing-sealing
 use Rattle.sealing.specs.Seek as sealing-seek
-use Rattle.sealing.specs.Take as sealing-take
+use Rattle.taking.specs.Take as sealing-take
 use Rattle.flight.specs.Flight as flight-flight
 use Rattle.flight.specs.Save as flight-save
 use Rattle.history.specs.Account as history-account

@@ -31,10 +31,10 @@ use Rattle.messages.specs.Message.{contentOf, Laid, sizeNow, pieceOf, beginning
 use Rattle.sealing.specs.declared.SealAnswer.{SealAnswer}
 use Rattle.sealing.specs.declared.SealQuestion.the-variants as ask
 use Rattle.sealing.specs.declared.SealQuestion.{SealQuestion}
-use Rattle.sealing.specs.declared.TakeAnswer.the-variants as took
-use Rattle.sealing.specs.declared.TakeAnswer.{TakeAnswer}
+use Rattle.taking.specs.declared.TakeAnswer.the-variants as took
+use Rattle.taking.specs.declared.TakeAnswer.{TakeAnswer}
 use Rattle.sealing.specs.Sealing.{questionOf, putMemory, sealAnswer, isSealed, sealedState, sealedMemory}
-use Rattle.sealing.specs.Take.{takeAnswer, takeState, takeBuffer}
+use Rattle.taking.specs.Take.{takeAnswer, takeState, takeBuffer}
 use Rattle.history.specs.Account.{upd}
 use Rattle.history.specs.Claim.{Masks}
 use Rattle.history.specs.Receiver.{Sealed, Handed}

@@ -24,11 +24,12 @@ use Rattle.messages.specs.Message.{messageAnswer}
 use Rattle.resend.specs.declared.ResendAnswer.{ResendAnswer}
 use Rattle.resend.specs.Tests.{resendAnswer}
 use Rattle.sealing.specs.declared.SealAnswer.{SealAnswer}
-use Rattle.sealing.specs.declared.TakeAnswer.the-variants as took
-use Rattle.sealing.specs.declared.TakeAnswer.{TakeAnswer}
-use Rattle.sealing.specs.Laws.{refused-state, refused-memory, kept-state}
+use Rattle.taking.specs.declared.TakeAnswer.the-variants as took
+use Rattle.taking.specs.declared.TakeAnswer.{TakeAnswer}
+use Rattle.sealing.specs.Laws.{refused-state, refused-memory}
+use Rattle.taking.specs.Laws.{kept-state}
 use Rattle.sealing.specs.Sealing.{partStart, maskedHeader, isPut, putMemory, sealAnswer, isSealed, sealedState, sealedMemory}
-use Rattle.sealing.specs.Take.{frontLen, takeAnswer, isTaken, takeState, takeBuffer, takes}
+use Rattle.taking.specs.Take.{frontLen, takeAnswer, isTaken, takeState, takeBuffer, takes}
 use Rattle.waiting.specs.Calls as call
 use Rattle.waiting.specs.Calls.Call.{key as keyCall, send as sendCall, save as saveCall, message as messageCall, begin as beginCall, put as putCall, reply as replyCall, take as takeCall}
 use Rattle.waiting.specs.Effects.{adds, Waited, oldest-first}

@@ -29,9 +29,9 @@ use Rattle.acks.specs.declared.AckSent.{AckSent}
 use Rattle.acks.specs.declared.Notes.{Notes}
 use Rattle.acks.specs.Acks.{ackAnswer, sentAck}
 use Rattle.sealing.specs.declared.SealAnswer.{SealAnswer}
-use Rattle.sealing.specs.declared.TakeAnswer.{TakeAnswer}
+use Rattle.taking.specs.declared.TakeAnswer.{TakeAnswer}
 use Rattle.sealing.specs.Sealing.{sealAnswer, isSealed, sealedState}
-use Rattle.sealing.specs.Take.{takeAnswer, isTaken, takeState}
+use Rattle.taking.specs.Take.{takeAnswer, isTaken, takeState}
 use Rattle.ends.specs.Sender.{
   Stores,
   SendCall,

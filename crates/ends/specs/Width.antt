@@ -24,7 +24,7 @@ use Rattle.resend.specs.declared.ResendAnswer.{ResendAnswer}
 use Rattle.resend.specs.Resend.{Laying as Again, contentAt, sentAgain, againAnswer, againAt, againAfter, resendState}
 use Rattle.resend.specs.Tests.{closedState}
 use Rattle.sealing.specs.Sealing.{sealedState}
-use Rattle.sealing.specs.Take.{takeState}
+use Rattle.taking.specs.Take.{takeState}
 use Rattle.history.specs.Receiver.{Handed}
 use Rattle.ends.specs.Again.{lays-grows}
 use Rattle.ends.specs.Marks.{Grows}

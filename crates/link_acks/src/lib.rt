@@ -76,7 +76,11 @@ pub extern "C" fn link_resend(
 
 // Acts on an ACK with this content: marks the saved records that it names; the flight empties if those of epoch 2 are all marked.
 #[no_mangle]
-pub extern "C" fn link_process_ack(f: &mut [u64; 73], numbers: &mut [u64; 384], content: &[u8]) -> u8
+pub extern "C" fn link_process_ack(
+    f: &mut [u64; 73],
+    numbers: &mut [u64; 384],
+    content: &[u8],
+) -> u8
     ensures { λ r. ⌜ Acts r (now (f .exit)) (now (f .entry)) (now (numbers .exit)) (now (numbers .entry)) (acked (flightOf (now (f .entry)) (now (numbers .entry))) (now (content .entry))) ⌝ }
 {
     if flight_words::is_flat(f) {
