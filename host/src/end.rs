@@ -7,11 +7,10 @@ use std::os::fd::AsRawFd;
 use std::process;
 use std::time::{Duration, Instant};
 
-use huskelapse::content_type::ACK;
+use huskelapse::content_type::APPLICATION_DATA;
 use huskelapse::{Cipher, Reading, Receiver, Refusal, Sender};
 
 use crate::crypto::Keys;
-use crate::flight::{Flight, Notes, Saved};
 use crate::options::Options;
 use crate::system;
 
@@ -37,12 +36,10 @@ pub struct End {
     pub log: BufWriter<Stdout>,
     pub outstanding: usize,
     moved: Instant,
-    flight: Flight,
-    notes: Notes,
-    /// The application epoch is keyed to send.
-    application: bool,
-    pub resent: usize,
-    pub marked: usize,
+    /// The records of the flight that were sent again whenever the flight was.
+    unmarked: Vec<Record>,
+    resent: usize,
+    marked: usize,
     pub arrived: VecDeque<Record>,
     started: Instant,
     limit: Duration,
@@ -120,9 +117,7 @@ impl End {
             log,
             outstanding: 0,
             moved: Instant::now(),
-            flight: Flight::default(),
-            notes: Notes::default(),
-            application: false,
+            unmarked: Vec::new(),
             resent: 0,
             marked: 0,
             arrived: VecDeque::new(),
@@ -159,7 +154,6 @@ impl End {
         let iv = self.keys_out.add(epoch, &self.secrets[0]);
         let keyed = self.sender.key(epoch, &iv);
         self.must(keyed);
-        self.application |= epoch >= 3;
     }
 
     /// Keys an epoch to receive.
@@ -190,81 +184,54 @@ impl End {
 
     /// Sends application data.
     pub fn send(&mut self, content: &[u8]) {
-        let answer = self.sender.send(3, huskelapse::content_type::APPLICATION_DATA, content);
+        let answer = self.sender.send(3, APPLICATION_DATA, content);
         self.must(answer);
     }
 
     pub fn begin_flight(&mut self) {
         self.sender.begin_flight();
-        self.flight = Flight::default();
-    }
-
-    fn save(&mut self) {
-        for record in self.flush() {
-            let Record { epoch, number, content_type, content } = record;
-            self.flight.saved.push(Saved { epoch, content_type, content, numbers: vec![number], acknowledged: false });
-        }
+        self.unmarked.clear();
     }
 
     /// Sends a handshake message in the flight.
     pub fn message(&mut self, kind: u8, body: &[u8]) {
         let answer = self.sender.message(kind, body);
         self.must(answer);
-        self.save();
+        let records = self.flush();
+        self.unmarked.extend(records);
     }
 
     /// Sends application data in the flight.
     pub fn send_saved(&mut self, content: &[u8]) {
-        let answer = self.sender.send_saved(3, huskelapse::content_type::APPLICATION_DATA, content);
+        let answer = self.sender.send_saved(3, APPLICATION_DATA, content);
         self.must(answer);
-        self.save();
+        let records = self.flush();
+        self.unmarked.extend(records);
     }
 
-    /// Sends what is not acknowledged of the flight again.
-    pub fn resend(&mut self) {
-        for i in 0..self.flight.saved.len() {
-            let saved = &self.flight.saved[i];
-            if saved.acknowledged {
-                continue;
-            }
-            let answer = self.sender.send(saved.epoch, saved.content_type, &saved.content);
-            self.must(answer);
-            self.resent += 1;
-            for record in self.flush() {
-                self.flight.saved[i].numbers.push(record.number);
+    /// Sends the flight again, but for what is acknowledged. Whether all is.
+    pub fn resend(&mut self) -> bool {
+        let answer = self.sender.resend();
+        self.must(answer);
+        let again = self.flush();
+        self.resent += again.len();
+        for saved in std::mem::take(&mut self.unmarked) {
+            let same = |record: &Record| record.epoch == saved.epoch && record.content == saved.content;
+            if again.iter().any(same) {
+                self.unmarked.push(saved);
+            } else if saved.epoch >= 2 {
+                self.marked += 1;
+                log_record(&mut self.log, 'a', saved.epoch, saved.number, saved.content_type, &saved.content);
             }
         }
+        again.is_empty()
     }
 
-    /// Acts on an ACK.
-    pub fn acts(&mut self, content: &[u8]) {
-        self.marked += self.flight.acts(content);
-        let log = &mut self.log;
-        for saved in self.flight.saved.iter().filter(|saved| saved.acknowledged) {
-            log_record(log, 'a', saved.epoch, saved.numbers[0], saved.content_type, &saved.content);
-        }
-    }
-
-    /// Whether every sealed record of the flight is acknowledged.
-    pub fn acknowledged(&self) -> bool {
-        self.flight.is_acknowledged()
-    }
-
-    /// Notes a record for the next ACK.
-    pub fn note(&mut self, epoch: u16, number: u64) {
-        self.notes.note(epoch, number);
-    }
-
-    pub fn forget_notes(&mut self) {
-        self.notes = Notes::default();
-    }
-
+    /// Acknowledges what is noted.
     pub fn send_ack(&mut self) {
-        if let Some(content) = self.notes.content() {
-            let answer = self.sender.send(if self.application { 3 } else { 2 }, ACK, &content);
-            self.must(answer);
-            self.flush();
-        }
+        let answer = self.sender.send_ack();
+        self.must(answer);
+        self.flush();
     }
 
     fn read(&mut self, datagram: &mut [u8]) {

@@ -20,10 +20,7 @@ pub fn run(options: &Options, mut end: End) {
         }
         while let Some(record) = end.arrived.pop_front() {
             if record.content_type == ACK && record.epoch >= 3 && given.is_some() {
-                end.acts(&record.content);
-                if end.acknowledged() {
-                    given = None;
-                }
+                end.sender.process_ack(&record.content);
             } else if record.content_type != APPLICATION_DATA || record.epoch < 3 {
                 handshake.record(&mut end, &record);
             } else {
@@ -39,8 +36,9 @@ pub fn run(options: &Options, mut end: End) {
             }
         }
         handshake.act(&mut end);
-        if given.as_mut().is_some_and(|timer| timer.fires()) {
-            end.resend();
+        // Only the number of an order's last sending can be acknowledged, so an ACK alone is no reason to send again.
+        if given.as_mut().is_some_and(|timer| timer.fires()) && end.resend() {
+            given = None;
         }
         if given.is_none() && orders <= options.orders && (orders < highest / step || charged) {
             orders += 1;

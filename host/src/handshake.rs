@@ -151,10 +151,12 @@ impl Handshake {
     /// A record that is no application data.
     pub fn record(&mut self, end: &mut End, record: &Record) {
         if record.content_type == ACK && record.epoch >= 2 {
-            end.acts(&record.content);
-            if self.state == State::LastAck && end.acknowledged() {
-                end.receiver.release_application_data();
-                self.state = State::Done;
+            if self.state != State::Done {
+                end.sender.process_ack(&record.content);
+                if end.resend() && self.state == State::LastAck {
+                    end.receiver.release_application_data();
+                    self.state = State::Done;
+                }
             }
             return;
         }
@@ -167,7 +169,7 @@ impl Handshake {
             Piece::New => {
                 self.partly = true;
                 if record.epoch >= 2 {
-                    end.note(record.epoch, record.number);
+                    end.sender.note(record.epoch, record.number);
                 }
             }
         }
@@ -179,7 +181,7 @@ impl Handshake {
     /// The far end sends again what was read: it lacks the answer.
     fn old(&mut self, end: &mut End, record: &Record) {
         if !self.is_post && self.state == State::Done {
-            end.note(record.epoch, record.number);
+            end.sender.note(record.epoch, record.number);
             end.send_ack();
         } else if self.timer.fires() {
             end.resend();
@@ -205,7 +207,7 @@ impl Handshake {
             }
             (true, FINISHED) => {
                 end.begin_flight();
-                end.forget_notes();
+                end.send_ack();
                 for (kind, length) in [(CERTIFICATE, 1400), (VERIFY, 264), (FINISHED, 40)] {
                     end.message(kind, &body(kind, length));
                 }

@@ -2,7 +2,6 @@
 
 mod crypto;
 mod end;
-mod flight;
 mod gateway;
 mod handshake;
 mod ledger;

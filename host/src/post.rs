@@ -32,7 +32,7 @@ pub fn run(options: &Options, mut end: End) {
                     stopped |= stop;
                     end.say(format_args!("o {number}"));
                 }
-                end.note(record.epoch, record.number);
+                end.sender.note(record.epoch, record.number);
                 end.send_ack();
             }
         }

@@ -4,6 +4,7 @@ pub const RECEIVING_WORDS: usize = 89;
 pub const SENDING_WORDS: usize = 59;
 pub const FLIGHT_WORDS: usize = 73;
 pub const FLIGHT_NUMBERS: usize = 384;
+pub const NOTES: usize = 32;
 
 pub const REFUSED: u8 = 0;
 pub const END: u8 = 1;
@@ -116,6 +117,37 @@ extern "C" {
         queue_len: usize,
         kept: *mut u8,
         kept_len: usize,
+    ) -> u8;
+
+    pub fn link_resend(
+        s: *mut [u64; SENDING_WORDS],
+        f: *mut [u64; FLIGHT_WORDS],
+        numbers: *mut [u64; FLIGHT_NUMBERS],
+        kept: *const u8,
+        kept_len: usize,
+        queue: *mut u8,
+        queue_len: usize,
+    ) -> u8;
+    pub fn link_process_ack(
+        f: *mut [u64; FLIGHT_WORDS],
+        numbers: *mut [u64; FLIGHT_NUMBERS],
+        content: *const u8,
+        content_len: usize,
+    ) -> u8;
+    pub fn link_note(
+        count: *mut [u64; 1],
+        epochs: *mut [u64; NOTES],
+        numbers: *mut [u64; NOTES],
+        epoch: u64,
+        number: u64,
+    ) -> u8;
+    pub fn link_send_ack(
+        s: *mut [u64; SENDING_WORDS],
+        count: *mut [u64; 1],
+        epochs: *mut [u64; NOTES],
+        numbers: *mut [u64; NOTES],
+        queue: *mut u8,
+        queue_len: usize,
     ) -> u8;
 }
 

@@ -43,6 +43,49 @@ use crate::{ffi, Cipher, Refusal};
 /// # Ok::<(), Refusal>(())
 /// ```
 ///
+/// What is saved goes out again until the far end's ACK names it:
+///
+/// ```
+/// # use huskelapse::test_cipher::Xor;
+/// use huskelapse::{content_type, Reading, Receiver, Refusal, Sender};
+///
+/// let (mut buffer, mut cipher) = ([0; 600], Xor(5));
+/// let mut gateway = Sender::new(600, 4)?;
+/// gateway.key(3, &[7; 12])?;
+/// gateway.send_saved(3, content_type::APPLICATION_DATA, b"stop")?;
+/// gateway.seal(&mut cipher);
+/// gateway.take(&mut buffer)?; // lost on the way
+/// gateway.resend()?;
+/// gateway.seal(&mut cipher);
+/// let datagram = gateway.take(&mut buffer)?.expect("the order again");
+///
+/// // The post reads the order and acknowledges it.
+/// let (mut receiver, mut post) = (Receiver::new(16)?, Sender::new(600, 4)?);
+/// receiver.key(3, &[7; 12])?;
+/// receiver.enable_peer_encryption();
+/// post.key(3, &[8; 12])?;
+/// for reading in receiver.read(datagram, &mut Xor(5))? {
+///     assert_eq!(reading, Reading::Opened { epoch: 3, number: 1, content_type: 23, content: b"stop" });
+///     post.note(3, 1);
+/// }
+/// post.send_ack()?;
+/// post.seal(&mut cipher);
+/// let ack = post.take(&mut buffer)?.expect("the ACK");
+///
+/// // The gateway acts on it.
+/// let mut receiver = Receiver::new(16)?;
+/// receiver.key(3, &[8; 12])?;
+/// receiver.enable_peer_encryption();
+/// for reading in receiver.read(ack, &mut Xor(5))? {
+///     if let Reading::Opened { content_type: content_type::ACK, content, .. } = reading {
+///         gateway.process_ack(content);
+///     }
+/// }
+/// gateway.resend()?;
+/// assert_eq!(gateway.take(&mut buffer)?, None); // nothing is left to send
+/// # Ok::<(), Refusal>(())
+/// ```
+///
 /// A host without an allocator lends the memory, `limit` times `mtu` bytes for the queue and 12 times `mtu` for the flight:
 ///
 /// ```
@@ -78,6 +121,9 @@ pub struct Sender<M = Vec<u8>> {
     state: [u64; ffi::SENDING_WORDS],
     flight: [u64; ffi::FLIGHT_WORDS],
     numbers: [u64; ffi::FLIGHT_NUMBERS],
+    note_count: [u64; 1],
+    note_epochs: [u64; ffi::NOTES],
+    note_numbers: [u64; ffi::NOTES],
     queue: M,
     kept: M,
 }
@@ -101,6 +147,9 @@ impl<M: AsRef<[u8]> + AsMut<[u8]>> Sender<M> {
             state: [0; ffi::SENDING_WORDS],
             flight: [0; ffi::FLIGHT_WORDS],
             numbers: [0; ffi::FLIGHT_NUMBERS],
+            note_count: [0],
+            note_epochs: [0; ffi::NOTES],
+            note_numbers: [0; ffi::NOTES],
             queue,
             kept: flight,
         };
@@ -171,6 +220,53 @@ impl<M: AsRef<[u8]> + AsMut<[u8]>> Sender<M> {
     pub fn begin_flight(&mut self) {
         let answer = unsafe { ffi::link_begin_flight(&mut self.flight) };
         debug_assert_eq!(answer, 0);
+    }
+
+    /// Sends what is saved and not acknowledged again, under new numbers and in new datagrams. Refused by 13, 14, 17, 22, 19, 20, then
+    /// nothing has changed. Where all is acknowledged nothing is queued.
+    pub fn resend(&mut self) -> Result<(), Refusal> {
+        let (queue, kept) = (self.queue.as_mut(), self.kept.as_ref());
+        Refusal::done(unsafe {
+            ffi::link_resend(
+                &mut self.state,
+                &mut self.flight,
+                &mut self.numbers,
+                kept.as_ptr(),
+                kept.len(),
+                queue.as_mut_ptr(),
+                queue.len(),
+            )
+        })
+    }
+
+    /// Acts on an ACK that was opened: the saved records that it names are not sent again. If all of epoch 2 are named, the flight is
+    /// empty. Content that is no ACK changes nothing.
+    pub fn process_ack(&mut self, content: &[u8]) {
+        let answer = unsafe { ffi::link_process_ack(&mut self.flight, &mut self.numbers, content.as_ptr(), content.len()) };
+        debug_assert_eq!(answer, 0);
+    }
+
+    /// Notes a record that was handed over for the next ACK. At most 32 are noted, later ones are not.
+    pub fn note(&mut self, epoch: u16, number: u64) {
+        let (count, epochs, numbers) = (&mut self.note_count, &mut self.note_epochs, &mut self.note_numbers);
+        let answer = unsafe { ffi::link_note(count, epochs, numbers, epoch.into(), number) };
+        debug_assert_eq!(answer, 0);
+    }
+
+    /// Queues an ACK of all that is noted, in the application epoch if it is keyed, else in epoch 2; then nothing is noted. With nothing
+    /// noted nothing is queued. Refused by 14, 17, 19, 20, then nothing has changed.
+    pub fn send_ack(&mut self) -> Result<(), Refusal> {
+        let queue = self.queue.as_mut();
+        Refusal::done(unsafe {
+            ffi::link_send_ack(
+                &mut self.state,
+                &mut self.note_count,
+                &mut self.note_epochs,
+                &mut self.note_numbers,
+                queue.as_mut_ptr(),
+                queue.len(),
+            )
+        })
     }
 
     /// Has the cipher seal every record that waits, oldest first. The answer is how many.

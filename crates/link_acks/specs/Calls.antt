@@ -4,11 +4,16 @@ use mathlib.Core.Bool.{Bool, true, false}
 use mathlib.Core.List.{List}
 use mathlib.Core.Path.{_≡_, refl, sym, ap, _∙_}
 use Prim.Native.Nat.{ℕ}
+use lib.ListN.{getD}
 use Rattle.base.specs.Choose.{choose, both, if-true, if-false, both-true, both-false}
 use Rattle.outgoing.specs.State as sends
 use Rattle.resend.specs.declared.Resent.{Resent}
 use Rattle.resend.specs.Tests.{refusal}
 use Rattle.process_ack.specs.declared.Acked.{Acked}
+use Rattle.acks.specs.declared.Notes as noted
+use Rattle.acks.specs.declared.Noting.{Noting}
+use Rattle.acks.specs.declared.AckSent.{AckSent}
+use Rattle.acks.specs.Acks as noting
 use Rattle.send_words.specs.Words.{stateOf, isFlat}
 use Rattle.send_words.specs.Laws as sent
 use Rattle.flight_words.specs.Words.{flightOf, flatTo}
@@ -35,6 +40,20 @@ Acts r g f m n k =
     (r ≡ choose (flatTo f 12) (sends.refusal (k .answer)) 12)
     × (flightOf g m ≡ choose (flatTo f 12) (k .flight) (flightOf f n)) × (flatTo g 12 ≡ flatTo f 12)
 
+-- what is noted: a count and two tables
+abbrev pub notesOf : List ℕ → List ℕ → List ℕ → noted.Notes
+notesOf c e n = record { count = getD c 0 0; epochs = e; numbers = n }
+
+abbrev pub Noted : ℕ → noted.Notes → Noting → Type 0
+Noted r m k = (r ≡ noting.refusal (k .answer)) × (m ≡ k .notes)
+
+-- w, n before; v, m behind
+abbrev pub Acknowledges : ℕ → List ℕ → List ℕ → noted.Notes → noted.Notes → AckSent → Type 0
+Acknowledges r v w m n k =
+    (r ≡ choose (isFlat w) (sends.refusal (k .answer)) 12)
+    × (stateOf v ≡ choose (isFlat w) (k .state) (stateOf w)) × (isFlat v ≡ isFlat w)
+    × (m ≡ choose (isFlat w) (k .notes) n)
+
 -- ---- from the parts to the whole
 
 pub resends : (r : ℕ) (v w g f m n : List ℕ) (x k : Resent) → isFlat w ≡ true → flatTo f 12 ≡ true → r ≡ refusal (x .answer)
@@ -55,3 +74,15 @@ acts r g f m n x k q a t z e = (
   ap (flightOf g) z ∙ t .0 ∙ ap (λ (y : Acked). y .flight) e ∙ sym (if-true _ _ q),
   t .1 ∙ sym q,
 )
+
+pub acknowledges : (r : ℕ) (v w : List ℕ) (m n : noted.Notes) (x k : AckSent) → isFlat w ≡ true → r ≡ sends.refusal (x .answer)
+    → sent.Kept (x .state) v → m ≡ x .notes → x ≡ k → Acknowledges r v w m n k
+acknowledges r v w m n x k p a s z e = (
+  a ∙ ap (λ (y : AckSent). sends.refusal (y .answer)) e ∙ sym (if-true _ _ p),
+  s .0 ∙ ap (λ (y : AckSent). y .state) e ∙ sym (if-true _ _ p),
+  s .1 ∙ sym p,
+  z ∙ ap (λ (y : AckSent). y .notes) e ∙ sym (if-true _ _ p),
+)
+
+pub notes : (r : ℕ) (m : noted.Notes) (x k : Noting) → r ≡ noting.refusal (x .answer) → m ≡ x .notes → x ≡ k → Noted r m k
+notes r m x k a z e = (a ∙ ap (λ (y : Noting). noting.refusal (y .answer)) e, z ∙ ap (λ (y : Noting). y .notes) e)

@@ -6,9 +6,13 @@ ghost use Rattle.outgoing.specs.State as sends;
 ghost use Rattle.resend.specs.Tests.{refusal, resendAnswer};
 ghost use Rattle.resend.specs.Resend.{resendState, resendQueue};
 ghost use Rattle.process_ack.specs.Ack.{acked};
-ghost use Rattle.send_words.specs.Words.{stateOf};
+ghost use Rattle.acks.specs.Acks as noting;
+ghost use Rattle.base.specs.Choose.{choose};
+ghost use Rattle.send_words.specs.Words.{stateOf, isFlat};
 ghost use Rattle.flight_words.specs.Words.{flightOf};
-ghost use Rattle.link_acks.specs.Calls.{either, Resends, Acts};
+ghost use Rattle.link_acks.specs.Calls.{either, Resends, Acts, notesOf, Noted, Acknowledges};
+use acks::NoteAnswer;
+use acks::Notes;
 use outgoing::SendAnswer;
 use resend::ResendAnswer;
 
@@ -40,6 +44,26 @@ fn answer_of(a: SendAnswer) -> u8
         SendAnswer::FlightFull => 18,
         SendAnswer::QueueFull => 19,
         SendAnswer::NumbersSpent => 20,
+    }
+}
+
+fn note_of(a: NoteAnswer) -> u8
+    ensures { λ r. ⌜ r ≡ noting.refusal a ⌝ }
+{
+    match a {
+        NoteAnswer::Noted => 0,
+        NoteAnswer::Full => 0,
+        NoteAnswer::OutOfRange => 12,
+    }
+}
+
+fn notes_of(count: [u64; 1], epochs: [u64; 32], numbers: [u64; 32]) -> Notes
+    ensures { λ r. ⌜ r ≡ notesOf count epochs numbers ⌝ }
+{
+    Notes {
+        count: count[0] as usize,
+        epochs: epochs,
+        numbers: numbers,
     }
 }
 
@@ -92,6 +116,64 @@ pub extern "C" fn link_process_ack(
         flight_words::save(f, h);
         let m = h.numbers;
         *numbers = m;
+        return answer_of(a);
+    }
+    12
+}
+
+// Notes a record for the outgoing ACK, unless 32 are noted.
+#[no_mangle]
+pub extern "C" fn link_note(
+    count: &mut [u64; 1],
+    epochs: &mut [u64; 32],
+    numbers: &mut [u64; 32],
+    epoch: u64,
+    number: u64,
+) -> u8
+    ensures { λ r. ⌜ Noted r (notesOf (now (count .exit)) (now (epochs .exit)) (now (numbers .exit))) (noting.noted (notesOf (now (count .entry)) (now (epochs .entry)) (now (numbers .entry))) epoch number) ⌝ }
+{
+    let c = *count;
+    let e = *epochs;
+    let u = *numbers;
+    let n = notes_of(c, e, u);
+    let k = acks::note(n, epoch, number);
+    let a = k.answer;
+    let m = k.notes;
+    *count = [m.count as u64];
+    let x = m.epochs;
+    *epochs = x;
+    let y = m.numbers;
+    *numbers = y;
+    note_of(a)
+}
+
+// Sends the ACK of all that is noted, if anything is, wholly or not at all; then nothing is noted.
+#[no_mangle]
+pub extern "C" fn link_send_ack(
+    w: &mut [u64; 59],
+    count: &mut [u64; 1],
+    epochs: &mut [u64; 32],
+    numbers: &mut [u64; 32],
+    queue: &mut [u8],
+) -> u8
+    ensures { λ r. ⌜ Acknowledges r (now (w .exit)) (now (w .entry)) (notesOf (now (count .exit)) (now (epochs .exit)) (now (numbers .exit))) (notesOf (now (count .entry)) (now (epochs .entry)) (now (numbers .entry))) (noting.sentAck (stateOf (now (w .entry))) (notesOf (now (count .entry)) (now (epochs .entry)) (now (numbers .entry))) (length (now (queue .entry)))) ⌝ }
+    ensures { λ r. ⌜ now (queue .exit) ≡ choose (isFlat (now (w .entry))) (noting.ackMemory (stateOf (now (w .entry))) (notesOf (now (count .entry)) (now (epochs .entry)) (now (numbers .entry))) (now (queue .entry))) (now (queue .entry)) ⌝ }
+{
+    if send_words::is_flat(w) {
+        let s = send_words::load(w);
+        let c = *count;
+        let e = *epochs;
+        let u = *numbers;
+        let n = notes_of(c, e, u);
+        let k = acks::send_ack(s, n, queue);
+        let a = k.answer;
+        let m = k.notes;
+        send_words::save(w, k.state);
+        *count = [m.count as u64];
+        let x = m.epochs;
+        *epochs = x;
+        let y = m.numbers;
+        *numbers = y;
         return answer_of(a);
     }
     12

@@ -1,7 +1,7 @@
 -- `link_acks::link_process_ack` meets its contract. Assumes nothing.
 use borrow.Author.Needs.{needs}
-use mathlib.Core.Path.{_≡_, refl, sym, ap, _∙_}
-use Rattle.base.specs.Choose.{if-true, if-false, both-true, both-false}
+use mathlib.Core.Path.{_≡_, refl, sym, _∙_}
+use Rattle.base.specs.Choose.{if-true, if-false}
 use Rattle.link_acks.specs.Calls.{acts}
 use Rattle.link_acks.proofs.link_process_ack.Statement.{statement}
 use Rattle.link_acks.proofs.link_process_ack.Tie as tie

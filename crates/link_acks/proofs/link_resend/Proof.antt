@@ -1,6 +1,6 @@
 -- `link_acks::link_resend` meets its contract. Assumes nothing.
 use borrow.Author.Needs.{needs}
-use mathlib.Core.Path.{_≡_, refl, sym, ap, _∙_}
+use mathlib.Core.Path.{_≡_, refl, sym, _∙_}
 use Rattle.base.specs.Choose.{if-true, if-false, both-true, both-false}
 use Rattle.link_acks.specs.Calls.{resends}
 use Rattle.link_acks.proofs.link_resend.Statement.{statement}
