@@ -1,15 +1,15 @@
 -- What holds after every list of calls on two fresh ends, at each receiving end and in each receive epoch: demand 3.
 use Prim.Native.Nat.{ℕ, _*_, _≤_}
 use lib.ListN.{length}
-use mathlib.Core.Bool.{true, false}
-use mathlib.Core.List.{List, _++_, List·Memᴰ as Mem}
+use mathlib.Core.Bool.{true}
+use mathlib.Core.List.{List, List·Memᴰ as Mem}
 use mathlib.Core.Option.{some}
 use mathlib.Core.Path.{_≡_}
 use Rattle.dtls_aead.specs.Nonce.{nonceOf}
 use Rattle.queue.specs.Queue.{isSetting}
 use Rattle.send_keys.specs.Keys.{nextOf}
 use Rattle.history.specs.Claim.{Masks, Once, asHanded, Received}
-use Rattle.history.specs.Receiver.{Sealed, accepts, Move}
+use Rattle.history.specs.Receiver.{Sealed}
 use Rattle.ends.specs.Flights.{Saved, Arrived, Marked, Apart}
 use Rattle.ends.specs.Sender.{Lent, Taken}
 use Rattle.ends.specs.World.{Side, far, Count, World, Event, run, Setting, fresh-pair, Honest}
@@ -24,8 +24,8 @@ pub record Holds (w : World) (s : Side) (e : ℕ) : Type 0 where
   pub received : Received (w (far s) .out .sealed) (w s .into) e
   -- "moved no record number": no call that reads a datagram moves a next number to send, in any epoch
   pub moved-no-number : (c : Count) → Mem c (w s .counts) → SameNumbers c
-  -- "Each saved record of epoch 2 or later that was marked acknowledged, at any time, was handed over at the far end under one of its
-  -- sendings": as the state holds it, at its place in the flight
+  -- "A saved record of epoch 2 or above was marked acknowledged only if one of its sendings was handed over", with its type and content: as
+  -- the state holds it, at its place in the flight
   pub marked-handed : (g : Saved) → 2 ≤ g .epoch → Marked (w (far s) .out .stores .flight) 0 (w (far s) .saves .saved) g → Arrived (w s .into .into .handed) g
   -- as the host sees it: "skipped by resends while saved"
   pub skipped-handed : (g : Saved) → 2 ≤ g .epoch → Mem g (w (far s) .saves .skipped) → Arrived (w s .into .into .handed) g
@@ -41,7 +41,8 @@ pub record Holds (w : World) (s : Side) (e : ℕ) : Type 0 where
   -- what was sealed is what was sent, by the host's own arguments, and no number is sent twice in an epoch
   pub sealed-sent : (r : Sealed) → Mem r (w (far s) .out .sealed e) → Mem (asHanded r) (w (far s) .out .books .sent e)
   pub sent-once : Once (w (far s) .out .books .sent e)
-  -- each datagram taken is some whole records, together all that were sent, in order: plaintext ones as laid, sealed ones as sealed and masked
+  -- each datagram taken is some whole records, and all of them are the first that were sent, in order: plaintext ones as laid, sealed ones as
+  -- sealed and masked
   pub taken-lines : Taken (w (far s) .out .taken) (w (far s) .out .books .lines)
   -- the sealing question's nonce is that keying's IV with the number on it
   pub seal-nonce : (l : Lent) → w (far s) .out .lent ≡ some l → l .nonce ≡ nonceOf (w (far s) .out .ivs (l .epoch)) (l .num)

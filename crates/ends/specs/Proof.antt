@@ -49,7 +49,7 @@ use Rattle.history.specs.Receiver.{
 use Rattle.send_keys.specs.Keys.{nextOf}
 use Rattle.ends.specs.Apart.{saves-apart}
 use Rattle.ends.specs.Claim.{SameNumbers, Holds, Startable, EveryList}
-use Rattle.ends.specs.Flights.{Saved, Arrived, Marked, Apart, savesBy}
+use Rattle.ends.specs.Flights.{Apart, savesBy}
 use Rattle.ends.specs.Keeping.{saves-keep}
 use Rattle.ends.specs.Marks.{Grows, Flown, marked-arrived}
 use Rattle.ends.specs.Saving.{FlightOk, ok-grows}
