@@ -170,9 +170,11 @@ impl Direction {
 
     /// The next datagram that is due for the receiving end. Where nothing arrives any more, those that are held go on.
     pub fn due(&mut self, now: Instant) -> Option<Datagram> {
-        if let Some(i) = self.delayed.iter().position(|held| held.until.is_none_or(|until| until <= now)) {
-            self.tally.delivered += 1;
-            return Some(self.delayed.swap_remove(i).datagram);
+        while let Some(i) = self.delayed.iter().position(|held| held.until.is_none_or(|until| until <= now)) {
+            // Behind all that arrived in the meantime and waits to be delivered.
+            let late = self.delayed.swap_remove(i);
+            self.order += 1;
+            self.held.push(Held { place: self.tally.arrived, order: self.order, ..late });
         }
         let idle = now.duration_since(self.last) > IDLE;
         if self.held.peek().is_some_and(|held| idle || held.place <= self.tally.arrived) {
