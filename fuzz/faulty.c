@@ -16,6 +16,10 @@ uint8_t __real_link_send_saved(LinkSending *s, uint64_t *f, uint64_t *m, uint16_
     size_t cn, uint8_t *q, size_t qn, uint8_t *k, size_t kn);
 uint8_t __real_link_create_handshake(LinkSending *s, uint64_t *f, uint64_t *m, uint8_t type, const uint8_t *c, size_t cn,
     uint8_t *q, size_t qn, uint8_t *k, size_t kn);
+uint8_t __real_link_resend(LinkSending *s, uint64_t *f, uint64_t *m, const uint8_t *k, size_t kn, uint8_t *q, size_t qn);
+uint8_t __real_link_process_ack(uint64_t *f, uint64_t *m, const uint8_t *c, size_t cn);
+uint8_t __real_link_note(uint64_t *count, uint64_t *epochs, uint64_t *numbers, uint64_t epoch, uint64_t number);
+uint8_t __real_link_send_ack(LinkSending *s, uint64_t *count, uint64_t *epochs, uint64_t *numbers, uint8_t *q, size_t qn);
 
 LinkReading __wrap_link_read(LinkReceiving *s, const uint8_t *d, size_t n);
 LinkReading __wrap_link_mask(LinkReceiving *s, uint8_t m0, uint8_t m1, uint8_t *d, size_t n);
@@ -29,6 +33,10 @@ uint8_t __wrap_link_send_saved(LinkSending *s, uint64_t *f, uint64_t *m, uint16_
     size_t cn, uint8_t *q, size_t qn, uint8_t *k, size_t kn);
 uint8_t __wrap_link_create_handshake(LinkSending *s, uint64_t *f, uint64_t *m, uint8_t type, const uint8_t *c, size_t cn,
     uint8_t *q, size_t qn, uint8_t *k, size_t kn);
+uint8_t __wrap_link_resend(LinkSending *s, uint64_t *f, uint64_t *m, const uint8_t *k, size_t kn, uint8_t *q, size_t qn);
+uint8_t __wrap_link_process_ack(uint64_t *f, uint64_t *m, const uint8_t *c, size_t cn);
+uint8_t __wrap_link_note(uint64_t *count, uint64_t *epochs, uint64_t *numbers, uint64_t epoch, uint64_t number);
+uint8_t __wrap_link_send_ack(LinkSending *s, uint64_t *count, uint64_t *epochs, uint64_t *numbers, uint8_t *q, size_t qn);
 
 static volatile uint8_t sink;
 
@@ -128,5 +136,53 @@ uint8_t __wrap_link_create_handshake(LinkSending *s, uint64_t *f, uint64_t *m, u
         f[72]++;
     if (answer == 0 && planted(15))
         q[s->word[0] * s->word[1] - 1] ^= 1;
+    return answer;
+}
+
+uint8_t __wrap_link_resend(LinkSending *s, uint64_t *f, uint64_t *m, const uint8_t *k, size_t kn, uint8_t *q, size_t qn)
+{
+    uint8_t answer = __real_link_resend(s, f, m, k, kn, q, qn);
+    if (kn > 0 && planted(16))
+        *(uint8_t *)(uintptr_t)k = 0;
+    if (answer == 22 && planted(17))
+        m[0]++;
+    if (answer == 0 && planted(18))
+        q[s->word[0] * s->word[1] - 1] ^= 1;
+    if (answer == 0 && f[72] > 1 && planted(19))
+        f[6 + 2]++;
+    if (answer == 13 && planted(20))
+        s->word[4] ^= 1;
+    return answer;
+}
+
+uint8_t __wrap_link_process_ack(uint64_t *f, uint64_t *m, const uint8_t *c, size_t cn)
+{
+    uint8_t answer = __real_link_process_ack(f, m, c, cn);
+    if (cn > 0 && planted(21))
+        sink = ((const volatile uint8_t *)c)[cn];
+    if (answer == 0 && f[72] > 1 && planted(22))
+        f[6 + 4] = 1;
+    return answer;
+}
+
+uint8_t __wrap_link_note(uint64_t *count, uint64_t *epochs, uint64_t *numbers, uint64_t epoch, uint64_t number)
+{
+    if (count[0] == 32 && planted(23))
+        ((volatile uint64_t *)numbers)[32] = number;
+    if (count[0] == 33 && planted(24))
+        count[0] = 32;
+    return __real_link_note(count, epochs, numbers, epoch, number);
+}
+
+uint8_t __wrap_link_send_ack(LinkSending *s, uint64_t *count, uint64_t *epochs, uint64_t *numbers, uint8_t *q, size_t qn)
+{
+    uint64_t noted = count[0];
+    uint8_t answer = __real_link_send_ack(s, count, epochs, numbers, q, qn);
+    if (answer == 19 && planted(25))
+        count[0] = 0;
+    if (answer == 0 && noted < 32 && planted(26))
+        count[0] = noted;
+    if (answer == 17 && planted(27))
+        answer = 18;
     return answer;
 }

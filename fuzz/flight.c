@@ -1,33 +1,22 @@
 /* The calls that save records in the flight, within the histories of the sending side. */
 #include <string.h>
 
-#include "sending.h"
+#include "flight.h"
 
-enum { WORDS = 73, NUMBERS = 384, ENTRIES = 12, SAVED = 72, KEPT = ENTRIES * LONGEST_MTU + 100, BODY = 17000 };
+enum { KEPT = ENTRIES * LONGEST_MTU + 100, BODY = 17000 };
 
-/* The words of an entry (crates/flight_words/specs/Words.antt). */
-enum { E_TYPE, E_EPOCH, E_NUMBER, E_LENGTH, E_MARKED, E_REMEMBERED, E_WORDS };
-
-/* The two parts of a LinkFlight, lent apart. */
-typedef struct {
-    uint64_t word[WORDS];
-} Records;
-
-typedef struct {
-    uint64_t word[NUMBERS];
-} Numbers;
+Lent kept;
+Records *f, flight_before;
+Numbers *numbers, numbers_before;
+int flight_made;
 
 static Area flights, tables, kept_area;
-static Lent flight, table, kept;
-static Records *f, flight_before;
-static Numbers *numbers, numbers_before;
+static Lent flight, table;
 static uint8_t kept_before[KEPT];
-/* Whether calls alone have made the flight, from fresh, with a buffer that is long enough. */
-static int flight_made;
 
 /* ---- checks */
 
-static Records plain(const Records *x)
+Records flight_plain(const Records *x)
 {
     Records p = *x;
     for (int i = 0; i < ENTRIES; i++) {
@@ -37,7 +26,7 @@ static Records plain(const Records *x)
     return p;
 }
 
-static void keep(void)
+void flight_keep(void)
 {
     flight_before = *f;
     numbers_before = *numbers;
@@ -52,21 +41,33 @@ static void check_flight_kept(void)
     require(!flight_made, "a refused call has changed the flight");
     for (int i = 0; i < ENTRIES; i++)
         require(flight_before.word[E_WORDS * i + E_MARKED] <= 1, "a refused call has changed what is no flight");
-    a = plain(&flight_before);
-    b = plain(f);
+    a = flight_plain(&flight_before);
+    b = flight_plain(f);
     require(memcmp(&a, &b, sizeof a) == 0, "a refused call has changed what the flight means");
     words_rewritten++;
 }
 
-static void done(int call, uint8_t answer)
+static void check_numbers_kept(void)
+{
+    require(memcmp(&numbers_before, numbers, sizeof numbers_before) == 0, "the remembered numbers have changed");
+}
+
+void flight_done(int call, uint8_t answer)
 {
     sending_done(call, 0, answer, answer != 0, !flight_made);
     check_beside(&flight);
     check_beside(&table);
     check_beside(&kept);
-    if (answer != 0)
+    if (answer != 0) {
         check_flight_kept();
-    require(memcmp(&numbers_before, numbers, sizeof numbers_before) == 0, "the remembered numbers have changed");
+        check_numbers_kept();
+    }
+}
+
+static void done(int call, uint8_t answer)
+{
+    flight_done(call, answer);
+    check_numbers_kept();
 }
 
 /* The contents of the records saved are written, each at its place; all else is as it was. */
@@ -82,19 +83,19 @@ static void check_saved(void)
     require(memcmp(kept_before, kept.bytes, kept.n) == 0, "bytes of the flight beside its records have changed");
 }
 
-static uint64_t length_of(const LinkSending *x, uint64_t datagram)
+uint64_t datagram_length(const LinkSending *x, uint64_t datagram)
 {
     return x->word[W_LENGTHS + (x->word[W_FIRST] + datagram) % x->word[W_LIMIT]] % 65536;
 }
 
-/* Datagrams have grown at their ends, or are new; all else in the queue is as it was. */
-static void check_grown(void)
+void check_grown(void)
 {
     uint64_t mtu = s->word[W_MTU], count = before.word[W_COUNT];
     require(s->word[W_FIRST] == before.word[W_FIRST], "a send has taken a datagram");
     require(count <= s->word[W_COUNT] && s->word[W_COUNT] <= s->word[W_LIMIT], "a queue out of range");
     for (uint64_t j = count == 0 ? 0 : count - 1; j < s->word[W_COUNT]; j++) {
-        uint64_t slot = (s->word[W_FIRST] + j) % s->word[W_LIMIT], from = j < count ? length_of(&before, j) : 0, to = length_of(s, j);
+        uint64_t slot = (s->word[W_FIRST] + j) % s->word[W_LIMIT];
+        uint64_t from = j < count ? datagram_length(&before, j) : 0, to = datagram_length(s, j);
         if (from == to)
             continue;
         require(from < to && to <= mtu, "a datagram over the MTU");
@@ -107,7 +108,7 @@ static void check_grown(void)
 
 static void call_begin(void)
 {
-    keep();
+    flight_keep();
     calling(BEGIN_FLIGHT);
     uint8_t answer = link_begin_flight(f->word);
     done(BEGIN_FLIGHT, answer);
@@ -120,7 +121,7 @@ static void call_send_saved(void)
     uint16_t epoch = some_epoch();
     uint8_t type = some_type();
     lend_content(content_length());
-    keep();
+    flight_keep();
     keep_queue();
     calling(SEND_SAVED);
     uint8_t answer = link_send_saved(s, f->word, numbers->word, epoch, type, content_bytes(), content.n, queue.bytes, queue.n,
@@ -139,7 +140,7 @@ static void call_handshake(void)
 {
     uint8_t type = one_in(3) ? (uint8_t)(1 + below(2)) : (uint8_t)any();
     lend_content(one_in(16) ? 16380 + below(8) : one_in(8) ? below(BODY) : content_length());
-    keep();
+    flight_keep();
     keep_queue();
     calling(CREATE_HANDSHAKE);
     uint8_t answer = link_create_handshake(s, f->word, numbers->word, type, content_bytes(), content.n, queue.bytes, queue.n,
@@ -191,20 +192,33 @@ void flight_fresh(void)
 
 void flight_change(void)
 {
-    uint64_t i = one_in(3) ? SAVED : below(WORDS);
-    f->word[i] = edge_word(f->word[i]);
+    uint64_t i = one_in(3) ? SAVED : below(RECORD_WORDS);
+    if (one_in(3))
+        f->word[E_WORDS * below(3) + E_REMEMBERED] = REMEMBERED - 1 + below(3);
+    else
+        f->word[i] = edge_word(f->word[i]);
     flight_made = 0;
 }
 
+/* Words of which most are in range; of some flights every record can be sent again. */
 void flight_forge(void)
 {
+    int sendable = one_in(2);
     scatter(flight.bytes, flight.n);
     for (int i = 0; i < ENTRIES && !one_in(16); i++) {
-        f->word[E_WORDS * i + E_LENGTH] = one_in(8) ? edge_word(s->word[W_MTU]) : below(LONGEST_MTU);
-        f->word[E_WORDS * i + E_MARKED] = below(2);
-        f->word[E_WORDS * i + E_REMEMBERED] = below(34);
+        uint64_t *w = &f->word[E_WORDS * i];
+        w[E_LENGTH] = sendable ? below(100) : one_in(8) ? edge_word(s->word[W_MTU]) : below(LONGEST_MTU);
+        w[E_MARKED] = below(2);
+        w[E_REMEMBERED] = one_in(8) ? 32 + below(2) : below(32);
+        if (!sendable && one_in(4))
+            continue;
+        w[E_TYPE] = one_in(16) ? some_type() : 22;
+        w[E_EPOCH] = one_in(32) ? some_epoch() : one_in(2) ? 0 : s->word[W_APPLICATION] > 2 && one_in(2) ? s->word[W_APPLICATION] : 2;
+        w[E_NUMBER] = below(100);
     }
-    f->word[SAVED] = below(one_in(8) ? 20 : 13);
+    f->word[SAVED] = one_in(2) ? below(4) : below(one_in(8) ? 20 : 13);
+    for (int i = 0; i < NUMBERS; i++)
+        numbers->word[i] = one_in(16) ? any() : below(100);
     flight_made = 0;
 }
 

@@ -70,8 +70,68 @@ static void known_sending(void)
     require(memcmp(out, plain, 15) == 0 && out[40] == 0x2E && out[41] == 0x55 && out[42] == (0xAA ^ 1) && out[44] == 20, "its bytes");
 }
 
+/* The oldest sealing is answered and its datagram, of one record, taken. */
+static void drain(LinkSending *s, uint8_t *queue, size_t n, uint64_t number, size_t part)
+{
+    uint8_t out[576];
+    LinkSealing q = link_sealing(s);
+    require(q.kind == LINK_SEAL && q.number == number && q.length == part, "a known sealing");
+    require(link_sealed(s, part, 0, 0, queue, n) == 0, "a known reply");
+    LinkTake t = link_take(s, out, sizeof out, queue, n);
+    require(t.kind == LINK_TAKEN && t.length == part + 5, "a known datagram");
+}
+
+/* A handshake record of epoch 2, sent as number 0 and again as 1 to 32; then it remembers 32 numbers. An ACK of number 5 ends it. */
+static void known_resends(void)
+{
+    static const uint8_t data[3] = {'a', 'b', 'c'};
+    static uint8_t queue[576], kept[12 * 576];
+    uint8_t ack[18] = {0, 16, 0, 0, 0, 0, 0, 0, 0, 2, 0, 0, 0, 0, 0, 0, 0, 33};
+    LinkSending s;
+    LinkFlight f;
+    calling(RESEND);
+    link_flight(f.word, f.numbers);
+    require(link_sending(&s, 576, 1) == 0 && link_key_send(&s, 2, iv) == 0, "a known start");
+    require(link_send_saved(&s, f.word, f.numbers, 2, 22, data, 3, queue, sizeof queue, kept, sizeof kept) == 0, "a known record");
+    require(link_resend(&s, f.word, f.numbers, kept, sizeof kept, queue, sizeof queue) == 19, "a known full queue");
+    drain(&s, queue, sizeof queue, 0, 20);
+    for (uint64_t i = 1; i <= 32; i++) {
+        require(link_resend(&s, f.word, f.numbers, kept, sizeof kept, queue, sizeof queue) == 0, "a known resend");
+        drain(&s, queue, sizeof queue, i, 20);
+        require(f.word[2] == i && f.word[5] == i && f.numbers[i - 1] == i - 1, "a known number remembered");
+    }
+    require(link_resend(&s, f.word, f.numbers, kept, sizeof kept, queue, sizeof queue) == 22, "a known full history");
+    calling(PROCESS_ACK);
+    require(link_process_ack(f.word, f.numbers, ack, sizeof ack) == 0 && f.word[4] == 0 && f.word[72] == 1, "an ACK of no record");
+    ack[17] = 5;
+    require(link_process_ack(f.word, f.numbers, ack, 17) == 0 && f.word[4] == 0 && f.word[72] == 1, "an ACK cut short");
+    require(link_process_ack(f.word, f.numbers, ack, sizeof ack) == 0 && f.word[4] == 1 && f.word[72] == 0, "a known ACK");
+}
+
+/* The first 32 of 33 records are noted; their ACK, 514 bytes, is sent in epoch 262. */
+static void known_ack(void)
+{
+    static const uint8_t first[18] = {2, 0, 0, 0, 0, 0, 0, 0, 1, 7, 1, 2, 3, 4, 5, 6, 7, 8};
+    static uint8_t queue[576];
+    LinkSending s;
+    LinkNotes n;
+    calling(SEND_ACK);
+    memset(&n, 0, sizeof n);
+    require(link_sending(&s, 576, 1) == 0 && link_key_send(&s, 262, iv) == 0, "a known start");
+    require(link_send_ack(&s, n.count, n.epochs, n.numbers, queue, sizeof queue) == 0, "a known ACK of nothing");
+    require(link_sealing(&s).kind == LINK_NO_SEALING, "nothing to seal");
+    for (uint64_t i = 0; i < 33; i++)
+        require(link_note(n.count, n.epochs, n.numbers, 263 + i, 0x0102030405060708 + i) == 0, "a known note");
+    require(n.count[0] == 32 && n.epochs[31] == 294 && n.numbers[31] == 0x0102030405060727, "known notes");
+    require(link_send_ack(&s, n.count, n.epochs, n.numbers, queue, sizeof queue) == 0 && n.count[0] == 0, "a known ACK");
+    require(memcmp(queue + 5, first, 18) == 0 && queue[5 + 514 - 1] == 0x27 && queue[5 + 514] == 26, "its bytes");
+    drain(&s, queue, sizeof queue, 0, 514 + 17);
+}
+
 void known(void)
 {
     known_receiving();
     known_sending();
+    known_resends();
+    known_ack();
 }

@@ -47,3 +47,8 @@ PLACED(LinkTake, length, 8);
 SIZED(LinkFlight, (73 + 384) * 8, 8);
 PLACED(LinkFlight, word, 0);
 PLACED(LinkFlight, numbers, 73 * 8);
+
+SIZED(LinkNotes, (1 + 32 + 32) * 8, 8);
+PLACED(LinkNotes, count, 0);
+PLACED(LinkNotes, epochs, 8);
+PLACED(LinkNotes, numbers, 33 * 8);

@@ -51,6 +51,10 @@ static const struct {
     [BEGIN_FLIGHT] = {"link_begin_flight", {R(0) | R(12)}},
     [SEND_SAVED] = {"link_send_saved", {R(0) | R(12) | R(13) | R(14) | R(17) | R(18) | R(19) | R(20)}},
     [CREATE_HANDSHAKE] = {"link_create_handshake", {R(0) | R(12) | R(14) | R(17) | R(18) | R(19) | R(20) | R(21)}},
+    [RESEND] = {"link_resend", {R(0) | R(12) | R(13) | R(14) | R(17) | R(19) | R(20) | R(22)}},
+    [PROCESS_ACK] = {"link_process_ack", {R(0) | R(12)}},
+    [NOTE] = {"link_note", {R(0) | R(12)}},
+    [SEND_ACK] = {"link_send_ack", {R(0) | R(12) | R(13) | R(17) | R(19) | R(20)}},
 };
 
 uint64_t datagrams, replies, calls_made, words_rewritten;

@@ -127,14 +127,16 @@ size_t content_length(void)
     return one_in(128) ? below(CONTENT) : one_in(4) ? below(1600) : below(60);
 }
 
-void check_laid(uint16_t epoch)
+size_t check_laid(uint16_t epoch)
 {
     const uint64_t *w = s->word;
     size_t n = content.n + (epoch == 0 ? 13 : 22);
     require(w[W_COUNT] >= 1 && w[W_COUNT] <= w[W_LIMIT] && w[W_LIMIT] <= SLOTS && w[W_FIRST] < w[W_LIMIT], "a queue out of range");
     size_t slot = (size_t)((w[W_FIRST] + w[W_COUNT] - 1) % w[W_LIMIT]), length = (size_t)w[W_LENGTHS + slot];
     require(length >= n && length <= w[W_MTU], "a datagram over the MTU");
-    check_queue(slot * (size_t)w[W_MTU] + length - n, n);
+    size_t at = slot * (size_t)w[W_MTU] + length - n;
+    check_queue(at, n);
+    return at;
 }
 
 uint8_t some_type(void)
@@ -280,7 +282,7 @@ static void forge_state(void)
     w[W_NUMBER] = one_in(2) ? below(100) : any();
     for (int i = W_PLAINTEXT_NEXT; i < W_MESSAGE; i++)
         w[i] = one_in(2) ? below(100) : LAST_NUMBER - below(3);
-    w[W_HANDSHAKE] = below(4);
+    w[W_HANDSHAKE] = one_in(2) ? 2 : below(4);
     w[W_APPLICATION] = below(8);
     for (int i = W_LENGTHS; i < W_IVS; i++)
         w[i] = one_in(8) ? edge_word(mtu) : below(mtu);
@@ -292,8 +294,11 @@ static void forge_state(void)
 static void step(void)
 {
     before = *s;
-    if (one_in(3)) {
-        flight_step();
+    if (below(5) < 2) {
+        if (one_in(2))
+            flight_step();
+        else
+            acks_step();
         return;
     }
     switch (below(12)) {
@@ -315,6 +320,7 @@ void sending_history(void)
     made = 0;
     make_state();
     flight_fresh();
+    acks_fresh();
     if (kind == 0) {
         scatter((uint8_t *)s->word, sizeof s->word);
         made = 0;
@@ -327,8 +333,12 @@ void sending_history(void)
             forge_state();
         if (kind == 1 && one_in(6))
             flight_forge();
+        if (kind == 1 && one_in(8))
+            notes_forge();
         if (kind == 3 && one_in(8))
             flight_change();
+        if (kind == 3 && one_in(8))
+            notes_change();
         if (kind == 2 && one_in(6)) {
             *s = good;
             change_state();
@@ -347,6 +357,7 @@ void sending_start(void)
     buffers = area(BUFFER);
     ivs = area(12);
     flight_start();
+    acks_start();
     content = lend(&contents, 0, 1);
     buffer = lend(&buffers, 0, 1);
     iv = lend(&ivs, 12, 1);

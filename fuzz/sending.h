@@ -27,8 +27,8 @@ void keep_queue(void);
 void forgive_queue(size_t at, size_t n);
 /* No byte of the queue has changed but n from at on. */
 void check_queue(size_t at, size_t n);
-/* One record lies at the end of the last datagram, as the words then tell, and nothing else is written. */
-void check_laid(uint16_t epoch);
+/* One record lies at the end of the last datagram, as the words then tell, and nothing else is written; where it starts. */
+size_t check_laid(uint16_t epoch);
 
 uint16_t some_epoch(void);
 uint8_t some_type(void);
@@ -43,5 +43,12 @@ void flight_fresh(void);
 void flight_step(void);
 void flight_change(void);
 void flight_forge(void);
+
+/* Resends and ACKs: the memory of the notes, nothing noted; one call; changed or forged notes. */
+void acks_start(void);
+void acks_fresh(void);
+void acks_step(void);
+void notes_change(void);
+void notes_forge(void);
 
 #endif

@@ -1,5 +1,5 @@
-/* The record link's C interface, in three static libraries: `rt staticlib link` makes target/staticlib/liblink.a (receiving), and so
- * link_sending (sending) and link_flight (saved records and handshake messages).
+/* The record link's C interface, in four static libraries: `rt staticlib link` makes target/staticlib/liblink.a (receiving), and so
+ * link_sending (sending), link_flight (saved records and handshake messages) and link_acks (resends and ACKs).
  * Plain functions over memory that the host lends: no allocation, no global state, no requirement on the caller but that each pointer
  * leads to what its type or the length beside it says, and that no two of them overlap. A state is words whose meaning the library
  * keeps; whatever stands in them, a call ends with an answer, and refuses by 12 what is no state. Refusals have the numbers of the
@@ -124,6 +124,25 @@ uint8_t link_send_saved(LinkSending *s, uint64_t word[73], uint64_t numbers[384]
 /* A handshake message of a type, cut, sent and saved, wholly or not at all. */
 uint8_t link_create_handshake(LinkSending *s, uint64_t word[73], uint64_t numbers[384], uint8_t msg_type, const uint8_t *body,
     size_t body_len, uint8_t *queue, size_t queue_len, uint8_t *kept, size_t kept_len);
+
+/* ---- resends and ACKs */
+
+/* The records noted for the outgoing ACK: how many, at most 32, and their epochs and numbers. It begins as zeros. */
+typedef struct {
+    uint64_t count[1], epochs[32], numbers[32];
+} LinkNotes;
+
+/* The saved records that are not acknowledged, sent again under new numbers in new datagrams, wholly or not at all. */
+uint8_t link_resend(LinkSending *s, uint64_t word[73], uint64_t numbers[384], const uint8_t *kept, size_t kept_len, uint8_t *queue,
+    size_t queue_len);
+/* Acts on an ACK with this content: marks the saved records that it names. The flight empties if it has records of epoch 2 and all of
+ * these are marked. A content without the form of an ACK marks nothing and is not refused. */
+uint8_t link_process_ack(uint64_t word[73], uint64_t numbers[384], const uint8_t *content, size_t content_len);
+/* Notes a record for the outgoing ACK. Where 32 are noted, nothing changes, and the answer is 0. */
+uint8_t link_note(uint64_t count[1], uint64_t epochs[32], uint64_t numbers[32], uint64_t epoch, uint64_t number);
+/* The ACK of all that is noted, sent in the application epoch if keyed, else in 2; then nothing is noted. With nothing noted, nothing
+ * is sent, and the answer is 0. */
+uint8_t link_send_ack(LinkSending *s, uint64_t count[1], uint64_t epochs[32], uint64_t numbers[32], uint8_t *queue, size_t queue_len);
 
 #ifdef __cplusplus
 }
