@@ -92,7 +92,11 @@ impl Receiver {
 
     /// Reads a datagram record by record, at most 16,384 bytes (1). What is left when the iterator is dropped is not read. Number bytes
     /// are unmasked and protected parts opened in place, so a datagram is read from the same memory only once.
-    pub fn read<'a, C: Cipher + ?Sized>(&'a mut self, datagram: &'a mut [u8], cipher: &'a mut C) -> Result<Readings<'a, C>, Refusal> {
+    pub fn read<'r, 'd, C: Cipher + ?Sized>(
+        &'r mut self,
+        datagram: &'d mut [u8],
+        cipher: &'r mut C,
+    ) -> Result<Readings<'r, 'd, C>, Refusal> {
         Refusal::done(unsafe { ffi::link_begin(&mut self.state, datagram.len()) })?;
         Ok(Readings {
             state: &mut self.state,
@@ -151,24 +155,24 @@ pub enum Reading<'a> {
 }
 
 /// The readings of one datagram, made by [`Receiver::read`]. Each asks the cipher for one mask and one opening at most.
-pub struct Readings<'a, C: Cipher + ?Sized> {
-    state: &'a mut [u64; ffi::RECEIVING_WORDS],
+pub struct Readings<'r, 'd, C: Cipher + ?Sized> {
+    state: &'r mut [u64; ffi::RECEIVING_WORDS],
     // The datagram. Bytes before `handed` can be borrowed by readings and are not written any more.
     start: *mut u8,
     length: usize,
     handed: usize,
     ended: bool,
-    cipher: &'a mut C,
-    datagram: PhantomData<&'a mut [u8]>,
+    cipher: &'r mut C,
+    datagram: PhantomData<&'d mut [u8]>,
 }
 
-impl<'a, C: Cipher + ?Sized> Readings<'a, C> {
+impl<'d, C: Cipher + ?Sized> Readings<'_, 'd, C> {
     /// Part of the datagram, behind every part handed out.
-    fn part(&mut self, from: usize, length: usize) -> &'a mut [u8] {
+    fn part(&mut self, from: usize, length: usize) -> &'d mut [u8] {
         let end = from.checked_add(length).filter(|end| *end <= self.length).expect("the part is in the datagram");
         assert!(self.handed <= from, "parts come in order");
         self.handed = end;
-        // In the datagram, which is borrowed for 'a, and disjoint from every part made before.
+        // In the datagram, which is borrowed for 'd, and disjoint from every part made before.
         unsafe { slice::from_raw_parts_mut(self.start.add(from), length) }
     }
 
@@ -199,10 +203,10 @@ impl<'a, C: Cipher + ?Sized> Readings<'a, C> {
     }
 }
 
-impl<'a, C: Cipher + ?Sized> Iterator for Readings<'a, C> {
-    type Item = Reading<'a>;
+impl<'d, C: Cipher + ?Sized> Iterator for Readings<'_, 'd, C> {
+    type Item = Reading<'d>;
 
-    fn next(&mut self) -> Option<Reading<'a>> {
+    fn next(&mut self) -> Option<Reading<'d>> {
         if self.ended {
             return None;
         }
@@ -234,4 +238,4 @@ impl<'a, C: Cipher + ?Sized> Iterator for Readings<'a, C> {
     }
 }
 
-impl<C: Cipher + ?Sized> FusedIterator for Readings<'_, C> {}
+impl<C: Cipher + ?Sized> FusedIterator for Readings<'_, '_, C> {}
