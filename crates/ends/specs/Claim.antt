@@ -41,6 +41,9 @@ pub record Holds (w : World) (s : Side) (e : ℕ) : Type 0 where
   -- what was sealed is what was sent, by the host's own arguments, and no number is sent twice in an epoch
   pub sealed-sent : (r : Sealed) → Mem r (w (far s) .out .sealed e) → Mem (asHanded r) (w (far s) .out .books .sent e)
   pub sent-once : Once (w (far s) .out .books .sent e)
+  -- each sending of a saved record, the first and every one by a resend, was sent with the type and content that the host gave when it saved it
+  pub saved-sent : (g : Saved) → Mem g (w (far s) .saves .saved) → (n : ℕ) → Mem n (g .sendings)
+      → Mem (record { num = n; type = g .type; content = g .content }) (w (far s) .out .books .sent (g .epoch))
   -- each datagram taken is some whole records, and all of them are the first that were sent, in order: plaintext ones as laid, sealed ones as
   -- sealed and masked
   pub taken-lines : Taken (w (far s) .out .taken) (w (far s) .out .books .lines)

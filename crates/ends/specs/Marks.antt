@@ -48,6 +48,15 @@ pub record Flown (handed sent : ℕ → List Handed) (mtu : ℕ) (f : Flight) (k
   pub long : length (f .entries) ≡ 12
   pub table : length (f .numbers) ≡ 384
 
+-- each sending of a saved record was sent with what the host gave
+pub each-logged : (handed sent : ℕ → List Handed) (mtu : ℕ) (f : Flight) (kept : List ℕ) (i : ℕ) (gs : List Saved) → Tracked handed sent mtu f kept i gs
+    → (g : Saved) → Mem g gs → (n : ℕ) → Mem n (g .sendings) → Mem (handedOf g n) (sent (g .epoch))
+each-logged handed sent mtu f kept i [] t g m n o = elim m [ ]
+each-logged handed sent mtu f kept i (h ∷ hs) t g m n o =
+    mem-by m
+    (λ (p : g ≡ h). subst (λ (v : Saved). Mem (handedOf v n) (sent (v .epoch))) (sym p) (t .0 .logged n (subst (λ (v : Saved). Mem n (v .sendings)) p o)))
+    (λ m′. each-logged handed sent mtu f kept (suc i) hs (t .1) g m′ n o)
+
 abbrev pub Grows : (ℕ → List Handed) → (ℕ → List Handed) → Type 0
 Grows a b = (e : ℕ) (h : Handed) → Mem h (a e) → Mem h (b e)
 

@@ -51,7 +51,7 @@ use Rattle.ends.specs.Apart.{saves-apart}
 use Rattle.ends.specs.Claim.{SameNumbers, Holds, Startable, EveryList}
 use Rattle.ends.specs.Flights.{Apart, savesBy}
 use Rattle.ends.specs.Keeping.{saves-keep}
-use Rattle.ends.specs.Marks.{Grows, Flown, marked-arrived}
+use Rattle.ends.specs.Marks.{Grows, Flown, each-logged, marked-arrived}
 use Rattle.ends.specs.Saving.{FlightOk, ok-grows}
 use Rattle.ends.specs.Short.{short-stays}
 use Rattle.ends.specs.Width.{same-width, same-limit}
@@ -356,6 +356,9 @@ module _ (masks : Side → Masks) where
     sealed-once = g .out (far s) .once e;
     sealed-sent = g .out (far s) .laying .sealed-sent e;
     sent-once = g .out (far s) .laying .numbers .once e;
+    saved-sent =
+        each-logged (w s .into .into .handed) (w (far s) .out .books .sent) (w (far s) .mtu) (w (far s) .out .stores .flight) (w (far s) .out .stores .kept) 0 (w (far s) .saves .saved)
+        (g .flight s .ok .flown .each);
     taken-lines = taken-is (masks (far s)) (w (far s) .out) (g .out (far s));
     seal-nonce = nonce-is (masks (far s)) (w (far s) .out) (g .out (far s));
   }
