@@ -8,8 +8,8 @@ use crate::dice::Dice;
 use crate::dtls13::engine::probe::Sending;
 use crate::sendings::{Bytes, Step as Call};
 
-/// A script is no longer than this when a step is added: what is on its way and waits must fit too.
-const LONG: usize = beside::MOST / 3;
+/// A script is no longer than this when a step is added: what the step brings must fit too.
+const LONG: usize = beside::MOST / 5 * 2;
 
 fn settings(dice: &mut Dice) -> Settings {
     let mtu = match dice.below(6) {

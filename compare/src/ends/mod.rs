@@ -161,15 +161,19 @@ impl Ends {
         self.ends[end].on_way.len()
     }
 
-    /// The longest script so far.
+    /// The longest script so far, with about what is to come of what is queued and on its way.
     pub fn longest(&self) -> usize {
         let length = |lines: &[Line]| lines.iter().map(|line| line.asked.len() + 1).sum::<usize>();
-        let ends = self.ends.iter();
-        let lengths = ends.map(|end| {
-            let sending = length(&end.world.run().lines);
-            sending.max(length(&end.receiver.run.lines))
+        let queued = |end: usize| self.world(end).sending().lengths.iter().sum::<usize>();
+        let lengths = [0, 1].map(|i| {
+            let end = &self.ends[i];
+            let on_way: usize = end.on_way.iter().map(Vec::len).sum();
+            let sending = length(&end.world.run().lines) + 2 * queued(i);
+            // Each byte is in the datagram and in what was opened.
+            let receiving = length(&end.receiver.run.lines) + 4 * (queued(1 - i) + on_way);
+            sending.max(receiving)
         });
-        lengths.max().unwrap()
+        lengths[0].max(lengths[1])
     }
 
     pub fn step(&mut self, end: usize, step: &Step) {
