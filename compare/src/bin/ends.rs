@@ -159,6 +159,7 @@ fn print(met: &Met) {
         ("opened", met.kinds[7]),
         ("dropped", met.kinds[4]),
         ("records noted", sent.noted),
+        ("not noted: 32 are", met.unnoted),
         ("ACKs sent", sent.acks_sent),
         ("ACKs acted on", sent.acks),
         ("records marked", sent.marked),

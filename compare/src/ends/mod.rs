@@ -59,6 +59,8 @@ pub struct Met {
     pub lost: u64,
     pub doubled: u64,
     pub damaged: u64,
+    /// Records not noted, as 32 were.
+    pub unnoted: u64,
     /// Records marked by a number that they were sent under before they were sent again.
     pub by_remembered: u64,
     /// ACKs that empty the flight.
@@ -74,6 +76,7 @@ impl Met {
         self.lost += other.lost;
         self.doubled += other.doubled;
         self.damaged += other.damaged;
+        self.unnoted += other.unnoted;
         self.by_remembered += other.by_remembered;
         self.emptied += other.emptied;
         self.sent.add(&other.sent);
@@ -243,7 +246,7 @@ impl Ends {
             if record.kind != OPENED || record.epoch < 2 {
                 continue;
             }
-            let before = world.sending().saved;
+            let before = world.sending();
             let step = match record.content_type {
                 HANDSHAKE => sendings::Step::Note {
                     epoch: record.epoch as u64,
@@ -253,8 +256,11 @@ impl Ends {
                 _ => continue,
             };
             world.step(&step);
-            let after = world.sending().saved;
-            let (emptied, remembered) = marks(&before, &after, &record.shown);
+            let after = world.sending();
+            if record.content_type == HANDSHAKE && after.noted == before.noted {
+                self.met.unnoted += 1;
+            }
+            let (emptied, remembered) = marks(&before.saved, &after.saved, &record.shown);
             self.met.emptied += emptied as u64;
             self.met.by_remembered += remembered as u64;
             world.step(&sendings::Step::View);
