@@ -35,6 +35,7 @@ pub use rng::SeededRng;
 pub mod beside;
 pub mod dice;
 pub mod differences;
+pub mod ends;
 pub mod histories;
 pub mod leaves;
 pub mod sendings;

@@ -1,5 +1,6 @@
 //! A provider whose cipher is a script: masks and openings are decided beforehand, sealings made
-//! from what is sealed, and each question is written down. The script belongs to the thread.
+//! from what is sealed, and each question is written down. Or, where two ends are run, it opens what
+//! it has sealed. The script belongs to the thread.
 
 use std::cell::RefCell;
 
@@ -34,15 +35,15 @@ pub struct OpeningAsked {
     pub length: usize,
 }
 
-/// The sealing question, and the reply: a pattern that is repeated over the text and its tag, and
-/// the mask. Both depend on key, nonce, header and text.
+/// The sealing question, and the reply: a pattern that is repeated over the text and its tag (all of
+/// it, if it is to be opened), and the mask. Both depend on key, nonce, header and text.
 #[derive(Debug, Clone)]
 pub struct SealingAsked {
     pub key: Vec<u8>,
     pub header: [u8; 5],
     pub nonce: [u8; 12],
     pub plaintext: Vec<u8>,
-    pub pattern: [u8; 7],
+    pub pattern: Vec<u8>,
     pub mask: [u8; 2],
     /// What the mask was then asked about.
     pub sampled: Option<MaskAsked>,
@@ -50,6 +51,8 @@ pub struct SealingAsked {
 
 #[derive(Default)]
 struct Script {
+    /// Whether the cipher opens what it has sealed, and the mask is made from key and sample.
+    opens: bool,
     min_protected: usize,
     reply: Reply,
     mask: Option<MaskAsked>,
@@ -64,6 +67,16 @@ thread_local! {
 /// The least length of a protected part.
 pub fn set_min_protected(min: usize) {
     SCRIPT.with_borrow_mut(|script| script.min_protected = min);
+}
+
+/// Whether masks and openings are the cipher's own, in place of the replies.
+pub fn set_opens(opens: bool) {
+    SCRIPT.with_borrow_mut(|script| script.opens = opens);
+}
+
+/// The replies about the last record.
+pub fn replied() -> Reply {
+    SCRIPT.with_borrow(|script| script.reply.clone())
 }
 
 /// The replies about the next record.
@@ -97,21 +110,58 @@ pub fn cipher(key: &[u8]) -> Box<dyn Cipher> {
     Box::new(ScriptCipher(key.to_vec()))
 }
 
+fn own_mask(key: &[u8], sample: &[u8]) -> [u8; 2] {
+    stub::mix(&[key, sample])
+}
+
+impl ScriptCipher {
+    /// A text made unreadable, or readable again.
+    fn turned(&self, text: &[u8], nonce: &Nonce) -> Vec<u8> {
+        let stream: [u8; 32] = stub::mix(&[&self.0, &nonce.0]);
+        let stream = stream.iter().cycle();
+        text.iter().zip(stream).map(|(a, b)| a ^ b).collect()
+    }
+
+    fn tag(&self, text: &[u8], aad: &Aad, nonce: &Nonce) -> [u8; TAG_LEN] {
+        stub::mix(&[&self.0, &nonce.0, &aad.0, text])
+    }
+
+    fn sealed(&self, text: &[u8], aad: &Aad, nonce: &Nonce) -> Vec<u8> {
+        let mut sealed = self.turned(text, nonce);
+        sealed.extend_from_slice(&self.tag(text, aad, nonce));
+        sealed
+    }
+
+    /// The text, if the tag is that of text, header, nonce and key.
+    fn opened(&self, sealed: &[u8], aad: &Aad, nonce: &Nonce) -> Option<Vec<u8>> {
+        let (text, tag) = sealed.split_at(sealed.len() - TAG_LEN);
+        let text = self.turned(text, nonce);
+        (self.tag(&text, aad, nonce) == tag).then_some(text)
+    }
+}
+
 impl Cipher for ScriptCipher {
     fn encrypt(&mut self, plaintext: &mut Buf, aad: Aad, nonce: Nonce) -> Result<(), CryptoError> {
-        let pattern: [u8; 7] = stub::mix(&[&self.0, &nonce.0, &aad.0, plaintext]);
+        let (pattern, mask) = if SCRIPT.with_borrow(|script| script.opens) {
+            let sealed = self.sealed(plaintext, &aad, &nonce);
+            let mask = own_mask(&self.0, &sealed[..16]);
+            (sealed, mask)
+        } else {
+            let pattern: [u8; 7] = stub::mix(&[&self.0, &nonce.0, &aad.0, plaintext]);
+            (pattern.to_vec(), stub::mix(&[&pattern]))
+        };
         let asked = SealingAsked {
             key: self.0.clone(),
             header: aad.0[..].try_into().unwrap(),
             nonce: nonce.0,
             plaintext: plaintext.to_vec(),
             pattern,
-            mask: stub::mix(&[&pattern]),
+            mask,
             sampled: None,
         };
         let length = plaintext.len() + TAG_LEN;
         plaintext.clear();
-        plaintext.extend_from_slice(&repeated(&pattern, length));
+        plaintext.extend_from_slice(&repeated(&asked.pattern, length));
         SCRIPT.with_borrow_mut(|script| {
             script.reply.mask = asked.mask;
             script.sealings.push(asked);
@@ -136,6 +186,9 @@ impl Cipher for ScriptCipher {
                 nonce: nonce.0,
                 length: ciphertext.len(),
             });
+            if script.opens {
+                script.reply.opening = self.opened(ciphertext, &aad, &nonce);
+            }
             let plaintext = script
                 .reply
                 .opening
@@ -181,7 +234,7 @@ impl SupportedDtls13CipherSuite for ScriptSuite {
         Ok(cipher(key))
     }
 
-    /// Two bytes of the script; the others must not matter.
+    /// Two bytes of the script, or made from key and sample; the others must not matter.
     fn encrypt_sn(&self, sn_key: &[u8], sample: &[u8; 16]) -> [u8; 16] {
         SCRIPT.with_borrow_mut(|script| {
             let asked = MaskAsked {
@@ -192,6 +245,9 @@ impl SupportedDtls13CipherSuite for ScriptSuite {
                 last.sampled = Some(asked.clone());
             }
             script.mask = Some(asked);
+            if script.opens {
+                script.reply.mask = own_mask(sn_key, sample);
+            }
             let mut mask = [0xA5; 16];
             mask[..2].copy_from_slice(&script.reply.mask);
             mask

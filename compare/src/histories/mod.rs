@@ -106,6 +106,8 @@ impl Answer {
 #[derive(Default)]
 pub struct Run {
     pub lines: Vec<Line>,
+    /// The records handed over that were read in plaintext or opened.
+    pub handed: Vec<Answer>,
     pub kinds: [u64; 10],
     pub reasons: [u64; 12],
 }
@@ -115,6 +117,9 @@ impl Run {
         if matches!(letter, 'r' | 'm' | 'o') {
             self.kinds[answer.kind as usize] += 1;
             self.reasons[answer.reason as usize] += 1;
+        }
+        if matches!(answer.kind, PLAINTEXT | OPENED) {
+            self.handed.push(answer.clone());
         }
         self.lines.push(Line {
             asked: format!("{letter} {}", hex(input)),

@@ -22,33 +22,67 @@ const TAG_LEN: usize = 16;
 /// Runs a history. Steps that no call of the domain makes are passed over, so that a history
 /// can lose any of its steps.
 pub fn run(history: &History) -> Run {
-    let mut run = Run::default();
     let config = Config {
         crypto_provider: script::provider(),
         ..Config::default()
     };
     let mut engine = Engine::new(Arc::new(config), DtlsCertificate::default());
     engine.set_cipher_suite(Dtls13CipherSuite::AES_128_GCM_SHA256);
-    script::set_min_protected(history.min_protected as usize);
-    run.say('f', &[history.min_protected], Answer::default());
-    let mut highest = 0;
+    let mut receiver = Receiver::new(history.min_protected);
     for step in &history.steps {
-        let keyed = engine::probe::receive_epochs(&engine);
+        receiver.step(&mut engine, step);
+    }
+    let mut run = receiver.run;
+    if history.between != 0 {
+        run.lines = between::add(run.lines, history.between);
+    }
+    run
+}
+
+/// The receiving side of an end, beside the Rust.
+pub struct Receiver {
+    min_protected: u8,
+    /// The highest epoch that was keyed.
+    highest: u16,
+    pub run: Run,
+}
+
+impl Receiver {
+    pub fn new(min_protected: u8) -> Self {
+        let mut run = Run::default();
+        run.say('f', &[min_protected], Answer::default());
+        Self {
+            min_protected,
+            highest: 0,
+            run,
+        }
+    }
+
+    /// A datagram whose questions the cipher itself answers: the records handed over.
+    pub fn read(&mut self, engine: &mut Engine, bytes: &[u8]) -> Vec<Answer> {
+        self.run.handed.clear();
+        datagram(engine, self.min_protected, bytes, None, &mut self.run);
+        std::mem::take(&mut self.run.handed)
+    }
+
+    pub fn step(&mut self, engine: &mut Engine, step: &Step) {
+        let keyed = engine::probe::receive_epochs(engine);
+        let run = &mut self.run;
         match step {
             Step::Key { epoch, iv } => {
                 // Differences 15 and 16: the Rust evicts the oldest epoch for a fifth, and replaces one.
                 let applications = keyed.iter().filter(|epoch| **epoch >= 3).count();
-                if *epoch < 2 || *epoch <= highest || *epoch >= 3 && applications >= 4 {
-                    continue;
+                if *epoch < 2 || *epoch <= self.highest || *epoch >= 3 && applications >= 4 {
+                    return;
                 }
-                highest = *epoch;
-                engine::probe::key_receive(&mut engine, *epoch, *iv);
+                self.highest = *epoch;
+                engine::probe::key_receive(engine, *epoch, *iv);
                 let mut input = epoch.to_be_bytes().to_vec();
                 input.extend_from_slice(iv);
                 run.say('k', &input, Answer::default());
             }
             Step::Remove(epoch) if keyed.contains(epoch) => {
-                engine::probe::remove(&mut engine, *epoch);
+                engine::probe::remove(engine, *epoch);
                 run.say('x', &epoch.to_be_bytes(), Answer::default());
             }
             Step::Remove(_) => {}
@@ -73,14 +107,10 @@ pub fn run(history: &History) -> Run {
             }
             Step::Mark { .. } => {}
             Step::Datagram { bytes, replies } => {
-                datagram(&mut engine, history.min_protected, bytes, replies, &mut run)
+                datagram(engine, self.min_protected, bytes, Some(replies), run)
             }
         }
     }
-    if history.between != 0 {
-        run.lines = between::add(run.lines, history.between);
-    }
-    run
 }
 
 /// What the Rust asks about the first record of a datagram with peer encryption on: epochs keyed,
@@ -105,7 +135,7 @@ pub fn asked(min: u8, epochs: &[u16], highest: Option<u64>, bytes: &[u8]) -> Str
     }
     let mut tap = Tap {
         engine: &mut engine,
-        replies: VecDeque::new(),
+        replies: Some(VecDeque::new()),
         seen: RefCell::default(),
         above: true,
     };
@@ -140,7 +170,8 @@ struct Seen {
 /// The engine, with what it is asked written down.
 struct Tap<'a> {
     engine: &'a mut Engine,
-    replies: VecDeque<Reply>,
+    /// The replies to the questions in their order; none if the cipher itself answers.
+    replies: Option<VecDeque<Reply>>,
     seen: RefCell<Vec<Seen>>,
     /// Whether the cipher is asked for numbers above 2^48 - 1.
     above: bool,
@@ -198,9 +229,13 @@ impl RecordHandler for Tap<'_> {
             .iter()
             .filter(|s| s.mask.is_some())
             .count();
-        let reply = self.replies.get(next).cloned().unwrap_or_default();
+        let listed = self.replies.as_ref().and_then(|replies| replies.get(next));
+        let mut reply = listed.cloned().unwrap_or_default();
         script::set_reply(reply.clone());
         self.engine.decrypt_sequence_number(epoch, bytes, sample);
+        if self.replies.is_none() {
+            reply = script::replied();
+        }
         let (mask, _) = script::take_asked();
         self.note(|seen| {
             seen.mask = mask;
@@ -220,7 +255,11 @@ impl RecordHandler for Tap<'_> {
         }
         let result = self.engine.decrypt_record(header, seq, ciphertext);
         let (_, opening) = script::take_asked();
+        let own = self.replies.is_none();
         self.note(|seen| {
+            if own {
+                seen.reply = script::replied();
+            }
             seen.opening = opening;
             seen.opened = result.is_ok();
         });
@@ -238,12 +277,16 @@ impl RecordHandler for Tap<'_> {
 }
 
 /// A datagram read to its end.
-fn datagram(engine: &mut Engine, min: u8, bytes: &[u8], replies: &[Reply], run: &mut Run) {
+fn datagram(engine: &mut Engine, min: u8, bytes: &[u8], replies: Option<&[Reply]>, run: &mut Run) {
+    script::set_min_protected(min as usize);
+    script::set_opens(replies.is_none());
+    // What sealing asked before.
+    script::take_asked();
     let encryption = engine.is_peer_encryption_enabled();
     let keyed = engine::probe::receive_epochs(engine);
     let mut tap = Tap {
         engine,
-        replies: replies.iter().cloned().collect(),
+        replies: replies.map(|replies| replies.iter().cloned().collect()),
         seen: RefCell::default(),
         above: false,
     };

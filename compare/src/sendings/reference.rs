@@ -92,6 +92,15 @@ impl World {
         }
     }
 
+    /// The Rust, which also receives.
+    pub fn engine(&mut self) -> &mut Engine {
+        &mut self.engine
+    }
+
+    pub fn run(&self) -> &Run {
+        &self.run
+    }
+
     pub fn sending(&self) -> Sending {
         probe::sending(&self.engine)
     }
@@ -99,6 +108,12 @@ impl World {
     /// How many sealings wait.
     pub fn waits(&self) -> usize {
         self.waiting.len()
+    }
+
+    /// Whether a sealing waits in the datagram at the front.
+    pub fn unsealed(&self) -> bool {
+        let front = self.waiting.front();
+        front.is_some_and(|waiting| waiting.datagram == self.taken)
     }
 
     fn waits_under(&self, epoch: u16) -> bool {
@@ -284,7 +299,7 @@ impl World {
             Step::SendAck => self.created(step, 'c', &[]),
             Step::Ask => self.ask(),
             Step::Reply(more) => self.reply(*more),
-            Step::Take(more) => self.take(*more),
+            Step::Take(more) => _ = self.take(*more),
             Step::View => self.view(),
         }
     }
@@ -384,14 +399,11 @@ impl World {
         let asked = self.waiting.front().map_or(17, |w| w.part.len());
         let length = (asked as i64 + more as i64).clamp(0, 16_000) as usize;
         let (mask, pattern) = match self.waiting.front() {
-            Some(waiting) => (waiting.asked.mask, waiting.asked.pattern),
-            None => ([0x5A, 0xA5], [0x33; 7]),
+            Some(waiting) => (waiting.asked.mask, waiting.asked.pattern.clone()),
+            None => ([0x5A, 0xA5], vec![0x33; 7]),
         };
         let mut input = mask.to_vec();
-        let bytes = Bytes {
-            length,
-            pattern: pattern.to_vec(),
-        };
+        let bytes = Bytes { length, pattern };
         input.extend_from_slice(&bytes.given());
         let refusal = if !self.settings.queue_lent() {
             12
@@ -411,18 +423,16 @@ impl World {
         self.run.say('s', &input, Answer::refused(refusal));
     }
 
-    fn take(&mut self, more: i32) {
+    /// The datagram taken, if there is one.
+    pub fn take(&mut self, more: i32) -> Option<Vec<u8>> {
         let front = self.sending().lengths.first().copied().unwrap_or(0);
         let length = (front as i64 + more as i64).clamp(0, LONGEST_BUFFER) as usize;
         let mut buffer = vec![UNTOUCHED; length];
-        let unsealed = self
-            .waiting
-            .front()
-            .is_some_and(|waiting| waiting.datagram == self.taken);
         let mut answer = Answer::default();
+        let mut datagram = None;
         if !self.settings.queue_lent() {
             answer.refusal = 12;
-        } else if unsealed {
+        } else if self.unsealed() {
             answer.refusal = 23;
         } else {
             match probe::take(&mut self.engine, &mut buffer) {
@@ -436,11 +446,13 @@ impl World {
                     self.run.tally.datagrams += 1;
                     answer.kind = DATAGRAM;
                     answer.length = length;
+                    datagram = Some(buffer[..length].to_vec());
                 }
             }
         }
         answer.shown = buffer;
         self.run.say('t', &(length as u16).to_be_bytes(), answer);
+        datagram
     }
 
     fn view(&mut self) {
@@ -477,17 +489,24 @@ impl World {
 
     /// All that waits sealed, all that is queued taken.
     fn end(mut self) -> Run {
+        self.take_rest();
+        self.view();
+        self.run
+    }
+
+    /// All that waits sealed, then the datagrams, all taken.
+    pub fn take_rest(&mut self) -> Vec<Vec<u8>> {
         while !self.waiting.is_empty() {
             self.ask();
             self.reply(0);
         }
         self.ask();
+        let mut datagrams = Vec::new();
         while !self.sending().lengths.is_empty() && self.settings.queue_lent() {
-            self.take(0);
+            datagrams.extend(self.take(0));
         }
         self.take(0);
-        self.view();
-        self.run
+        datagrams
     }
 
     /// What the Rust does in a call that 01 refuses: done, its error, or a panic.
