@@ -288,7 +288,7 @@ fn agree() {
         assert!(sent == 0, "{n} bytes are refused by {sent}");
         seal_all(&mut s, &mut queue);
         let (mut a, mut b) = ([0; 1500], [0; 1500]);
-        while let Some(len) = engine::probe::take(&mut engine, &mut a) {
+        while let engine::probe::Taken::Datagram(len) = engine::probe::take(&mut engine, &mut a) {
             let (out, q) = (b.as_mut_ptr(), queue.as_ptr());
             let taken = unsafe { link_take(&mut s, out, b.len(), q, queue.len()) };
             assert!(taken.kind == 2 && a[..len] == b[..taken.length], "{n} bytes are sent otherwise");
