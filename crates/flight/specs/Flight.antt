@@ -10,6 +10,7 @@ use Rattle.outgoing.specs.declared.SendAnswer.the-variants.{Done, OutOfRange}
 use Rattle.flight.specs.declared.Entry.{Entry}
 use Rattle.flight.specs.declared.Flight.{Flight}
 use Rattle.flight.specs.declared.Begun.{Begun}
+use Rattle.flight.specs.declared.SavedRecords.{SavedRecords}
 
 unfoldable pub entryOf : ℕ → ℕ → ℕ → ℕ → Entry
 entryOf t e n len = record { «content_type» = t; epoch = e; number = n; length = len; marked = false; remembered = 0 }
@@ -17,6 +18,10 @@ entryOf t e n len = record { «content_type» = t; epoch = e; number = n; length
 -- no record
 abbrev pub noEntry : Entry
 noEntry = record { «content_type» = 0; epoch = 0; number = 0; length = 0; marked = false; remembered = 0 }
+
+-- saved records with a table of numbers
+abbrev pub whole : SavedRecords → List ℕ → Flight
+whole r n = record { entries = r .entries; saved = r .saved; numbers = n }
 
 -- the i-th saved record
 abbrev pub entryAt : Flight → ℕ → Entry

@@ -24,6 +24,12 @@ pub struct Flight {
     pub numbers: [u64; 384],
 }
 
+// A flight without its table: what saving, cutting and marking change.
+pub struct SavedRecords {
+    pub entries: [Entry; 12],
+    pub saved: usize,
+}
+
 pub struct Begun {
     pub answer: SendAnswer,
     pub flight: Flight,

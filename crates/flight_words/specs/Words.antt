@@ -9,6 +9,7 @@ use lib.ListN.{getD, set}
 use Rattle.base.specs.Choose.{choose}
 use Rattle.flight.specs.declared.Entry.{Entry}
 use Rattle.flight.specs.declared.Flight.{Flight}
+use Rattle.flight.specs.declared.SavedRecords.{SavedRecords}
 
 abbrev pub entryAt : List ℕ → ℕ → Entry
 entryAt w i = record {
@@ -22,6 +23,9 @@ entryAt w i = record {
 
 unfoldable pub entriesOf : List ℕ → List Entry
 entriesOf w = entryAt w 0 ∷ entryAt w 1 ∷ entryAt w 2 ∷ entryAt w 3 ∷ entryAt w 4 ∷ entryAt w 5 ∷ entryAt w 6 ∷ entryAt w 7 ∷ entryAt w 8 ∷ entryAt w 9 ∷ entryAt w 10 ∷ entryAt w 11 ∷ []
+
+abbrev pub recordsOf : List ℕ → SavedRecords
+recordsOf w = record { entries = entriesOf w; saved = getD w 72 0 }
 
 abbrev pub flightOf : List ℕ → List ℕ → Flight
 flightOf w n = record { entries = entriesOf w; saved = getD w 72 0; numbers = n }

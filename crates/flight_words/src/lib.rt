@@ -2,10 +2,14 @@
 ghost use mathlib.Core.Path.{_≡_};
 ghost use Prim.Native.Nat.{_≤_, _<_};
 ghost use lib.ListN.{length, getD};
-ghost use Rattle.flight_words.specs.Words.{entryAt, entriesOf, flightOf, flatTo, putEntry, LowEntry};
+ghost use mathlib.Core.List.{List};
+ghost use Prim.Native.Nat.{ℕ};
+ghost use Rattle.flight.specs.Flight.{whole};
+ghost use Rattle.flight_words.specs.Words.{entryAt, entriesOf, recordsOf, flightOf, flatTo, putEntry, LowEntry};
 ghost use Rattle.flight_words.specs.Laws.{e₀, putEntries, Lows, Kept};
 use flight::Entry;
 use flight::Flight;
+use flight::SavedRecords;
 
 fn count_of(w: &[u64]) -> usize
     ensures { λ r. ⌜ r ≡ length (now (w .entry)) ⌝ }
@@ -82,6 +86,17 @@ pub fn load(w: &[u64; 73], numbers: [u64; 384]) -> Flight
     }
 }
 
+// The saved records that the words stand for.
+pub fn load_records(w: &[u64; 73]) -> SavedRecords
+    ensures { λ r. ⌜ r ≡ recordsOf (now (w .entry)) ⌝ }
+{
+    let l = entries_of(w);
+    SavedRecords {
+        entries: l,
+        saved: w[72] as usize,
+    }
+}
+
 // Whether the words stand for a flight: marks are 0 or 1.
 pub fn is_flat(w: &[u64; 73]) -> bool
     ensures { λ r. ⌜ r ≡ flatTo (now (w .entry)) 12 ⌝ }
@@ -142,4 +157,14 @@ pub fn save(w: &mut [u64; 73], f: Flight)
     sized(w);
     put_entries(w, l);
     w[72] = f.saved as u64;
+}
+
+// Saved records written: the words stand for them, whatever the table of numbers is.
+pub fn save_records(w: &mut [u64; 73], r: SavedRecords)
+    ensures { λ _. ⌜ ((n : List ℕ) → Kept (whole r n) (now (w .exit))) ⌝ }
+{
+    let l = r.entries;
+    sized(w);
+    put_entries(w, l);
+    w[72] = r.saved as u64;
 }
