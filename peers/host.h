@@ -1,0 +1,57 @@
+/* What the halves of the host share: the session's lines, the ciphers, the writer. */
+#ifndef HOST_H
+#define HOST_H
+
+#include <stddef.h>
+#include <stdint.h>
+
+#include "link.h"
+
+enum { EPOCHS = 16, DATAGRAM = 16384, TAG = 16 };
+
+/* ---- the session's lines (host.c) */
+
+/* Says why after the session's name and the line's number, and ends: 1 something differs, 2 the input is bad. */
+_Noreturn void stop(int status, const char *format, ...);
+/* The bytes of a hexadecimal text, none for `-`; how many. */
+size_t bytes_of(const char *text, uint8_t *out, size_t room);
+/* Stops unless a call's answer is 0. */
+void take(uint8_t answer);
+
+/* ---- the ciphers (ciphers.c) */
+
+typedef struct {
+    int chacha;
+    uint8_t key[32], sn_key[32], iv[12];
+} Keys;
+
+/* Keys by the words of a line: suite, key, IV, number key. */
+Keys keys_of(const char *suite, const char *key, const char *iv, const char *sn_key);
+/* The first two bytes of the mask of 16 bytes (RFC 9147, section 4.2.3). */
+void mask_of(const Keys *keys, const uint8_t *sample, uint8_t mask[2]);
+/* Opens a protected part in place; whether the tag is right. */
+int open_part(const Keys *keys, const uint8_t *nonce, const uint8_t *header, size_t header_len, uint8_t *part, size_t length);
+/* Seals in place all but the last 16 bytes of a part, which take the tag. */
+void seal_part(const Keys *keys, const uint8_t *nonce, const uint8_t *header, size_t header_len, uint8_t *part, size_t length);
+
+/* ---- the writer (writer.c); side 0 is the client, 1 the server */
+
+/* A captured record: the bytes that were sent, and what was opened of them. */
+typedef struct {
+    unsigned epoch, content_type;
+    uint64_t number;
+    const uint8_t *bytes, *content;
+    size_t length, content_len;
+} Captured;
+
+void writer_begin(void);
+void writer_key(unsigned side, unsigned epoch, const Keys *keys);
+void writer_record(unsigned side, const Captured *record);
+/* A captured datagram ends: what was written is taken and compared. */
+void writer_take(unsigned side);
+/* Whether records were sent, and all that were written are compared. */
+int writer_done(void);
+/* Prints how many records were written again, and how many cannot be made, by reason. */
+void writer_report(void);
+
+#endif
