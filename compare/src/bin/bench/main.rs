@@ -8,8 +8,11 @@ mod agree;
 mod clock;
 mod inputs;
 mod link;
+mod place;
 mod rattle;
 mod rust;
+
+use place::at_place;
 
 type Side = Box<dyn Fn(u32) -> f64>;
 
@@ -36,21 +39,23 @@ fn rows() -> Vec<Row> {
     rows
 }
 
+const TURNS: u32 = 10;
+
 /// A run: both sides by turns, so that what the machine does besides falls on both.
-fn run(row: &Row) -> (f64, f64) {
-    let turns = 10;
+fn run(row: &Row, run: u32) -> (f64, f64) {
+    let count = row.count / TURNS;
     let (mut a, mut b) = (0.0, 0.0);
-    for _ in 0..turns {
-        a += (row.rust)(row.count / turns);
-        b += (row.rattle)(row.count / turns);
+    for i in run * TURNS..(run + 1) * TURNS {
+        a += at_place(i, &mut || (row.rust)(count));
+        b += at_place(i, &mut || (row.rattle)(count));
     }
-    (a / turns as f64, b / turns as f64)
+    (a / TURNS as f64, b / TURNS as f64)
 }
 
 fn compare(row: &Row, runs: u32) {
     let mut times: Vec<(f64, f64, f64)> = (0..runs)
-        .map(|_| {
-            let (a, b) = run(row);
+        .map(|i| {
+            let (a, b) = run(row, i);
             (b / a, a, b)
         })
         .collect();
