@@ -14,7 +14,7 @@
 
 enum { MTU = 1500, LIMIT = 16, TAG = 16, ROW = 256, ROWS = 40, MOST_RUNS = 99, HEADER = 5 };
 
-/* What is timed: the whole, the link's calls alone, the cipher alone. */
+/* Parts that are timed: the whole, the link's calls alone, the cipher alone. */
 enum { WHOLE, LAYER, CIPHER, PARTS };
 
 static const uint8_t key[16] = "the traffic key", number_key[16] = "the number key", iv[12] = {1, 2, 3, 4, 5, 6, 7, 8, 9, 10, 11, 12};
@@ -181,14 +181,24 @@ static void fresh(void)
         "no receive side");
 }
 
-/* A run: nanoseconds a record of each part, by turns. */
+/* A row with the stack further down: times depend on where it lies. */
+static double at_place(int i, double (*row)(size_t, int), size_t n, int part)
+{
+    volatile uint8_t shift[64 * (1 + i * 13 % 41)];
+    shift[0] = 0;
+    double time = row(n, part);
+    (void)shift[0];
+    return time;
+}
+
+/* A run: nanoseconds a record of each part, by turns, each turn at another place. */
 static void run(double (*row)(size_t, int), size_t n, double time[PARTS])
 {
     memset(time, 0, PARTS * sizeof *time);
     fresh();
     for (int i = 0; i < ROWS; i++)
         for (int part = 0; part < PARTS; part++)
-            time[part] += row(n, part) / ROW / ROWS;
+            time[part] += at_place(i, row, n, part) / ROW / ROWS;
 }
 
 static int by_value(const void *a, const void *b)
