@@ -13,7 +13,10 @@ fn same(engine: &mut Engine, host: &mut Host, what: &str) -> usize {
     let mut n = 0;
     while let probe::Taken::Datagram(len) = probe::take(engine, &mut a) {
         let taken = host.take(&mut b);
-        assert!(taken.kind == 2 && a[..len] == b[..taken.length], "{what}: sent otherwise");
+        assert!(
+            taken.kind == 2 && a[..len] == b[..taken.length],
+            "{what}: sent otherwise"
+        );
         n += 1;
     }
     assert!(host.take(&mut b).kind == 1, "{what}: more is sent");
@@ -23,7 +26,10 @@ fn same(engine: &mut Engine, host: &mut Host, what: &str) -> usize {
 fn records_and_message(engine: &mut Engine, host: &mut Host, bytes: &[u8]) {
     for n in [0, 1, 16, 200, 1200, 1478] {
         rust::send_record(engine, &bytes[..n]);
-        assert!(host.send_record(&bytes[..n]) == 0, "a record of {n} is refused");
+        assert!(
+            host.send_record(&bytes[..n]) == 0,
+            "a record of {n} is refused"
+        );
         assert!(same(engine, host, "a record") == 1);
     }
     rust::send_message(engine, bytes);

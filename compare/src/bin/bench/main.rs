@@ -24,18 +24,52 @@ struct Row {
     rattle: Side,
 }
 
-fn row(name: String, count: u32, rust: impl Fn(u32) -> f64 + 'static, rattle: impl Fn(u32) -> f64 + 'static) -> Row {
-    Row { name, count, rust: Box::new(rust), rattle: Box::new(rattle) }
+fn row(
+    name: String,
+    count: u32,
+    rust: impl Fn(u32) -> f64 + 'static,
+    rattle: impl Fn(u32) -> f64 + 'static,
+) -> Row {
+    Row {
+        name,
+        count,
+        rust: Box::new(rust),
+        rattle: Box::new(rattle),
+    }
+}
+
+/// A side of a row that has a size.
+type OfSize = fn(usize, u32) -> f64;
+
+fn record_of(n: usize, what: &str, rust: OfSize, rattle: OfSize) -> Row {
+    let name = format!("{what} a record of {n}");
+    row(name, 100_000, move |k| rust(n, k), move |k| rattle(n, k))
 }
 
 fn rows() -> Vec<Row> {
     let sizes = [16, 200, 1200];
-    let read = |n| row(format!("read a record of {n}"), 100_000, move |k| rust::read(n, k), move |k| rattle::read(n, k));
-    let send = |n| row(format!("send a record of {n}"), 100_000, move |k| rust::send(n, k), move |k| rattle::send(n, k));
-    let mut rows: Vec<Row> = sizes.into_iter().map(read).chain(sizes.into_iter().map(send)).collect();
-    rows.push(row("send a message of 16384".into(), 5_000, rust::message, rattle::message));
-    rows.push(row("resend a flight of 12".into(), 6_400, rust::resend, rattle::resend));
-    rows.push(row("act on an ACK of 32".into(), 16_000, rust::act_on_ack, rattle::act_on_ack));
+    let read = sizes.map(|n| record_of(n, "read", rust::read, rattle::read));
+    let send = sizes.map(|n| record_of(n, "send", rust::send, rattle::send));
+    let message = row(
+        "send a message of 16384".into(),
+        5_000,
+        rust::message,
+        rattle::message,
+    );
+    let resend = row(
+        "resend a flight of 12".into(),
+        6_400,
+        rust::resend,
+        rattle::resend,
+    );
+    let ack = row(
+        "act on an ACK of 32".into(),
+        16_000,
+        rust::act_on_ack,
+        rattle::act_on_ack,
+    );
+    let mut rows = Vec::from_iter(read.into_iter().chain(send));
+    rows.extend([message, resend, ack]);
     rows
 }
 
@@ -79,7 +113,10 @@ fn usage() -> ! {
 
 /// The number that an argument is.
 fn given(arg: &str) -> u32 {
-    arg.parse().ok().filter(|n| *n > 0).unwrap_or_else(|| usage())
+    arg.parse()
+        .ok()
+        .filter(|n| *n > 0)
+        .unwrap_or_else(|| usage())
 }
 
 fn once(side: &str, row: u32, count: u32) {

@@ -1,5 +1,5 @@
-//! Where stack and heap lie. Times depend on it (loads and stores whose addresses agree in their low 12 bits wait for each other), and it
-//! changes from process to process: so each turn has another place, the same for both sides.
+//! Where stack and heap lie. Times depend on it, and it changes from process to process: so each turn has another place, the same for
+//! both sides.
 
 use std::hint::black_box;
 
@@ -7,7 +7,11 @@ use std::hint::black_box;
 #[inline(never)]
 fn deeper(depth: u32, f: &mut dyn FnMut() -> f64) -> f64 {
     let frame = black_box([0u8; 64]);
-    let answer = if depth == 0 { f() } else { deeper(depth - 1, f) };
+    let answer = if depth == 0 {
+        f()
+    } else {
+        deeper(depth - 1, f)
+    };
     black_box(&frame);
     answer
 }

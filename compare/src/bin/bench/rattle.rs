@@ -35,7 +35,13 @@ impl Host {
         let (mut f, mut numbers) = ([0; 73], [0; 384]);
         link_flight(&mut f, &mut numbers);
         let (queue, kept) = (vec![0xAA; QUEUE * MTU], vec![0; FLIGHT * MTU]);
-        Host { s, f, numbers, queue, kept }
+        Host {
+            s,
+            f,
+            numbers,
+            queue,
+            kept,
+        }
     }
 
     #[inline]
@@ -50,7 +56,20 @@ impl Host {
         let (q, room) = (self.queue.as_mut_ptr(), self.queue.len());
         let (k, k_len) = (self.kept.as_mut_ptr(), self.kept.len());
         let Host { s, f, numbers, .. } = self;
-        unsafe { link_create_handshake(s, f, numbers, 11, body.as_ptr(), body.len(), q, room, k, k_len) }
+        unsafe {
+            link_create_handshake(
+                s,
+                f,
+                numbers,
+                11,
+                body.as_ptr(),
+                body.len(),
+                q,
+                room,
+                k,
+                k_len,
+            )
+        }
     }
 
     /// A new flight, its records sent and saved in epoch 2.
@@ -70,12 +89,29 @@ impl Host {
     pub fn resend(&mut self) -> u8 {
         let (q, room) = (self.queue.as_mut_ptr(), self.queue.len());
         let (k, k_len) = (self.kept.as_ptr(), self.kept.len());
-        unsafe { link_resend(&mut self.s, &mut self.f, &mut self.numbers, k, k_len, q, room) }
+        unsafe {
+            link_resend(
+                &mut self.s,
+                &mut self.f,
+                &mut self.numbers,
+                k,
+                k_len,
+                q,
+                room,
+            )
+        }
     }
 
     #[inline]
     pub fn act_on_ack(&mut self, content: &[u8]) -> u8 {
-        unsafe { link_process_ack(&mut self.f, &mut self.numbers, content.as_ptr(), content.len()) }
+        unsafe {
+            link_process_ack(
+                &mut self.f,
+                &mut self.numbers,
+                content.as_ptr(),
+                content.len(),
+            )
+        }
     }
 
     /// Seals all that waits, as the cipher that does nothing does: a tag of 16 zeros.

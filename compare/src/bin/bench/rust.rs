@@ -137,12 +137,21 @@ pub fn act_on_ack(count: u32) -> f64 {
     let mut engines: Vec<Engine> = (0..FLIGHTS).map(|_| resent_twice()).collect();
     let ack = ack_of_32();
     let prepare = |engines: &mut Vec<Engine>| engines.iter_mut().for_each(probe::unmark);
-    let spent = time_in_rows(&mut engines, count, FLIGHTS as u32, prepare, |engines, i| {
-        probe::process_ack(&mut engines[i as usize], black_box(&ack)).unwrap();
-    });
+    let spent = time_in_rows(
+        &mut engines,
+        count,
+        FLIGHTS as u32,
+        prepare,
+        |engines, i| {
+            probe::process_ack(&mut engines[i as usize], black_box(&ack)).unwrap();
+        },
+    );
     for engine in &engines {
         let saved = probe::sending(engine).saved;
-        assert!(saved.len() == FLIGHT && saved.iter().filter(|entry| entry.marked).count() == FLIGHT - 1);
+        assert!(
+            saved.len() == FLIGHT
+                && saved.iter().filter(|entry| entry.marked).count() == FLIGHT - 1
+        );
     }
     spent
 }
