@@ -1,0 +1,244 @@
+/* The layer's share of a real record: the time of the link's calls over the time of the whole, which is these calls with AES-128-GCM and
+ * the mask's block of AES by OpenSSL's libcrypto, a context kept for each key.
+ *
+ *   share RUNS */
+#define _POSIX_C_SOURCE 200809L
+
+#include <openssl/evp.h>
+#include <stdio.h>
+#include <stdlib.h>
+#include <string.h>
+#include <time.h>
+
+#include "link.h"
+
+enum { MTU = 1500, LIMIT = 16, TAG = 16, ROW = 256, ROWS = 40, MOST_RUNS = 99, HEADER = 5 };
+
+/* Parts that are timed: the whole, the link's calls alone, the cipher alone. */
+enum { WHOLE, LAYER, CIPHER, PARTS };
+
+static const uint8_t key[16] = "the traffic key", number_key[16] = "the number key", iv[12] = {1, 2, 3, 4, 5, 6, 7, 8, 9, 10, 11, 12};
+static EVP_CIPHER_CTX *seals, *opens, *masks;
+
+static void need(int holds, const char *what)
+{
+    if (!holds) {
+        fprintf(stderr, "share: %s\n", what);
+        exit(1);
+    }
+}
+
+/* Nanoseconds that this thread has run. */
+static double cpu_time(void)
+{
+    struct timespec t;
+    clock_gettime(CLOCK_THREAD_CPUTIME_ID, &t);
+    return (double)t.tv_sec * 1e9 + (double)t.tv_nsec;
+}
+
+/* ---- the cipher */
+
+static EVP_CIPHER_CTX *context(const EVP_CIPHER *cipher, const uint8_t *k, int encrypt)
+{
+    EVP_CIPHER_CTX *c = EVP_CIPHER_CTX_new();
+    need(c != NULL && EVP_CipherInit_ex(c, cipher, NULL, k, NULL, encrypt) == 1, "libcrypto has no AES-128");
+    return c;
+}
+
+static void make_contexts(void)
+{
+    seals = context(EVP_aes_128_gcm(), key, 1);
+    opens = context(EVP_aes_128_gcm(), key, 0);
+    masks = context(EVP_aes_128_ecb(), number_key, 1);
+    EVP_CIPHER_CTX_set_padding(masks, 0);
+}
+
+/* Seals n bytes in place; the tag is put behind them. */
+static int seal_in_place(const uint8_t *nonce, const uint8_t *header, uint8_t *text, int n)
+{
+    int k;
+    return EVP_EncryptInit_ex(seals, NULL, NULL, NULL, nonce) == 1 && EVP_EncryptUpdate(seals, NULL, &k, header, HEADER) == 1
+        && EVP_EncryptUpdate(seals, text, &k, text, n) == 1 && EVP_EncryptFinal_ex(seals, text + n, &k) == 1
+        && EVP_CIPHER_CTX_ctrl(seals, EVP_CTRL_GCM_GET_TAG, TAG, text + n) == 1;
+}
+
+/* Opens n bytes in place, with the tag behind them. */
+static int open_in_place(const uint8_t *nonce, const uint8_t *header, uint8_t *text, int n)
+{
+    int k;
+    return EVP_DecryptInit_ex(opens, NULL, NULL, NULL, nonce) == 1 && EVP_DecryptUpdate(opens, NULL, &k, header, HEADER) == 1
+        && EVP_DecryptUpdate(opens, text, &k, text, n) == 1
+        && EVP_CIPHER_CTX_ctrl(opens, EVP_CTRL_GCM_SET_TAG, TAG, text + n) == 1
+        && EVP_DecryptFinal_ex(opens, text + n, &k) == 1;
+}
+
+static void mask_of(const uint8_t *sample, uint8_t block[16])
+{
+    int k;
+    need(EVP_EncryptUpdate(masks, block, &k, sample, 16) == 1, "no mask");
+}
+
+/* ---- sending */
+
+static LinkSending sending;
+static uint8_t queue[LIMIT * MTU], content[MTU], out[MTU];
+
+static size_t send_one(size_t n, int part)
+{
+    uint8_t block[16] = {0};
+    need(link_send(&sending, 3, 23, content, n, queue, sizeof queue) == 0, "a record is refused");
+    LinkSealing a = link_sealing(&sending);
+    if (part == WHOLE) {
+        need(seal_in_place(a.nonce, a.header, queue + a.start, (int)a.length - TAG), "a sealing failed");
+        mask_of(queue + a.start, block);
+    }
+    need(link_sealed(&sending, a.length, block[0], block[1], queue, sizeof queue) == 0, "a sealing is refused");
+    LinkTake t = link_take(&sending, out, sizeof out, queue, sizeof queue);
+    need(t.kind == LINK_TAKEN, "no datagram");
+    return t.length;
+}
+
+static void seal_one(size_t n)
+{
+    uint8_t block[16];
+    need(seal_in_place(iv, key, queue, (int)n + 1), "a sealing failed");
+    mask_of(queue, block);
+}
+
+/* Nanoseconds of a row of records sent. */
+static double send_row(size_t n, int part)
+{
+    double start = cpu_time();
+    for (int i = 0; i < ROW; i++)
+        if (part == CIPHER)
+            seal_one(n);
+        else
+            send_one(n, part);
+    return cpu_time() - start;
+}
+
+/* ---- reading */
+
+static LinkReceiving receiving;
+static uint8_t record[ROW][MTU];
+
+static void read_one(uint8_t *d, size_t n, int part)
+{
+    uint8_t block[16] = {0};
+    need(link_begin(&receiving, n) == 0, "a datagram is refused");
+    LinkReading r = link_read(&receiving, d, n);
+    need(r.kind == LINK_MASK, "no mask is asked for");
+    if (part == WHOLE)
+        mask_of(d + r.start, block);
+    r = link_mask(&receiving, block[0], block[1], d, n);
+    need(r.kind == LINK_OPENING, "no opening is asked for");
+    uint8_t *text = d + r.start + r.header_len;
+    int len = (int)r.length - TAG;
+    if (part == WHOLE)
+        need(open_in_place(r.nonce, d + r.start, text, len), "an opening failed");
+    r = link_opened(&receiving, 1, (size_t)len, d, n);
+    need(r.kind == LINK_OPENED && r.length + 1 == (size_t)len, "a record is not opened");
+}
+
+static void open_one(uint8_t *d, size_t n)
+{
+    uint8_t block[16];
+    mask_of(d + HEADER, block);
+    need(open_in_place(iv, d, d + HEADER, (int)n + 1), "an opening failed");
+}
+
+/* A row of records: for the whole as they are sent, for the link's calls as they are before sealing, for the cipher under one nonce. */
+static void make_row(size_t n, int part)
+{
+    for (int i = 0; i < ROW; i++) {
+        size_t len = send_one(n, part == WHOLE ? WHOLE : LAYER);
+        memcpy(record[i], out, len);
+        if (part == CIPHER)
+            need(seal_in_place(iv, record[i], record[i] + HEADER, (int)n + 1), "a sealing failed");
+    }
+}
+
+/* Nanoseconds of a row of records read. */
+static double read_row(size_t n, int part)
+{
+    make_row(n, part);
+    double start = cpu_time();
+    for (int i = 0; i < ROW; i++)
+        if (part == CIPHER)
+            open_one(record[i], n);
+        else
+            read_one(record[i], HEADER + n + 1 + TAG, part);
+    return cpu_time() - start;
+}
+
+/* ---- runs */
+
+static void fresh(void)
+{
+    need(link_sending(&sending, MTU, LIMIT) == 0 && link_key_send(&sending, 3, iv) == 0, "no sending side");
+    need(link_receiving(&receiving, TAG) == 0 && link_key_receive(&receiving, 3, iv) == 0
+            && link_enable_peer_encryption(&receiving) == 0 && link_release_application_data(&receiving) == 0,
+        "no receive side");
+}
+
+/* A row with the stack further down: times depend on where it lies. */
+static double at_place(int i, double (*row)(size_t, int), size_t n, int part)
+{
+    volatile uint8_t shift[64 * (1 + i * 13 % 41)];
+    shift[0] = 0;
+    double time = row(n, part);
+    (void)shift[0];
+    return time;
+}
+
+/* A run: nanoseconds a record of each part, by turns, each turn at another place. */
+static void run(double (*row)(size_t, int), size_t n, double time[PARTS])
+{
+    memset(time, 0, PARTS * sizeof *time);
+    fresh();
+    for (int i = 0; i < ROWS; i++)
+        for (int part = 0; part < PARTS; part++)
+            time[part] += at_place(i, row, n, part) / ROW / ROWS;
+}
+
+static int by_value(const void *a, const void *b)
+{
+    double x = *(const double *)a, y = *(const double *)b;
+    return (x > y) - (x < y);
+}
+
+static void spread(const char *what, double *share, int runs)
+{
+    qsort(share, (size_t)runs, sizeof *share, by_value);
+    printf("   %s %4.1f %% (%.1f to %.1f)", what, share[runs / 2], share[0], share[runs - 1]);
+}
+
+static void tell(const char *what, double (*row)(size_t, int), size_t n, int runs)
+{
+    double least[PARTS] = {1e18, 1e18, 1e18}, share[MOST_RUNS], rest[MOST_RUNS];
+    for (int i = 0; i < runs; i++) {
+        double time[PARTS];
+        run(row, n, time);
+        for (int part = 0; part < PARTS; part++)
+            least[part] = time[part] < least[part] ? time[part] : least[part];
+        share[i] = 100 * time[LAYER] / time[WHOLE];
+        rest[i] = 100 * (1 - time[CIPHER] / time[WHOLE]);
+    }
+    printf("%s a record of %-5zu whole %6.1f ns   link %5.1f ns   cipher %6.1f ns", what, n, least[WHOLE], least[LAYER], least[CIPHER]);
+    spread("share", share, runs);
+    spread("whole less cipher", rest, runs);
+    printf("\n");
+}
+
+int main(int argc, char **argv)
+{
+    static const size_t sizes[] = {16, 200, 1200};
+    int runs = argc > 1 ? atoi(argv[1]) : 9;
+    need(runs > 0 && runs <= MOST_RUNS, "RUNS is 1 to 99");
+    make_contexts();
+    for (size_t i = 0; i < 3; i++)
+        tell("read", read_row, sizes[i], runs);
+    for (size_t i = 0; i < 3; i++)
+        tell("send", send_row, sizes[i], runs);
+    return 0;
+}
