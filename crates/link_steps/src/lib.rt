@@ -10,7 +10,7 @@ ghost use Rattle.record.specs.Record.{parsed};
 ghost use Rattle.records.specs.Records.{lockedStep, sealedStep, stepOf, askedAgain, asking, readStep};
 ghost use Rattle.recv_keys.specs.Keys.{find, resolve, isFull};
 ghost use Rattle.recv_keys.specs.declared.RecvKeys.{RecvKeys};
-ghost use Rattle.link_words.specs.Words.{keysOf};
+ghost use Rattle.link_words.specs.Words.{keysOf, datagramOf};
 ghost use Rattle.link_steps.specs.Opens.{opens};
 use datagram::Ask;
 use datagram::Datagram;
@@ -118,7 +118,7 @@ fn ask_again(w: &[u64; 89], b: Datagram, a: Ask, number: u64) -> Step
 }
 
 // The record at the cursor, where no question waits.
-fn go_on(w: &[u64; 89], b: Datagram, d: &[u8]) -> Step
+pub fn go_on(w: &[u64; 89], b: Datagram, d: &[u8]) -> Step
     requires { ⌜ (keysOf (now w) .count ≤ 5) × (b .at ≤ length (now d)) × (length (now d) ≤ 16384) ⌝ }
     ensures { λ t. ⌜ t ≡ asking Question.Nothing (keysOf (now (w .entry))) b (now (d .entry)) ⌝ }
 {
@@ -127,6 +127,7 @@ fn go_on(w: &[u64; 89], b: Datagram, d: &[u8]) -> Step
 
 // One record of the datagram begun, or the question that waits again.
 pub fn read_step(w: &[u64; 89], b: Datagram, d: &[u8]) -> Step
+    requires { ⌜ b ≡ datagramOf (now w) ⌝ }
     ensures { λ t. ⌜ t ≡ readStep (keysOf (now (w .entry))) b (now (d .entry)) ⌝ }
 {
     if link_words::is_sound(w, b) {
@@ -166,6 +167,7 @@ fn mask_by(w: &[u64; 89], b: Datagram, a: Ask, mask: [u8; 2], d: &mut [u8]) -> S
 
 // The reply to a mask question.
 pub fn mask_step(w: &[u64; 89], b: Datagram, mask: [u8; 2], d: &mut [u8]) -> Step
+    requires { ⌜ b ≡ datagramOf (now w) ⌝ }
     ensures { λ r. ⌜ (r ≡ maskStep (keysOf (now (w .entry))) b mask (now (d .entry)) .0) × (now (d .exit) ≡ maskStep (keysOf (now (w .entry))) b mask (now (d .entry)) .1) ⌝ }
 {
     if link_words::is_sound(w, b) {
@@ -237,6 +239,7 @@ fn open_by(w: &[u64; 89], b: Datagram, a: Ask, number: u64, o: Opening, d: &[u8]
 
 // The reply to an opening question.
 pub fn opened_step(w: &[u64; 89], b: Datagram, o: Opening, d: &[u8]) -> Opened
+    requires { ⌜ b ≡ datagramOf (now w) ⌝ }
     ensures { λ r. ⌜ (opens r (keysOf (now (w .entry))) ≡ openedStep (keysOf (now (w .entry))) b o (now (d .entry))) × (r .place < 5) ⌝ }
 {
     if link_words::is_sound(w, b) {

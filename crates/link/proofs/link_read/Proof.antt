@@ -13,7 +13,7 @@ datagram-of-requires : tie.Need-datagram-of-requires
 datagram-of-requires c κs = search needs
 
 read-step-requires : tie.Need-read-step-requires
-read-step-requires c κs = search needs
+read-step-requires c κs = c .before .datagram-of .ensures
 
 settle-requires : tie.Need-settle-requires
 settle-requires c κs = (sym (c .before .before .before .before .before .before .is-flat .ensures) ∙ c .before .before .before .before .before .if1 .taken)

@@ -9,7 +9,7 @@ use Rattle.records.specs.Leads.{read-asks, read-other, read-out}
 use Rattle.records.specs.Records.{asking}
 
 is-sound-requires : tie.Need-is-sound-requires
-is-sound-requires c κs = search needs
+is-sound-requires c κs = c .before .pre
 
 enum-told : tie.Need-enum-told
 enum-told c = search needs
