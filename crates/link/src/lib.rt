@@ -1,13 +1,13 @@
 // The receive side of a link as C functions: a static library for hosts. The state is 89 words that the host keeps and lends; a call
 // changes them in place and copies none of them. Whatever stands in them, a call ends with an answer.
 ghost use mathlib.Core.Path.{_≡_};
-ghost use Prim.Native.Nat.{_≤_, _<_};
+ghost use Prim.Native.Nat.{_<_};
 ghost use lib.ListN.{length};
 ghost use mathlib.Core.Bool.{true};
 ghost use Rattle.receiving.specs.Receiving.{freshOf, keyOf, removeOf, encryptOf, releaseOf, beginOf, readOf, maskOf, openedOf};
-ghost use Rattle.datagram.specs.Datagram.{begun, isSound};
 ghost use Rattle.records.specs.Records.{readStep};
-ghost use Rattle.link_words.specs.Words.{keysOf, datagramOf, isFlat};
+ghost use Rattle.link_words.specs.Words.{keysOf, isFlat};
+ghost use Rattle.link_steps.specs.Goes.{Goes};
 ghost use Rattle.link_steps.specs.Opens.{opens};
 ghost use Rattle.link.specs.Flat.{answerOf, reasonOf, bare, flatReading, openingOf};
 ghost use Rattle.link_calls.specs.Kept.{stateOf};
@@ -274,17 +274,11 @@ pub extern "C" fn link_begin(w: &mut [u64; 89], n: usize) -> u8
     12
 }
 
-// The first record of a datagram, as of one just begun.
-fn read_first(w: &mut [u64; 89], d: &[u8]) -> LinkReading
-    requires { ⌜ (isFlat (now w) ≡ true) × (isSound (keysOf (now w)) (datagramOf (now w)) ≡ true) × (length (now d) ≤ 16384) ⌝ }
-    ensures { λ r. ⌜ Stepped r (now (w .exit)) (now (w .entry)) (readStep (keysOf (now (w .entry))) (begun (length (now (d .entry)))) (now (d .entry))) ⌝ }
+// The record at the cursor of a datagram, where no question waits.
+fn read_on(w: &mut [u64; 89], b: Datagram, d: &[u8]) -> LinkReading
+    requires { ⌜ (isFlat (now w) ≡ true) × Goes (keysOf (now w)) b (length (now d)) ⌝ }
+    ensures { λ r. ⌜ Stepped r (now (w .exit)) (now (w .entry)) (readStep (keysOf (now (w .entry))) b (now (d .entry))) ⌝ }
 {
-    let b = Datagram {
-        size: d.len(),
-        at: 0,
-        readings: 0,
-        question: Question::Nothing,
-    };
     let t = link_steps::go_on(w, b, d);
     settle(w, t)
 }
@@ -300,7 +294,13 @@ pub extern "C" fn link_begin_read(w: &mut [u64; 89], d: &[u8]) -> LinkReading
             if 16384 < d.len() {
                 return told(0, 1);
             }
-            return read_first(w, d);
+            let first = Datagram {
+                size: d.len(),
+                at: 0,
+                readings: 0,
+                question: Question::Nothing,
+            };
+            return read_on(w, first, d);
         }
         return told(0, 12);
     }
@@ -314,7 +314,10 @@ pub extern "C" fn link_read(w: &mut [u64; 89], d: &[u8]) -> LinkReading
 {
     if link_words::is_flat(w) {
         let b = link_words::datagram_of(w);
-        let t = link_steps::read_step(w, b, d);
+        if link_steps::goes_on(w, b, d.len()) {
+            return read_on(w, b, d);
+        }
+        let t = link_steps::wait_step(w, b, d);
         return settle(w, t);
     }
     told(0, 12)

@@ -11,6 +11,7 @@ ghost use Rattle.records.specs.Records.{lockedStep, sealedStep, stepOf, askedAg
 ghost use Rattle.recv_keys.specs.Keys.{find, resolve, isFull};
 ghost use Rattle.recv_keys.specs.declared.RecvKeys.{RecvKeys};
 ghost use Rattle.link_words.specs.Words.{keysOf, datagramOf};
+ghost use Rattle.link_steps.specs.Goes.{goesOn, Goes};
 ghost use Rattle.link_steps.specs.Opens.{opens};
 use datagram::Ask;
 use datagram::Datagram;
@@ -125,9 +126,29 @@ pub fn go_on(w: &[u64; 89], b: Datagram, d: &[u8]) -> Step
     one_record(w, b, base::behind(d, b.at))
 }
 
-// One record of the datagram begun, or the question that waits again.
-pub fn read_step(w: &[u64; 89], b: Datagram, d: &[u8]) -> Step
+// Whether the cut goes on: no question waits, and the datagram is the one begun.
+pub fn goes_on(w: &[u64; 89], b: Datagram, n: usize) -> bool
     requires { ⌜ b ≡ datagramOf (now w) ⌝ }
+    ensures { λ r. ⌜ r ≡ goesOn (keysOf (now (w .entry))) b n ⌝ }
+{
+    if link_words::is_sound(w, b) {
+        let size = b.size;
+        if n == size {
+            let q = b.question;
+            return match q {
+                Question::Nothing => true,
+                Question::Mask(_) => false,
+                Question::Opening(_, _) => false,
+            };
+        }
+        return false;
+    }
+    false
+}
+
+// What a read says where the cut does not go on: 12, 15, or the question that waits again.
+pub fn wait_step(w: &[u64; 89], b: Datagram, d: &[u8]) -> Step
+    requires { ⌜ (b ≡ datagramOf (now w)) × (Goes (keysOf (now w)) b (length (now d)) → ⊥) ⌝ }
     ensures { λ t. ⌜ t ≡ readStep (keysOf (now (w .entry))) b (now (d .entry)) ⌝ }
 {
     if link_words::is_sound(w, b) {
@@ -136,7 +157,7 @@ pub fn read_step(w: &[u64; 89], b: Datagram, d: &[u8]) -> Step
         if d.len() == size {
             let q = b.question;
             return match q {
-                Question::Nothing => go_on(w, b, d),
+                Question::Nothing => datagram::tell(b, Reading::End),
                 Question::Mask(a) => datagram::tell(
                     b,
                     Reading::Mask {

@@ -5,8 +5,8 @@ use mathlib.Core.Path.{_≡_, refl, sym, ap, _∙_}
 use Rattle.base.specs.Choose.{if-true, if-false}
 use Rattle.receiving.specs.Receiving.{beginOf}
 use Rattle.receiving.specs.declared.Answer.the-variants as answers
-use Rattle.link.specs.Calls.{BeginsRead}
-use Rattle.link.specs.Laws.{first-refused, first-read}
+use Rattle.link_steps.specs.Goes.{Goes}
+use Rattle.link.specs.Laws.{begun-sound, first-refused, first-read}
 use Rattle.link.proofs.link_begin_read.Statement.{statement}
 use Rattle.link.proofs.link_begin_read.Tie as tie
 
@@ -26,11 +26,11 @@ returns : tie.Need-returns
 unfolding beginOf
 returns c = first-refused answers.TooLong _ _ (c .before .before .before .before .before .before .before .before .before .before .before .args .d .now) (c .told .ensures) refl (sym (c .before .before .before .before .before .before .before .before .is-flat .ensures) ∙ c .before .before .before .before .before .before .before .if1 .taken) (if-true _ _ (sym (rw (c .before .before .before .before .before .datagram-of .ensures) at (c .before .before .before .is-sound .ensures)) ∙ c .before .before .if2 .taken) ∙ if-true _ _ (lt-ltb _ _ (c .before .if3 .taken)))
 
-read-first-requires : tie.Need-read-first-requires
-read-first-requires c κs = (sym (c .before .before .before .before .before .before .before .before .is-flat .ensures) ∙ c .before .before .before .before .before .before .before .if1 .taken, sym (rw (c .before .before .before .before .before .datagram-of .ensures) at (c .before .before .before .is-sound .ensures)) ∙ c .before .before .if2 .taken, c .before .if3 .left)
+read-on-requires : tie.Need-read-on-requires
+read-on-requires c κs = (sym (c .before .before .before .before .before .before .before .before .is-flat .ensures) ∙ c .before .before .before .before .before .before .before .if1 .taken, record { sound = begun-sound _ _ _ (sym (c .before .before .before .is-sound .ensures) ∙ c .before .before .if2 .taken) (c .before .if3 .left); size = refl; idle = refl })
 
 returns-2 : tie.Need-returns-2
-returns-2 c = first-read _ _ _ (c .before .before .before .before .before .before .before .before .before .before .before .before .args .d .now) (sym (rw (c .before .before .before .before .before .before .datagram-of .ensures) at (c .before .before .before .before .is-sound .ensures)) ∙ c .before .before .before .if2 .taken) (c .before .before .if3 .left) (sym (c .before .before .before .before .before .before .before .before .before .is-flat .ensures) ∙ c .before .before .before .before .before .before .before .before .if1 .taken) (c .read-first .ensures)
+returns-2 c = first-read _ _ _ (c .before .before .before .before .before .before .before .before .before .before .before .before .args .d .now) (sym (rw (c .before .before .before .before .before .before .datagram-of .ensures) at (c .before .before .before .before .is-sound .ensures)) ∙ c .before .before .before .if2 .taken) (c .before .before .if3 .left) (sym (c .before .before .before .before .before .before .before .before .before .is-flat .ensures) ∙ c .before .before .before .before .before .before .before .before .if1 .taken) (c .read-on .ensures)
 
 told-requires-2 : tie.Need-told-requires-2
 told-requires-2 c κs = search needs
@@ -54,7 +54,7 @@ link-begin-read-spec =
     is-sound-requires
     told-requires
     returns
-    read-first-requires
+    read-on-requires
     returns-2
     told-requires-2
     returns-3
