@@ -225,7 +225,7 @@ fn open_yes(b: Datagram, a: Ask, number: u64, i: usize, len: usize, d: &[u8]) ->
 {
     if len == a.length - 16 {
         let start = b.at + a.header_len;
-        let inner = incoming::recover_inner_content_type(base::fragment(d, start, len));
+        let inner = incoming::find_inner_content_type(base::fragment(d, start, len));
         return Opened {
             step: opening_reply::type_step(b, a, number, inner),
             marks: true,
