@@ -125,8 +125,7 @@ static uint8_t record[ROW][MTU];
 static void read_one(uint8_t *d, size_t n, int part)
 {
     uint8_t block[16] = {0};
-    need(link_begin(&receiving, n) == 0, "a datagram is refused");
-    LinkReading r = link_read(&receiving, d, n);
+    LinkReading r = link_begin_read(&receiving, d, n);
     need(r.kind == LINK_MASK, "no mask is asked for");
     if (part == WHOLE)
         mask_of(d + r.start, block);

@@ -118,8 +118,7 @@ static void longest_padding(void)
     link_release_application_data(&s);
     for (uint8_t i = 0; i < 2; i++) {
         d[1] = i;
-        link_begin(&s, sizeof d);
-        link_read(&s, d, sizeof d);
+        link_begin_read(&s, d, sizeof d);
         LinkReading r = link_mask(&s, 0, 0, d, sizeof d);
         r = link_opened(&s, 1, r.length - 16, d, sizeof d);
         if (r.kind != LINK_DROPPED) {

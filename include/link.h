@@ -58,6 +58,8 @@ uint8_t link_begin(LinkReceiving *s, size_t n);
  * call. The mask is XORed onto the number bytes in place. opened is 1 if the host put the plaintext, length bytes (16 fewer than the
  * protected part), at the start of the protected part, else 0. */
 LinkReading link_read(LinkReceiving *s, const uint8_t *d, size_t n);
+/* Begins a datagram and reads its first record in one call; a refused beginning is kind 0 with 1 or 12. */
+LinkReading link_begin_read(LinkReceiving *s, const uint8_t *d, size_t n);
 LinkReading link_mask(LinkReceiving *s, uint8_t mask_0, uint8_t mask_1, uint8_t *d, size_t n);
 LinkReading link_opened(LinkReceiving *s, uint8_t opened, size_t length, const uint8_t *d, size_t n);
 

@@ -2,7 +2,7 @@
 -- content type; what precedes it" the content), and its laws. Assumes nothing.
 use mathlib.Core.List.{List, [], _∷_, _++_, reverse, reverse-append, reverse-reverse, append-assoc, append-nil, reverseAux-eq}
 use mathlib.Core.Path.{_≡_, refl, sym, ap, subst, _∙_}
-use Prim.Native.Nat.{ℕ, zero, suc, _-_, _≤_}
+use Prim.Native.Nat.{ℕ, zero, suc, _-_, _≤_, _<_}
 use native.Mathlib.Omega.{arith}
 use lib.ListN.{length, take, getD, replicate, length-reverse}
 use lib.Seq.{take-suc, length-take-le}
@@ -115,3 +115,15 @@ inner-last d n ne h typed =
     sym
     (ap innerOf (take-last d n ne h) ∙ inner-type (take (n - 1) d) (getD d (n - 1) 0) typed
     ∙ ap (inner.Found (getD d (n - 1) 0)) (length-take-le (n - 1) d (omega arith)))
+
+-- ---- zeros cut off one by one: n bytes are left
+
+module _ (d : List ℕ) (n : ℕ) (e : innerOf (take n d) ≡ innerOf d) where
+  pub cut-none : n ≤ 0 → inner.Nothing ≡ innerOf d
+  cut-none h = inner-none d n (omega arith) ∙ e
+
+  pub cut-zero : 0 < n → n ≤ length d → getD d (n - 1) 0 ≡ 0 → innerOf (take (n - 1) d) ≡ innerOf d
+  cut-zero some h z = inner-less d n (λ (w : n ≡ 0). omega arith) h z ∙ e
+
+  pub cut-last : 0 < n → n ≤ length d → (getD d (n - 1) 0 ≡ 0 → ⊥) → inner.Found (getD d (n - 1) 0) (n - 1) ≡ innerOf d
+  cut-last some h t = inner-last d n (λ (w : n ≡ 0). omega arith) h t ∙ e

@@ -10,7 +10,7 @@ pub enum Inner {
     Nothing,
 }
 
-// The same of the first n bytes.
+// The same of the first n bytes, as a recursion on their number: a stack frame for each zero.
 fn strip(decrypted: &[u8], n: usize) -> Inner
     requires { ⌜ n ≤ length (now decrypted) ⌝ }
     ensures { λ r. ⌜ r ≡ innerOf (take n (now (decrypted .entry))) ⌝ }
@@ -34,4 +34,23 @@ pub fn recover_inner_content_type(decrypted: &[u8]) -> Inner
     ensures { λ r. ⌜ r ≡ innerOf (now (decrypted .entry)) ⌝ }
 {
     strip(decrypted, decrypted.len())
+}
+
+// The same in a loop, whose stack does not grow with the padding.
+pub fn find_inner_content_type(decrypted: &[u8]) -> Inner
+    ensures { λ r. ⌜ r ≡ innerOf (now (decrypted .entry)) ⌝ }
+{
+    let mut n = decrypted.len();
+    while 0 < n {
+        let last = n - 1;
+        let byte = decrypted[last];
+        if byte != 0 {
+            return Inner::Found {
+                content_type: byte,
+                length: last,
+            };
+        }
+        n = last;
+    }
+    Inner::Nothing
 }

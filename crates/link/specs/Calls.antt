@@ -4,10 +4,11 @@ use mathlib.Core.Bool.{Bool, true}
 use mathlib.Core.List.{List, [], _∷_}
 use mathlib.Core.Path.{_≡_}
 use Prim.Native.Nat.{ℕ}
-use lib.Dec.{leb}
+use lib.Dec.{leb, eqb}
+use lib.ListN.{length}
 use Rattle.base.specs.Choose.{choose, both}
 use Rattle.datagram.specs.declared.Step.{Step}
-use Rattle.receiving.specs.Receiving.{maskOf}
+use Rattle.receiving.specs.Receiving.{beginOf, readOf, maskOf}
 use Rattle.receiving.specs.declared.Kept.{Kept}
 use Rattle.receiving.specs.declared.Read.{Read}
 use Rattle.receiving.specs.declared.Receiving.{Receiving}
@@ -27,6 +28,19 @@ abbrev pub Reads : LinkReading → List ℕ → List ℕ → Read → Type 0
 Reads r v w k =
     (r ≡ choose (isFlat w) (flatReading (k .reading) (k .nonce)) (bare 0 12)) × (stateOf v ≡ choose (isFlat w) (k .state) (stateOf w))
     × (isFlat v ≡ isFlat w)
+
+-- a beginning, and behind it the first record read; a refused one is told by its number
+unfoldable pub firstReading : Kept → List ℕ → LinkReading
+firstReading k d =
+    choose (eqb (answerOf (k .answer)) 0) (flatReading (readOf (k .state) d .reading) (readOf (k .state) d .nonce)) (bare 0 (answerOf (k .answer)))
+
+unfoldable pub firstState : Kept → List ℕ → Receiving
+firstState k d = choose (eqb (answerOf (k .answer)) 0) (readOf (k .state) d .state) (k .state)
+
+abbrev pub BeginsRead : LinkReading → List ℕ → List ℕ → List ℕ → Type 0
+BeginsRead r v w d =
+    (r ≡ choose (isFlat w) (firstReading (beginOf (stateOf w) (length d)) d) (bare 0 12))
+    × (stateOf v ≡ choose (isFlat w) (firstState (beginOf (stateOf w) (length d)) d) (stateOf w)) × (isFlat v ≡ isFlat w)
 
 abbrev pub Stepped : LinkReading → List ℕ → List ℕ → Step → Type 0
 Stepped r v w t =

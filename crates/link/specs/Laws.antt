@@ -2,7 +2,8 @@
 use mathlib.Core.Bool.{Bool, true, false}
 use mathlib.Core.List.{List}
 use mathlib.Core.Path.{_≡_, refl, sym, ap, subst, _∙_}
-use Prim.Native.Nat.{ℕ, _<_}
+use Prim.Native.Nat.{ℕ, _≤_, _<_}
+use native.Mathlib.Omega.{arith}
 use lib.Dec.{leb, eqb}
 use lib.ListN.{length, getD}
 use Rattle.base.specs.Choose.{choose, both, if-true, if-false, both-true, both-false}
@@ -13,11 +14,15 @@ use Rattle.datagram.specs.declared.Reading.{Reading}
 use Rattle.datagram.specs.declared.Step.{Step}
 use Rattle.opening_reply.specs.Opening.{shownBy}
 use Rattle.recv_keys.specs.Keys.{noEntry, marked, fresh}
-use Rattle.datagram.specs.Datagram.{begun}
+use Rattle.datagram.specs.Datagram.{begun, questionSound, isSound}
+use Rattle.datagram.specs.Sound.{ready, is-ready}
 use Rattle.link_words.specs.Entries.{freshWords, starts}
 use Rattle.recv_keys.specs.declared.RecvEpochEntry.{RecvEpochEntry}
 use Rattle.recv_keys.specs.declared.RecvKeys.{RecvKeys}
-use Rattle.receiving.specs.Receiving.{made, stepped}
+use Rattle.receiving.specs.Laws.{begin-cancels}
+use Rattle.receiving.specs.Receiving.{sound, kept, made, stepped, beginOf}
+use Rattle.receiving.specs.declared.Answer.the-variants as answers
+use Rattle.records.specs.Records.{readStep}
 use Rattle.receiving.specs.declared.Answer.{Answer}
 use Rattle.receiving.specs.declared.Kept.{Kept}
 use Rattle.receiving.specs.declared.Receiving.{Receiving}
@@ -27,7 +32,7 @@ use Rattle.link_words.specs.Words.{windowAt, entriesOf, keysOf, datagramOf, isF
 use Rattle.link_words.specs.Laws.{entry-at, mark-put}
 use Rattle.link.specs.Flat.{answerOf, bare, flatReading}
 use Rattle.link_calls.specs.Kept.{stateOf, Kept-as}
-use Rattle.link.specs.Calls.{Does, Reads, Stepped, OpenedAs}
+use Rattle.link.specs.Calls.{Does, Reads, firstReading, firstState, BeginsRead, Stepped, OpenedAs}
 use Rattle.link.specs.declared.LinkReading.{LinkReading}
 
 -- ---- calls that read nothing
@@ -55,6 +60,34 @@ opened r v u w o keys t s l f h p e = (
   state-by v (h .1 ∙ p) (h .2 ∙ ap (λ (x : Step). x .datagram) e) ∙ sym (if-true _ _ (both-true l ∙ f)),
   h .3 ∙ sym f,
 )
+
+-- ---- a datagram begun, and its first record read
+
+-- a datagram just begun is in range where its length is
+pub begun-sound : (k : RecvKeys) (b : Datagram) (n : ℕ) → isSound k b ≡ true → n ≤ 16384 → isSound k (begun n) ≡ true
+unfolding questionSound
+begun-sound k b n t h =
+    is-ready k (begun n) (record { keys = ready k b t .keys; size = h; at = omega arith; readings = omega arith; question = refl })
+
+-- refused: the state as it was
+pub first-refused : (a : Answer) (r : LinkReading) (w d : List ℕ) → r ≡ bare 0 (answerOf a) → eqb (answerOf a) 0 ≡ false → isFlat w ≡ true → beginOf (stateOf w) (length d) ≡ kept (stateOf w) a
+    → BeginsRead r w w d
+unfolding firstReading firstState
+first-refused a r w d q e f k = (
+  q ∙ sym (if-true _ _ f ∙ ap (λ (x : Kept). firstReading x d) k ∙ if-false _ _ e),
+  sym (if-true _ _ f ∙ ap (λ (x : Kept). firstState x d) k ∙ if-false _ _ e),
+  refl,
+)
+
+pub first-read : (r : LinkReading) (v w d : List ℕ) → sound (stateOf w) ≡ true → length d ≤ 16384 → isFlat w ≡ true
+    → Stepped r v w (readStep (keysOf w) (begun (length d)) d) → BeginsRead r v w d
+unfolding firstReading firstState
+first-read r v w d t l f h =
+    let k = begin-cancels (stateOf w) (length d) t l in (
+      h .0 ∙ sym (if-true _ _ f ∙ ap (λ (x : Kept). firstReading x d) k ∙ if-true _ _ refl),
+      state-by v (h .1) (h .2) ∙ sym (if-true _ _ f ∙ ap (λ (x : Kept). firstState x d) k ∙ if-true _ _ refl),
+      h .3 ∙ sym f,
+    )
 
 -- a window that is marked
 pub marks-at : (i n : ℕ) (w : List ℕ) (u v : ReplayWindow) → i < 5 → length w ≡ 89 → u ≡ getD (entriesOf w) i noEntry .replay → v ≡ marking width u n

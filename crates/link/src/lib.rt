@@ -2,13 +2,18 @@
 // changes them in place and copies none of them. Whatever stands in them, a call ends with an answer.
 ghost use mathlib.Core.Path.{_≡_};
 ghost use Prim.Native.Nat.{_<_};
+ghost use lib.ListN.{length};
 ghost use mathlib.Core.Bool.{true};
 ghost use Rattle.receiving.specs.Receiving.{freshOf, keyOf, removeOf, encryptOf, releaseOf, beginOf, readOf, maskOf, openedOf};
+ghost use Rattle.records.specs.Records.{readStep};
 ghost use Rattle.link_words.specs.Words.{keysOf, isFlat};
+ghost use Rattle.link_steps.specs.Goes.{Goes};
 ghost use Rattle.link_steps.specs.Opens.{opens};
 ghost use Rattle.link.specs.Flat.{answerOf, reasonOf, bare, flatReading, openingOf};
 ghost use Rattle.link_calls.specs.Kept.{stateOf};
-ghost use Rattle.link.specs.Calls.{Stepped, Does, Reads, masks, maskBytesOf, OpenedAs};
+ghost use Rattle.link.specs.Calls.{Stepped, Does, Reads, BeginsRead, masks, maskBytesOf, OpenedAs};
+use datagram::Datagram;
+use datagram::Question;
 use datagram::Reading;
 use datagram::Reason;
 use datagram::Step;
@@ -269,6 +274,39 @@ pub extern "C" fn link_begin(w: &mut [u64; 89], n: usize) -> u8
     12
 }
 
+// The record at the cursor of a datagram, where no question waits.
+fn read_on(w: &mut [u64; 89], b: Datagram, d: &[u8]) -> LinkReading
+    requires { ⌜ (isFlat (now w) ≡ true) × Goes (keysOf (now w)) b (length (now d)) ⌝ }
+    ensures { λ r. ⌜ Stepped r (now (w .exit)) (now (w .entry)) (readStep (keysOf (now (w .entry))) b (now (d .entry))) ⌝ }
+{
+    let t = link_steps::go_on(w, b, d);
+    settle(w, t)
+}
+
+// Begins a datagram and reads its first record, in one call. A refused beginning is told by its number, 1 or 12.
+#[no_mangle]
+pub extern "C" fn link_begin_read(w: &mut [u64; 89], d: &[u8]) -> LinkReading
+    ensures { λ r. ⌜ BeginsRead r (now (w .exit)) (now (w .entry)) (now (d .entry)) ⌝ }
+{
+    if link_words::is_flat(w) {
+        let b = link_words::datagram_of(w);
+        if link_words::is_sound(w, b) {
+            if 16384 < d.len() {
+                return told(0, 1);
+            }
+            let first = Datagram {
+                size: d.len(),
+                at: 0,
+                readings: 0,
+                question: Question::Nothing,
+            };
+            return read_on(w, first, d);
+        }
+        return told(0, 12);
+    }
+    told(0, 12)
+}
+
 // One record of the datagram begun, or the question that waits again.
 #[no_mangle]
 pub extern "C" fn link_read(w: &mut [u64; 89], d: &[u8]) -> LinkReading
@@ -276,7 +314,10 @@ pub extern "C" fn link_read(w: &mut [u64; 89], d: &[u8]) -> LinkReading
 {
     if link_words::is_flat(w) {
         let b = link_words::datagram_of(w);
-        let t = link_steps::read_step(w, b, d);
+        if link_steps::goes_on(w, b, d.len()) {
+            return read_on(w, b, d);
+        }
+        let t = link_steps::wait_step(w, b, d);
         return settle(w, t);
     }
     told(0, 12)

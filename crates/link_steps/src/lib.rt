@@ -10,7 +10,8 @@ ghost use Rattle.record.specs.Record.{parsed};
 ghost use Rattle.records.specs.Records.{lockedStep, sealedStep, stepOf, askedAgain, asking, readStep};
 ghost use Rattle.recv_keys.specs.Keys.{find, resolve, isFull};
 ghost use Rattle.recv_keys.specs.declared.RecvKeys.{RecvKeys};
-ghost use Rattle.link_words.specs.Words.{keysOf};
+ghost use Rattle.link_words.specs.Words.{keysOf, datagramOf};
+ghost use Rattle.link_steps.specs.Goes.{goesOn, Goes};
 ghost use Rattle.link_steps.specs.Opens.{opens};
 use datagram::Ask;
 use datagram::Datagram;
@@ -118,15 +119,36 @@ fn ask_again(w: &[u64; 89], b: Datagram, a: Ask, number: u64) -> Step
 }
 
 // The record at the cursor, where no question waits.
-fn go_on(w: &[u64; 89], b: Datagram, d: &[u8]) -> Step
+pub fn go_on(w: &[u64; 89], b: Datagram, d: &[u8]) -> Step
     requires { ⌜ (keysOf (now w) .count ≤ 5) × (b .at ≤ length (now d)) × (length (now d) ≤ 16384) ⌝ }
     ensures { λ t. ⌜ t ≡ asking Question.Nothing (keysOf (now (w .entry))) b (now (d .entry)) ⌝ }
 {
     one_record(w, b, base::behind(d, b.at))
 }
 
-// One record of the datagram begun, or the question that waits again.
-pub fn read_step(w: &[u64; 89], b: Datagram, d: &[u8]) -> Step
+// Whether the cut goes on: no question waits, and the datagram is the one begun.
+pub fn goes_on(w: &[u64; 89], b: Datagram, n: usize) -> bool
+    requires { ⌜ b ≡ datagramOf (now w) ⌝ }
+    ensures { λ r. ⌜ r ≡ goesOn (keysOf (now (w .entry))) b n ⌝ }
+{
+    if link_words::is_sound(w, b) {
+        let size = b.size;
+        if n == size {
+            let q = b.question;
+            return match q {
+                Question::Nothing => true,
+                Question::Mask(_) => false,
+                Question::Opening(_, _) => false,
+            };
+        }
+        return false;
+    }
+    false
+}
+
+// What a read says where the cut does not go on: 12, 15, or the question that waits again.
+pub fn wait_step(w: &[u64; 89], b: Datagram, d: &[u8]) -> Step
+    requires { ⌜ (b ≡ datagramOf (now w)) × (Goes (keysOf (now w)) b (length (now d)) → ⊥) ⌝ }
     ensures { λ t. ⌜ t ≡ readStep (keysOf (now (w .entry))) b (now (d .entry)) ⌝ }
 {
     if link_words::is_sound(w, b) {
@@ -135,7 +157,7 @@ pub fn read_step(w: &[u64; 89], b: Datagram, d: &[u8]) -> Step
         if d.len() == size {
             let q = b.question;
             return match q {
-                Question::Nothing => go_on(w, b, d),
+                Question::Nothing => datagram::tell(b, Reading::End),
                 Question::Mask(a) => datagram::tell(
                     b,
                     Reading::Mask {
@@ -166,6 +188,7 @@ fn mask_by(w: &[u64; 89], b: Datagram, a: Ask, mask: [u8; 2], d: &mut [u8]) -> S
 
 // The reply to a mask question.
 pub fn mask_step(w: &[u64; 89], b: Datagram, mask: [u8; 2], d: &mut [u8]) -> Step
+    requires { ⌜ b ≡ datagramOf (now w) ⌝ }
     ensures { λ r. ⌜ (r ≡ maskStep (keysOf (now (w .entry))) b mask (now (d .entry)) .0) × (now (d .exit) ≡ maskStep (keysOf (now (w .entry))) b mask (now (d .entry)) .1) ⌝ }
 {
     if link_words::is_sound(w, b) {
@@ -202,7 +225,7 @@ fn open_yes(b: Datagram, a: Ask, number: u64, i: usize, len: usize, d: &[u8]) ->
 {
     if len == a.length - 16 {
         let start = b.at + a.header_len;
-        let inner = incoming::recover_inner_content_type(base::fragment(d, start, len));
+        let inner = incoming::find_inner_content_type(base::fragment(d, start, len));
         return Opened {
             step: opening_reply::type_step(b, a, number, inner),
             marks: true,
@@ -237,6 +260,7 @@ fn open_by(w: &[u64; 89], b: Datagram, a: Ask, number: u64, o: Opening, d: &[u8]
 
 // The reply to an opening question.
 pub fn opened_step(w: &[u64; 89], b: Datagram, o: Opening, d: &[u8]) -> Opened
+    requires { ⌜ b ≡ datagramOf (now w) ⌝ }
     ensures { λ r. ⌜ (opens r (keysOf (now (w .entry))) ≡ openedStep (keysOf (now (w .entry))) b o (now (d .entry))) × (r .place < 5) ⌝ }
 {
     if link_words::is_sound(w, b) {

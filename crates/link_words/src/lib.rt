@@ -2,6 +2,7 @@
 // call copies the table of epochs.
 ghost use mathlib.Core.Path.{_≡_};
 ghost use Prim.Native.Nat.{_+_, _≤_, _<_, _%_};
+ghost use lib.Dec.{leb};
 ghost use lib.ListN.{length, getD, set, replicate};
 ghost use Rattle.recv_keys.specs.Keys.{noEntry, lastFit, find, two, resolve, isKeyed, apps, windowsSound, keysSound, installed, leftAt, left};
 ghost use Rattle.datagram.specs.Datagram.{askKeyed, openingSound, questionSound, isSound};
@@ -213,6 +214,17 @@ fn windows_sound(w: &[u64; 89], count: usize) -> bool
     true
 }
 
+// At most four application epochs are keyed; with at most four epochs there is nothing to count.
+fn apps_fit(w: &[u64; 89], count: usize) -> bool
+    requires { ⌜ count ≤ 5 ⌝ }
+    ensures { λ r. ⌜ r ≡ leb (apps (entriesOf (now (w .entry))) count) 4 ⌝ }
+{
+    if count <= 4 {
+        return true;
+    }
+    count_apps(w, count) <= 4
+}
+
 // The fields that a call indexes or adds with are in range.
 fn keys_sound(w: &[u64; 89]) -> bool
     ensures { λ r. ⌜ r ≡ keysSound (keysOf (now (w .entry))) ⌝ }
@@ -224,10 +236,10 @@ fn keys_sound(w: &[u64; 89]) -> bool
     if 17 < w[19] {
         return false;
     }
-    if 4 < count_apps(w, count) {
-        return false;
+    if apps_fit(w, count) {
+        return windows_sound(w, count);
     }
-    windows_sound(w, count)
+    false
 }
 
 fn ask_keyed(w: &[u64; 89], a: Ask, room: usize) -> bool
@@ -261,8 +273,8 @@ fn question_sound(w: &[u64; 89], q: Question, room: usize) -> bool
     }
 }
 
-// The fields that a call indexes or adds with are in range; else it answers 12.
-pub fn is_sound(w: &[u64; 89], b: Datagram) -> bool
+// The same of keys and a begun datagram.
+fn in_range(w: &[u64; 89], b: Datagram) -> bool
     ensures { λ r. ⌜ r ≡ isSound (keysOf (now (w .entry))) b ⌝ }
 {
     let size = b.size;
@@ -314,6 +326,22 @@ pub fn datagram_of(w: &[u64; 89]) -> Datagram
         readings: w[22] as usize,
         question: q,
     }
+}
+
+// The fields that a call indexes or adds with are in range, as the words have them.
+fn words_sound(w: &[u64; 89]) -> bool
+    ensures { λ r. ⌜ r ≡ isSound (keysOf (now (w .entry))) (datagramOf (now (w .entry))) ⌝ }
+{
+    let b = datagram_of(w);
+    in_range(w, b)
+}
+
+// The same of the datagram read off the words; else a call answers 12. The words are tested, so that no caller lends a copy.
+pub fn is_sound(w: &[u64; 89], b: Datagram) -> bool
+    requires { ⌜ b ≡ datagramOf (now w) ⌝ }
+    ensures { λ r. ⌜ r ≡ isSound (keysOf (now (w .entry))) b ⌝ }
+{
+    words_sound(w)
 }
 
 // Whether the words stand for a state: flags are 0 or 1, the question of a kind that there is.

@@ -85,7 +85,7 @@ fn open_yes(k: RecvKeys, b: Datagram, a: Ask, number: u64, i: usize, len: usize,
 {
     if len == a.length - 16 {
         let start = b.at + a.header_len;
-        let inner = incoming::recover_inner_content_type(base::fragment(d, start, len));
+        let inner = incoming::find_inner_content_type(base::fragment(d, start, len));
         return keep(
             recv_keys::replay_update(k, i, number),
             type_step(b, a, number, inner),

@@ -112,7 +112,7 @@ one-at-most : (x : ℕ) → appOne x ≤ 1
 unfolding appOne
 one-at-most x = by-test (λ (n : ℕ). n ≤ 1) (λ t. omega arith) (λ t. omega arith)
 
-apps-le : (l : List RecvEpochEntry) (n : ℕ) → apps l n ≤ n
+pub apps-le : (l : List RecvEpochEntry) (n : ℕ) → apps l n ≤ n
 unfolding apps
 apps-le l zero = omega arith
 apps-le l (suc n) = omega (arith, apps-le l n, one-at-most (getD l n noEntry .epoch))

@@ -42,8 +42,7 @@ unsafe extern "C" {
     pub safe fn link_key_receive(s: &mut LinkReceiving, epoch: u16, iv: &[u8; 12]) -> u8;
     pub safe fn link_enable_peer_encryption(s: &mut LinkReceiving) -> u8;
     pub safe fn link_release_application_data(s: &mut LinkReceiving) -> u8;
-    pub safe fn link_begin(s: &mut LinkReceiving, n: usize) -> u8;
-    pub fn link_read(s: &mut LinkReceiving, d: *const u8, n: usize) -> LinkReading;
+    pub fn link_begin_read(s: &mut LinkReceiving, d: *const u8, n: usize) -> LinkReading;
     pub fn link_mask(s: &mut LinkReceiving, m0: u8, m1: u8, d: *mut u8, n: usize) -> LinkReading;
     pub fn link_opened(
         s: &mut LinkReceiving,

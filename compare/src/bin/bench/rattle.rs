@@ -161,8 +161,7 @@ pub fn read(n: usize, count: u32) -> f64 {
     time(count, |i| unsafe {
         number(&mut record, i);
         let d = black_box(&mut record).as_mut_ptr();
-        link_begin(&mut s, len);
-        let asked = link_read(&mut s, d, len);
+        let asked = link_begin_read(&mut s, d, len);
         assert!(asked.kind == 6);
         let opening = link_mask(&mut s, 0, 0, d, len);
         let r = link_opened(&mut s, 1, opening.length - 16, d, len);

@@ -13,7 +13,7 @@ datagram-of-requires : tie.Need-datagram-of-requires
 datagram-of-requires c κs = search needs
 
 mask-step-requires : tie.Need-mask-step-requires
-mask-step-requires c κs = search needs
+mask-step-requires c κs = c .before .before .datagram-of .ensures
 
 settle-requires : tie.Need-settle-requires
 settle-requires c κs = (sym (c .before .before .before .before .before .before .before .before .before .is-flat .ensures) ∙ c .before .before .before .before .before .before .before .before .if1 .taken)

@@ -27,7 +27,7 @@ opening-of-requires : tie.Need-opening-of-requires
 opening-of-requires c κs = search needs
 
 opened-step-requires : tie.Need-opened-step-requires
-opened-step-requires c κs = search needs
+opened-step-requires c κs = c .before .before .datagram-of .ensures
 
 mark-requires : tie.Need-mark-requires
 mark-requires c κs = (c .before .opened-step .ensures .1, (sym (c .before .before .before .before .before .before .before .is-flat .ensures) ∙ c .before .before .before .before .before .before .if2 .taken))

@@ -16,7 +16,7 @@ datagram-of-requires : tie.Need-datagram-of-requires
 datagram-of-requires c κs = search needs
 
 is-sound-requires : tie.Need-is-sound-requires
-is-sound-requires c κs = search needs
+is-sound-requires c κs = c .before .datagram-of .ensures
 
 element-copy-out-count : tie.Need-element-copy-out-count
 element-copy-out-count c = search needs

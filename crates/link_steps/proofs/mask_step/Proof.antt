@@ -7,7 +7,7 @@ use Rattle.mask_reply.specs.Leads.{mask-asks, mask-other, mask-out, on-bytes, o
 use Rattle.mask_reply.specs.Mask.{masking}
 
 is-sound-requires : tie.Need-is-sound-requires
-is-sound-requires c κs = search needs
+is-sound-requires c κs = c .before .pre
 
 enum-told : tie.Need-enum-told
 enum-told c = search needs

@@ -18,15 +18,15 @@ add-start c = search needs
 fragment-requires : tie.Need-fragment-requires
 fragment-requires c κs = search needs
 
-recover-inner-content-type-requires : tie.Need-recover-inner-content-type-requires
-recover-inner-content-type-requires c κs = search needs
+find-inner-content-type-requires : tie.Need-find-inner-content-type-requires
+find-inner-content-type-requires c κs = search needs
 
 type-step-requires : tie.Need-type-step-requires
 type-step-requires c κs = search needs
 
 returns : tie.Need-returns
 unfolding openedAt
-returns c = (λ k. rw (c .type-step .ensures, c .before .recover-inner-content-type .ensures, c .before .before .fragment .ensures, if-true {t = true} _ _ refl) (sym (if-true _ _ (eq-eqb _ _ (c .before .before .before .before .before .if1 .taken)))), c .before .before .before .before .before .before .before .before .pre .0)
+returns c = (λ k. rw (c .type-step .ensures, c .before .find-inner-content-type .ensures, c .before .before .fragment .ensures, if-true {t = true} _ _ refl) (sym (if-true _ _ (eq-eqb _ _ (c .before .before .before .before .before .if1 .taken)))), c .before .before .before .before .before .before .before .before .pre .0)
 
 tell-requires : tie.Need-tell-requires
 tell-requires c κs = search needs
@@ -45,7 +45,7 @@ open-yes-spec =
     sub-if1
     add-start
     fragment-requires
-    recover-inner-content-type-requires
+    find-inner-content-type-requires
     type-step-requires
     returns
     tell-requires

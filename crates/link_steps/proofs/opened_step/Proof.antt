@@ -8,7 +8,7 @@ use Rattle.link_steps.proofs.opened_step.Statement.{statement}
 use Rattle.link_steps.proofs.opened_step.Tie as tie
 
 is-sound-requires : tie.Need-is-sound-requires
-is-sound-requires c κs = search needs
+is-sound-requires c κs = c .before .pre
 
 enum-told : tie.Need-enum-told
 enum-told c = search needs

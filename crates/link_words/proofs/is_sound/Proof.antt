@@ -1,47 +1,13 @@
--- `link_words::is_sound` meets its contract: the tests of the definition in its order. Assumes nothing.
+-- `link_words::is_sound` meets its contract. Assumes nothing.
 use borrow.Author.Needs.{needs}
-use mathlib.Core.Path.{_≡_, refl, sym, ap, _∙_}
-use Rattle.base.specs.Choose.{if-true, if-false, both-true, both-false}
-use borrow.Author.Tests.{eq-eqb, ne-eqb, lt-leb, le-leb}
-use Rattle.datagram.specs.Datagram.{isSound}
-use Rattle.recv_keys.specs.Keeps.{in-range}
 use Rattle.link_words.proofs.is_sound.Statement.{statement}
 use Rattle.link_words.proofs.is_sound.Tie as tie
 
-keys-sound-requires : tie.Need-keys-sound-requires
-keys-sound-requires c κs = search needs
+words-sound-requires : tie.Need-words-sound-requires
+words-sound-requires c κs = search needs
 
 returns : tie.Need-returns
-unfolding isSound
-returns c = sym (both-true (sym (c .before .before .keys-sound .ensures) ∙ c .before .if1 .taken) ∙ both-false _ (lt-leb _ _ (c .if2 .taken)))
-
-returns-2 : tie.Need-returns-2
-unfolding isSound
-returns-2 c = sym (both-true (sym (c .before .before .before .keys-sound .ensures) ∙ c .before .before .if1 .taken) ∙ both-true (le-leb _ _ (c .before .if2 .left)) ∙ both-false _ (lt-leb _ _ (c .if3 .taken)))
-
-returns-3 : tie.Need-returns-3
-unfolding isSound
-returns-3 c = sym (both-true (sym (c .before .before .before .before .before .keys-sound .ensures) ∙ c .before .before .before .before .if1 .taken) ∙ both-true (le-leb _ _ (c .before .before .before .if2 .left)) ∙ both-true (le-leb _ _ (c .before .before .if3 .left)) ∙ both-false _ (lt-leb _ _ (c .if4 .taken)))
-
-question-sound-requires : tie.Need-question-sound-requires
-question-sound-requires c κs = in-range _ (sym (c .before .before .before .before .before .keys-sound .ensures) ∙ c .before .before .before .before .if1 .taken) .count
-
-returns-4 : tie.Need-returns-4
-unfolding isSound
-returns-4 c = c .question-sound .ensures ∙ sym (both-true (sym (c .before .before .before .before .before .before .keys-sound .ensures) ∙ c .before .before .before .before .before .if1 .taken) ∙ both-true (le-leb _ _ (c .before .before .before .before .if2 .left)) ∙ both-true (le-leb _ _ (c .before .before .before .if3 .left)) ∙ both-true (le-leb _ _ (c .before .if4 .left)))
-
-returns-5 : tie.Need-returns-5
-unfolding isSound
-returns-5 c = sym (both-false _ (sym (c .before .keys-sound .ensures) ∙ c .if1 .left))
+returns c = rw (c .before .pre) (c .words-sound .ensures)
 
 pub is-sound-spec : {M : Type 1} → statement M
-is-sound-spec =
-    tie.close
-    (tie.spec
-    keys-sound-requires
-    returns
-    returns-2
-    returns-3
-    question-sound-requires
-    returns-4
-    returns-5)
+is-sound-spec = tie.close (tie.spec words-sound-requires returns)

@@ -21,19 +21,19 @@ returns-2 : tie.Need-returns-2
 unfolding keysSound
 returns-2 c = sym (both-true (le-leb _ _ (c .before .before .if1 .left)) ∙ both-false _ (lt-leb _ _ (c .if2 .taken)))
 
-count-apps-requires : tie.Need-count-apps-requires
-count-apps-requires c κs = search needs
-
-returns-3 : tie.Need-returns-3
-unfolding keysSound
-returns-3 c = sym (both-true (le-leb _ _ (c .before .before .before .before .if1 .left)) ∙ both-true (le-leb _ _ (c .before .before .if2 .left)) ∙ both-false _ (rw (c .before .count-apps .ensures) at (lt-leb _ _ (c .if3 .taken))))
+apps-fit-requires : tie.Need-apps-fit-requires
+apps-fit-requires c κs = search needs
 
 windows-sound-requires : tie.Need-windows-sound-requires
 windows-sound-requires c κs = search needs
 
+returns-3 : tie.Need-returns-3
+unfolding keysSound
+returns-3 c = c .windows-sound .ensures ∙ sym (both-true (le-leb _ _ (c .before .before .before .before .before .if1 .left)) ∙ both-true (le-leb _ _ (c .before .before .before .if2 .left)) ∙ both-true (sym (c .before .before .apps-fit .ensures) ∙ c .before .if3 .taken))
+
 returns-4 : tie.Need-returns-4
 unfolding keysSound
-returns-4 c = c .windows-sound .ensures ∙ sym (both-true (le-leb _ _ (c .before .before .before .before .before .if1 .left)) ∙ both-true (le-leb _ _ (c .before .before .before .if2 .left)) ∙ both-true (rw (c .before .before .count-apps .ensures) at (le-leb _ _ (c .before .if3 .left))))
+returns-4 c = sym (both-true (le-leb _ _ (c .before .before .before .before .if1 .left)) ∙ both-true (le-leb _ _ (c .before .before .if2 .left)) ∙ both-false _ (sym (c .before .apps-fit .ensures) ∙ c .if3 .left))
 
 pub keys-sound-spec : {M : Type 1} → statement M
 keys-sound-spec =
@@ -43,7 +43,7 @@ keys-sound-spec =
     returns
     element-copy-out-if2
     returns-2
-    count-apps-requires
-    returns-3
+    apps-fit-requires
     windows-sound-requires
+    returns-3
     returns-4)

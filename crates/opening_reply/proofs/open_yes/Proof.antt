@@ -16,8 +16,8 @@ add-start c = search needs
 fragment-requires : tie.Need-fragment-requires
 fragment-requires c κs = search needs
 
-recover-inner-content-type-requires : tie.Need-recover-inner-content-type-requires
-recover-inner-content-type-requires c κs = search needs
+find-inner-content-type-requires : tie.Need-find-inner-content-type-requires
+find-inner-content-type-requires c κs = search needs
 
 replay-update-requires : tie.Need-replay-update-requires
 replay-update-requires c κs = search needs
@@ -30,7 +30,7 @@ keep-requires c κs = search needs
 
 returns : tie.Need-returns
 unfolding openedAt
-returns c = rw (c .before .type-step .ensures, c .before .before .replay-update .ensures, c .before .before .before .recover-inner-content-type .ensures, c .before .before .before .before .fragment .ensures) at (c .keep .ensures) ∙ sym (if-true _ _ (eq-eqb _ _ (c .before .before .before .before .before .before .before .if1 .taken)))
+returns c = rw (c .before .type-step .ensures, c .before .before .replay-update .ensures, c .before .before .before .find-inner-content-type .ensures, c .before .before .before .before .fragment .ensures) at (c .keep .ensures) ∙ sym (if-true _ _ (eq-eqb _ _ (c .before .before .before .before .before .before .before .if1 .taken)))
 
 tell-requires : tie.Need-tell-requires
 tell-requires c κs = search needs
@@ -49,7 +49,7 @@ open-yes-spec =
     sub-if1
     add-start
     fragment-requires
-    recover-inner-content-type-requires
+    find-inner-content-type-requires
     replay-update-requires
     type-step-requires
     keep-requires
