@@ -8,7 +8,7 @@
 
 #include "link.h"
 
-enum { SHALLOW = 65536, DEEP = 1 << 20, WORD = sizeof(uint64_t), CALLS = 23 };
+enum { SHALLOW = 65536, DEEP = 1 << 20, WORD = sizeof(uint64_t), CALLS = 24 };
 
 static const uint64_t paint = 0xA5C35A3C96E1781E;
 
@@ -74,6 +74,7 @@ MEASURED(3, uint8_t, link_enable_peer_encryption, (LinkReceiving *s), (s))
 MEASURED(4, uint8_t, link_release_application_data, (LinkReceiving *s), (s))
 MEASURED(5, uint8_t, link_begin, (LinkReceiving *s, size_t n), (s, n))
 MEASURED(6, LinkReading, link_read, (LinkReceiving *s, const uint8_t *d, size_t n), (s, d, n))
+MEASURED(23, LinkReading, link_begin_read, (LinkReceiving *s, const uint8_t *d, size_t n), (s, d, n))
 MEASURED(7, LinkReading, link_mask, (LinkReceiving *s, uint8_t m0, uint8_t m1, uint8_t *d, size_t n), (s, m0, m1, d, n))
 MEASURED(8, LinkReading, link_opened, (LinkReceiving *s, uint8_t opened, size_t len, const uint8_t *d, size_t n), (s, opened, len, d, n))
 MEASURED(9, uint8_t, link_sending, (LinkSending *s, size_t mtu, size_t limit), (s, mtu, limit))
