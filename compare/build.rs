@@ -1,4 +1,4 @@
-//! Links the driver with the static library of the Rattle crate `leaves`, and the timer with those of `link`, `link_sending` and `link_flight`.
+//! Links the driver with the static library of the Rattle crate `leaves`, and the timer with those of `link_receiving`, `link_sending` and `link_flight`.
 
 use std::env;
 
@@ -11,7 +11,7 @@ fn main() {
     println!("cargo:rerun-if-changed={lib}");
     println!("cargo:rerun-if-env-changed=LEAVES_LIB");
     for (name, variable) in [
-        ("link", "LINK_LIB"),
+        ("link_receiving", "LINK_LIB"),
         ("link_sending", "LINK_SENDING_LIB"),
         ("link_flight", "LINK_FLIGHT_LIB"),
     ] {

@@ -1,5 +1,5 @@
-/* The record link's C interface, in four static libraries: `rt staticlib link` makes target/staticlib/liblink.a (receiving), and so
- * link_sending (sending), link_flight (saved records and handshake messages) and link_acks (resends and ACKs).
+/* The record link's C interface, in four static libraries: `rt staticlib link_receiving` makes target/staticlib/liblink_receiving.a
+ * (receiving), and so link_sending (sending), link_flight (saved records and handshake messages) and link_acks (resends and ACKs).
  * Plain functions over memory that the host lends: no allocation, no global state, no requirement on the caller but that each pointer
  * leads to what its type or the length beside it says, and that no two of them overlap. A state is words whose meaning the library
  * keeps; whatever stands in them, a call ends with an answer, and refuses by 12 what is no state. Refusals have the numbers of the

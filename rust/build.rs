@@ -3,7 +3,7 @@
 use std::path::PathBuf;
 use std::{env, process};
 
-const LIBRARIES: [&str; 4] = ["link", "link_sending", "link_flight", "link_acks"];
+const LIBRARIES: [&str; 4] = ["link_receiving", "link_sending", "link_flight", "link_acks"];
 
 fn main() {
     println!("cargo:rerun-if-env-changed=HUSKELAPSE_LIB");
