@@ -8,7 +8,7 @@
 #include <stdlib.h>
 #include <string.h>
 
-#include "link.h"
+#include "huskelapse.h"
 
 enum { EPOCHS = 16, DATAGRAM = 16384, TAG = 16 };
 

@@ -7,13 +7,13 @@ use Prim.Native.Nat.{ℕ}
 use lib.Dec.{leb}
 use Rattle.base.specs.Choose.{choose, both}
 use Rattle.datagram.specs.declared.Step.{Step}
-use Rattle.receiving.specs.Receiving.{maskOf}
+use Rattle.receiving.specs.Receiving.{freshOf, keyOf, removeOf, encryptOf, releaseOf, beginOf, readOf, maskOf, openedOf}
 use Rattle.receiving.specs.declared.Kept.{Kept}
 use Rattle.receiving.specs.declared.Read.{Read}
 use Rattle.receiving.specs.declared.Receiving.{Receiving}
 use Rattle.link_words.specs.Words.{keysOf, datagramOf, isFlat}
 use Rattle.link_calls.specs.Kept.{stateOf}
-use Rattle.link_receiving.specs.Flat.{answerOf, bare, flatReading}
+use Rattle.link_receiving.specs.Flat.{answerOf, bare, flatReading, openingOf}
 use Rattle.link_receiving.specs.declared.LinkReading.{LinkReading}
 
 -- ---- a call that reads nothing: w before it, v behind it, k what the definition makes of the state
@@ -44,3 +44,33 @@ abbrev pub OpenedAs : LinkReading → List ℕ → List ℕ → ℕ → Read →
 OpenedAs r v w o k =
     (r ≡ choose (both (leb o 1) (isFlat w)) (flatReading (k .reading) (k .nonce)) (bare 0 12))
     × (stateOf v ≡ choose (both (leb o 1) (isFlat w)) (k .state) (stateOf w)) × (isFlat v ≡ isFlat w)
+
+-- ---- the contracts of the calls, here and over C: r answered, w before, v behind
+
+abbrev pub FreshCall : ℕ → List ℕ → ℕ → Type 0
+FreshCall r v min = (r ≡ answerOf (freshOf min .answer)) × (stateOf v ≡ freshOf min .state) × (isFlat v ≡ true)
+
+abbrev pub KeyReceiveCall : ℕ → List ℕ → List ℕ → ℕ → List ℕ → Type 0
+KeyReceiveCall r v w epoch iv = Does r v w (keyOf (stateOf w) epoch iv)
+
+abbrev pub RemoveReceiveCall : ℕ → List ℕ → List ℕ → ℕ → Type 0
+RemoveReceiveCall r v w epoch = Does r v w (removeOf (stateOf w) epoch)
+
+abbrev pub EnablePeerEncryptionCall : ℕ → List ℕ → List ℕ → Type 0
+EnablePeerEncryptionCall r v w = Does r v w (encryptOf (stateOf w))
+
+abbrev pub ReleaseApplicationDataCall : ℕ → List ℕ → List ℕ → Type 0
+ReleaseApplicationDataCall r v w = Does r v w (releaseOf (stateOf w))
+
+abbrev pub BeginCall : ℕ → List ℕ → List ℕ → ℕ → Type 0
+BeginCall r v w n = Does r v w (beginOf (stateOf w) n)
+
+abbrev pub ReadCall : LinkReading → List ℕ → List ℕ → List ℕ → Type 0
+ReadCall r v w d = Reads r v w (readOf (stateOf w) d)
+
+-- d the datagram before, e behind
+abbrev pub MaskCall : LinkReading → List ℕ → List ℕ → ℕ → ℕ → List ℕ → List ℕ → Type 0
+MaskCall r v w m n e d = Reads r v w (maskOf (stateOf w) (masks m n) d .0) × (e ≡ maskBytesOf w m n d)
+
+abbrev pub OpenedCall : LinkReading → List ℕ → List ℕ → ℕ → ℕ → List ℕ → Type 0
+OpenedCall r v w o len d = OpenedAs r v w o (openedOf (stateOf w) (openingOf o len) d)

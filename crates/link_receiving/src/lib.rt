@@ -1,14 +1,23 @@
-// The receive side of a link as C functions: a static library for hosts. The state is 89 words that the host keeps and lends; a call
-// changes them in place and copies none of them. Whatever stands in them, a call ends with an answer.
+// The receive side of a link as a host calls it. The state is 89 words that the host keeps and lends; a call changes them in place and
+// copies none of them. Whatever stands in them, a call ends with an answer.
 ghost use mathlib.Core.Path.{_≡_};
 ghost use Prim.Native.Nat.{_<_};
 ghost use mathlib.Core.Bool.{true};
-ghost use Rattle.receiving.specs.Receiving.{freshOf, keyOf, removeOf, encryptOf, releaseOf, beginOf, readOf, maskOf, openedOf};
 ghost use Rattle.link_words.specs.Words.{keysOf, isFlat};
 ghost use Rattle.link_steps.specs.Opens.{opens};
 ghost use Rattle.link_receiving.specs.Flat.{answerOf, reasonOf, bare, flatReading, openingOf};
-ghost use Rattle.link_calls.specs.Kept.{stateOf};
-ghost use Rattle.link_receiving.specs.Calls.{Stepped, Does, Reads, masks, maskBytesOf, OpenedAs};
+ghost use Rattle.link_receiving.specs.Calls.{
+  Stepped,
+  FreshCall,
+  KeyReceiveCall,
+  RemoveReceiveCall,
+  EnablePeerEncryptionCall,
+  ReleaseApplicationDataCall,
+  BeginCall,
+  ReadCall,
+  MaskCall,
+  OpenedCall,
+};
 use datagram::Reading;
 use datagram::Reason;
 use datagram::Step;
@@ -202,9 +211,8 @@ fn settle(w: &mut [u64; 89], t: Step) -> LinkReading
 
 // A receive side with nothing keyed and no datagram begun, whatever stood in the words. A protected part has at least min_protected
 // bytes, 0 to 17.
-#[no_mangle]
-pub extern "C" fn link_receiving(w: &mut [u64; 89], min_protected: usize) -> u8
-    ensures { λ r. ⌜ (r ≡ answerOf (freshOf «min_protected» .answer)) × (stateOf (now (w .exit)) ≡ freshOf «min_protected» .state) × (isFlat (now (w .exit)) ≡ true) ⌝ }
+pub fn fresh(w: &mut [u64; 89], min_protected: usize) -> u8
+    ensures { λ r. ⌜ FreshCall r (now (w .exit)) «min_protected» ⌝ }
 {
     link_words::put_fresh(w, min_protected);
     if 17 < min_protected {
@@ -214,9 +222,8 @@ pub extern "C" fn link_receiving(w: &mut [u64; 89], min_protected: usize) -> u8
 }
 
 // Keys an epoch to receive, with its IV.
-#[no_mangle]
-pub extern "C" fn link_key_receive(w: &mut [u64; 89], epoch: u16, iv: &[u8; 12]) -> u8
-    ensures { λ r. ⌜ Does r (now (w .exit)) (now (w .entry)) (keyOf (stateOf (now (w .entry))) epoch (now (iv .entry))) ⌝ }
+pub fn key_receive(w: &mut [u64; 89], epoch: u16, iv: &[u8; 12]) -> u8
+    ensures { λ r. ⌜ KeyReceiveCall r (now (w .exit)) (now (w .entry)) epoch (now (iv .entry)) ⌝ }
 {
     if link_words::is_flat(w) {
         let v = *iv;
@@ -226,9 +233,8 @@ pub extern "C" fn link_key_receive(w: &mut [u64; 89], epoch: u16, iv: &[u8; 12])
 }
 
 // Removes a receive epoch, and the question under it: 6 where a record is dropped with it.
-#[no_mangle]
-pub extern "C" fn link_remove_receive(w: &mut [u64; 89], epoch: u16) -> u8
-    ensures { λ r. ⌜ Does r (now (w .exit)) (now (w .entry)) (removeOf (stateOf (now (w .entry))) epoch) ⌝ }
+pub fn remove_receive(w: &mut [u64; 89], epoch: u16) -> u8
+    ensures { λ r. ⌜ RemoveReceiveCall r (now (w .exit)) (now (w .entry)) epoch ⌝ }
 {
     if link_words::is_flat(w) {
         return answer_of(link_calls::remove(w, epoch));
@@ -237,9 +243,8 @@ pub extern "C" fn link_remove_receive(w: &mut [u64; 89], epoch: u16) -> u8
 }
 
 // Peer encryption on, from the next record read.
-#[no_mangle]
-pub extern "C" fn link_enable_peer_encryption(w: &mut [u64; 89]) -> u8
-    ensures { λ r. ⌜ Does r (now (w .exit)) (now (w .entry)) (encryptOf (stateOf (now (w .entry)))) ⌝ }
+pub fn enable_peer_encryption(w: &mut [u64; 89]) -> u8
+    ensures { λ r. ⌜ EnablePeerEncryptionCall r (now (w .exit)) (now (w .entry)) ⌝ }
 {
     if link_words::is_flat(w) {
         return answer_of(link_calls::encrypt(w));
@@ -248,9 +253,8 @@ pub extern "C" fn link_enable_peer_encryption(w: &mut [u64; 89]) -> u8
 }
 
 // Application data released.
-#[no_mangle]
-pub extern "C" fn link_release_application_data(w: &mut [u64; 89]) -> u8
-    ensures { λ r. ⌜ Does r (now (w .exit)) (now (w .entry)) (releaseOf (stateOf (now (w .entry)))) ⌝ }
+pub fn release_application_data(w: &mut [u64; 89]) -> u8
+    ensures { λ r. ⌜ ReleaseApplicationDataCall r (now (w .exit)) (now (w .entry)) ⌝ }
 {
     if link_words::is_flat(w) {
         return answer_of(link_calls::release(w));
@@ -259,9 +263,8 @@ pub extern "C" fn link_release_application_data(w: &mut [u64; 89]) -> u8
 }
 
 // Begins a datagram of n bytes; a question that waits is cancelled.
-#[no_mangle]
-pub extern "C" fn link_begin(w: &mut [u64; 89], n: usize) -> u8
-    ensures { λ r. ⌜ Does r (now (w .exit)) (now (w .entry)) (beginOf (stateOf (now (w .entry))) n) ⌝ }
+pub fn begin(w: &mut [u64; 89], n: usize) -> u8
+    ensures { λ r. ⌜ BeginCall r (now (w .exit)) (now (w .entry)) n ⌝ }
 {
     if link_words::is_flat(w) {
         return answer_of(link_calls::begin(w, n));
@@ -270,9 +273,8 @@ pub extern "C" fn link_begin(w: &mut [u64; 89], n: usize) -> u8
 }
 
 // One record of the datagram begun, or the question that waits again.
-#[no_mangle]
-pub extern "C" fn link_read(w: &mut [u64; 89], d: &[u8]) -> LinkReading
-    ensures { λ r. ⌜ Reads r (now (w .exit)) (now (w .entry)) (readOf (stateOf (now (w .entry))) (now (d .entry))) ⌝ }
+pub fn read(w: &mut [u64; 89], d: &[u8]) -> LinkReading
+    ensures { λ r. ⌜ ReadCall r (now (w .exit)) (now (w .entry)) (now (d .entry)) ⌝ }
 {
     if link_words::is_flat(w) {
         let b = link_words::datagram_of(w);
@@ -283,10 +285,8 @@ pub extern "C" fn link_read(w: &mut [u64; 89], d: &[u8]) -> LinkReading
 }
 
 // The mask that was asked for; the number bytes are unmasked in the datagram.
-#[no_mangle]
-pub extern "C" fn link_mask(w: &mut [u64; 89], mask_0: u8, mask_1: u8, d: &mut [u8]) -> LinkReading
-    ensures { λ r. ⌜ Reads r (now (w .exit)) (now (w .entry)) (maskOf (stateOf (now (w .entry))) (masks «mask_0» «mask_1») (now (d .entry)) .0) ⌝ }
-    ensures { λ r. ⌜ now (d .exit) ≡ maskBytesOf (now (w .entry)) «mask_0» «mask_1» (now (d .entry)) ⌝ }
+pub fn mask(w: &mut [u64; 89], mask_0: u8, mask_1: u8, d: &mut [u8]) -> LinkReading
+    ensures { λ r. ⌜ MaskCall r (now (w .exit)) (now (w .entry)) «mask_0» «mask_1» (now (d .exit)) (now (d .entry)) ⌝ }
 {
     if link_words::is_flat(w) {
         let b = link_words::datagram_of(w);
@@ -310,9 +310,8 @@ fn mark(w: &mut [u64; 89], o: Opened)
 }
 
 // Whether the record was opened, 0 or 1; its plaintext, of so many bytes, then stands at the start of the protected part.
-#[no_mangle]
-pub extern "C" fn link_opened(w: &mut [u64; 89], opened: u8, length: usize, d: &[u8]) -> LinkReading
-    ensures { λ r. ⌜ OpenedAs r (now (w .exit)) (now (w .entry)) opened (openedOf (stateOf (now (w .entry))) (openingOf opened length) (now (d .entry))) ⌝ }
+pub fn opened(w: &mut [u64; 89], opened: u8, length: usize, d: &[u8]) -> LinkReading
+    ensures { λ r. ⌜ OpenedCall r (now (w .exit)) (now (w .entry)) opened length (now (d .entry)) ⌝ }
 {
     if 1 < opened {
         return told(0, 12);

@@ -1,0 +1,229 @@
+// The link's C interface, one static library for hosts: each call of link_receiving, link_sending, link_flight and link_acks as a C
+// function with the same contract. The library keeps no state.
+ghost use Rattle.link_receiving.specs.Calls as receive;
+ghost use Rattle.link_sending.specs.Calls as sends;
+ghost use Rattle.link_flight.specs.Calls as flights;
+ghost use Rattle.link_acks.specs.Calls as acks;
+use link_receiving::LinkReading;
+use link_sending::LinkSealing;
+use link_sending::LinkTake;
+
+// ---- receiving
+
+#[no_mangle]
+pub extern "C" fn link_receiving(w: &mut [u64; 89], min_protected: usize) -> u8
+    ensures { λ r. ⌜ receive.FreshCall r (now (w .exit)) «min_protected» ⌝ }
+{
+    link_receiving::fresh(w, min_protected)
+}
+
+#[no_mangle]
+pub extern "C" fn link_key_receive(w: &mut [u64; 89], epoch: u16, iv: &[u8; 12]) -> u8
+    ensures { λ r. ⌜ receive.KeyReceiveCall r (now (w .exit)) (now (w .entry)) epoch (now (iv .entry)) ⌝ }
+{
+    link_receiving::key_receive(w, epoch, iv)
+}
+
+#[no_mangle]
+pub extern "C" fn link_remove_receive(w: &mut [u64; 89], epoch: u16) -> u8
+    ensures { λ r. ⌜ receive.RemoveReceiveCall r (now (w .exit)) (now (w .entry)) epoch ⌝ }
+{
+    link_receiving::remove_receive(w, epoch)
+}
+
+#[no_mangle]
+pub extern "C" fn link_enable_peer_encryption(w: &mut [u64; 89]) -> u8
+    ensures { λ r. ⌜ receive.EnablePeerEncryptionCall r (now (w .exit)) (now (w .entry)) ⌝ }
+{
+    link_receiving::enable_peer_encryption(w)
+}
+
+#[no_mangle]
+pub extern "C" fn link_release_application_data(w: &mut [u64; 89]) -> u8
+    ensures { λ r. ⌜ receive.ReleaseApplicationDataCall r (now (w .exit)) (now (w .entry)) ⌝ }
+{
+    link_receiving::release_application_data(w)
+}
+
+#[no_mangle]
+pub extern "C" fn link_begin(w: &mut [u64; 89], n: usize) -> u8
+    ensures { λ r. ⌜ receive.BeginCall r (now (w .exit)) (now (w .entry)) n ⌝ }
+{
+    link_receiving::begin(w, n)
+}
+
+#[no_mangle]
+pub extern "C" fn link_read(w: &mut [u64; 89], d: &[u8]) -> LinkReading
+    ensures { λ r. ⌜ receive.ReadCall r (now (w .exit)) (now (w .entry)) (now (d .entry)) ⌝ }
+{
+    link_receiving::read(w, d)
+}
+
+#[no_mangle]
+pub extern "C" fn link_mask(w: &mut [u64; 89], mask_0: u8, mask_1: u8, d: &mut [u8]) -> LinkReading
+    ensures { λ r. ⌜ receive.MaskCall r (now (w .exit)) (now (w .entry)) «mask_0» «mask_1» (now (d .exit)) (now (d .entry)) ⌝ }
+{
+    link_receiving::mask(w, mask_0, mask_1, d)
+}
+
+#[no_mangle]
+pub extern "C" fn link_opened(w: &mut [u64; 89], opened: u8, length: usize, d: &[u8]) -> LinkReading
+    ensures { λ r. ⌜ receive.OpenedCall r (now (w .exit)) (now (w .entry)) opened length (now (d .entry)) ⌝ }
+{
+    link_receiving::opened(w, opened, length, d)
+}
+
+// ---- sending
+
+#[no_mangle]
+pub extern "C" fn link_sending(w: &mut [u64; 59], mtu: usize, limit: usize) -> u8
+    ensures { λ r. ⌜ sends.FreshCall r (now (w .exit)) mtu limit ⌝ }
+{
+    link_sending::fresh(w, mtu, limit)
+}
+
+#[no_mangle]
+pub extern "C" fn link_key_send(w: &mut [u64; 59], epoch: u16, iv: &[u8; 12]) -> u8
+    ensures { λ r. ⌜ sends.KeySendCall r (now (w .exit)) (now (w .entry)) epoch (now (iv .entry)) ⌝ }
+{
+    link_sending::key_send(w, epoch, iv)
+}
+
+#[no_mangle]
+pub extern "C" fn link_send(
+    w: &mut [u64; 59],
+    epoch: u16,
+    content_type: u8,
+    content: &[u8],
+    queue: &mut [u8],
+) -> u8
+    ensures { λ r. ⌜ sends.SendCall r (now (w .exit)) (now (w .entry)) epoch «content_type» (now (content .entry)) (now (queue .exit)) (now (queue .entry)) ⌝ }
+{
+    link_sending::send(w, epoch, content_type, content, queue)
+}
+
+#[no_mangle]
+pub extern "C" fn link_sealing(w: &[u64; 59]) -> LinkSealing
+    ensures { λ r. ⌜ sends.SealingCall r (now (w .entry)) ⌝ }
+{
+    link_sending::sealing(w)
+}
+
+#[no_mangle]
+pub extern "C" fn link_sealed(
+    w: &mut [u64; 59],
+    length: usize,
+    mask_0: u8,
+    mask_1: u8,
+    queue: &mut [u8],
+) -> u8
+    ensures { λ r. ⌜ sends.SealedCall r (now (w .exit)) (now (w .entry)) length «mask_0» «mask_1» (now (queue .exit)) (now (queue .entry)) ⌝ }
+{
+    link_sending::sealed(w, length, mask_0, mask_1, queue)
+}
+
+#[no_mangle]
+pub extern "C" fn link_take(w: &mut [u64; 59], buffer: &mut [u8], queue: &[u8]) -> LinkTake
+    ensures { λ r. ⌜ sends.TakeCall r (now (w .exit)) (now (w .entry)) (now (buffer .exit)) (now (buffer .entry)) (now (queue .entry)) ⌝ }
+{
+    link_sending::take(w, buffer, queue)
+}
+
+// ---- saved records and handshake messages
+
+#[no_mangle]
+pub extern "C" fn link_flight(f: &mut [u64; 73], numbers: &mut [u64; 384])
+    ensures { λ _. ⌜ flights.FreshCall (now (f .exit)) (now (numbers .exit)) ⌝ }
+{
+    link_flight::fresh(f, numbers)
+}
+
+#[no_mangle]
+pub extern "C" fn link_begin_flight(f: &mut [u64; 73]) -> u8
+    ensures { λ r. ⌜ flights.BeginFlightCall r (now (f .exit)) (now (f .entry)) ⌝ }
+{
+    link_flight::begin_flight(f)
+}
+
+#[no_mangle]
+pub extern "C" fn link_send_saved(
+    w: &mut [u64; 59],
+    f: &mut [u64; 73],
+    numbers: &mut [u64; 384],
+    epoch: u16,
+    content_type: u8,
+    content: &[u8],
+    queue: &mut [u8],
+    kept: &mut [u8],
+) -> u8
+    ensures { λ r. ⌜ flights.SendSavedCall r (now (w .exit)) (now (w .entry)) (now (f .exit)) (now (f .entry)) (now (numbers .exit)) (now (numbers .entry)) epoch «content_type» (now (content .entry)) (now (queue .exit)) (now (queue .entry)) (now (kept .exit)) (now (kept .entry)) ⌝ }
+{
+    link_flight::send_saved(w, f, numbers, epoch, content_type, content, queue, kept)
+}
+
+#[no_mangle]
+pub extern "C" fn link_create_handshake(
+    w: &mut [u64; 59],
+    f: &mut [u64; 73],
+    numbers: &mut [u64; 384],
+    kind: u8,
+    body: &[u8],
+    queue: &mut [u8],
+    kept: &mut [u8],
+) -> u8
+    ensures { λ r. ⌜ flights.CreateHandshakeCall r (now (w .exit)) (now (w .entry)) (now (f .exit)) (now (f .entry)) (now (numbers .exit)) (now (numbers .entry)) kind (now (body .entry)) (now (queue .exit)) (now (queue .entry)) (now (kept .exit)) (now (kept .entry)) ⌝ }
+{
+    link_flight::create_handshake(w, f, numbers, kind, body, queue, kept)
+}
+
+// ---- resends and ACKs
+
+#[no_mangle]
+pub extern "C" fn link_resend(
+    w: &mut [u64; 59],
+    f: &mut [u64; 73],
+    numbers: &mut [u64; 384],
+    kept: &[u8],
+    queue: &mut [u8],
+) -> u8
+    ensures { λ r. ⌜ acks.ResendCall r (now (w .exit)) (now (w .entry)) (now (f .exit)) (now (f .entry)) (now (numbers .exit)) (now (numbers .entry)) (now (kept .entry)) (now (queue .exit)) (now (queue .entry)) ⌝ }
+{
+    link_acks::resend(w, f, numbers, kept, queue)
+}
+
+#[no_mangle]
+pub extern "C" fn link_process_ack(
+    f: &mut [u64; 73],
+    numbers: &mut [u64; 384],
+    content: &[u8],
+) -> u8
+    ensures { λ r. ⌜ acks.ProcessAckCall r (now (f .exit)) (now (f .entry)) (now (numbers .exit)) (now (numbers .entry)) (now (content .entry)) ⌝ }
+{
+    link_acks::process_ack(f, numbers, content)
+}
+
+#[no_mangle]
+pub extern "C" fn link_note(
+    count: &mut [u64; 1],
+    epochs: &mut [u64; 32],
+    numbers: &mut [u64; 32],
+    epoch: u64,
+    number: u64,
+) -> u8
+    ensures { λ r. ⌜ acks.NoteCall r (acks.notesOf (now (count .exit)) (now (epochs .exit)) (now (numbers .exit))) (acks.notesOf (now (count .entry)) (now (epochs .entry)) (now (numbers .entry))) epoch number ⌝ }
+{
+    link_acks::note(count, epochs, numbers, epoch, number)
+}
+
+#[no_mangle]
+pub extern "C" fn link_send_ack(
+    w: &mut [u64; 59],
+    count: &mut [u64; 1],
+    epochs: &mut [u64; 32],
+    numbers: &mut [u64; 32],
+    queue: &mut [u8],
+) -> u8
+    ensures { λ r. ⌜ acks.SendAckCall r (now (w .exit)) (now (w .entry)) (acks.notesOf (now (count .exit)) (now (epochs .exit)) (now (numbers .exit))) (acks.notesOf (now (count .entry)) (now (epochs .entry)) (now (numbers .entry))) (now (queue .exit)) (now (queue .entry)) ⌝ }
+{
+    link_acks::send_ack(w, count, epochs, numbers, queue)
+}
