@@ -2,8 +2,35 @@
  * Plain functions over memory that the host lends: no allocation, no global state, no requirement on the caller but that each pointer
  * leads to what its type or the length beside it says, and that no two of them overlap. A state is words whose meaning the library
  * keeps; whatever stands in them, a call ends with an answer, and refuses by 12 what is no state. Refusals have the numbers of the
- * specification. A refused call leaves words that calls made, and every buffer, as they are; words that no call made it may write
- * anew with the same meaning. */
+ * specification. A refused call leaves words that calls made, and every buffer, as they are, but for link_receiving and
+ * link_sending, which begin them; words that no call made it may write anew with the same meaning.
+ *
+ * Refusals
+ *  1 a datagram over 16,384 bytes
+ *  2 a header or a length reaches beyond the datagram, which ends there
+ *  3 a seventeenth reading; the datagram ends there
+ *  4 a plaintext record's type, version or epoch is not allowed
+ *  5 a sealed record with epoch bits 0 or 1 before peer encryption is on
+ *  6 no keys for the record's epoch
+ *  7 the protected part is too short
+ *  8 the record's number would be above 2^48 - 1
+ *  9 the record's number is used or too old
+ * 10 the cipher did not open the record
+ * 11 the opened record has no content type; its number is used
+ * 12 a setting or a state is out of its range, or a buffer too short for them
+ * 13 the epoch cannot be used so
+ * 14 the content type is not allowed, the body over 16,384 bytes or the record over the MTU
+ * 15 no such question waits, or the reply has the wrong length
+ * 16 the buffer is too small for the datagram
+ * 17 no keys to send in the epoch
+ * 18 the flight would have a thirteenth record
+ * 19 a new datagram is needed and the queue has no room for one
+ * 20 the epoch's record numbers are spent
+ * 21 the handshake message numbers are spent
+ * 22 a handshake record remembers 32 numbers
+ * 23 the front datagram is not wholly sealed, four application epochs are keyed to receive, or a sealing waits under the application
+ *    epoch that would be replaced
+ * Each call is told with its own; 12 can come from all but link_flight. */
 #ifndef HUSKELAPSE_H
 #define HUSKELAPSE_H
 
@@ -41,23 +68,31 @@ typedef struct {
     uint8_t nonce[12];
 } LinkReading;
 
-/* These answer 0, or the number of the refusal. */
+/* A call that answers a uint8_t answers 0, or the number of the refusal. */
 
-/* A receive side with nothing keyed. A protected part has at least min_protected bytes, 0 to 17. */
+/* Nothing keyed, no datagram begun, whatever stood in the words. A protected part has at least min_protected bytes, 0 to 17. Refused by
+ * 12, and then so is every call on it. */
 uint8_t link_receiving(LinkReceiving *s, size_t min_protected);
+/* Keys an epoch to receive, 2 or above and above every earlier one, with its IV. Refused by 12, 13, 23. */
 uint8_t link_key_receive(LinkReceiving *s, uint16_t epoch, const uint8_t iv[12]);
-/* 6 where the record under a question is dropped with its epoch. */
+/* Removes an epoch that is keyed. Refused by 12, 13; 6 where it is done, and the record under a question is dropped with its epoch. */
 uint8_t link_remove_receive(LinkReceiving *s, uint16_t epoch);
+/* From the next record read on sealed records are opened. Refused by 12. */
 uint8_t link_enable_peer_encryption(LinkReceiving *s);
+/* From the next record read on epoch bits 2 mean an application epoch before they mean epoch 2. Refused by 12. */
 uint8_t link_release_application_data(LinkReceiving *s);
-/* Begins a datagram of n bytes. */
+/* Begins a datagram of n bytes; a question that waits is cancelled. Refused by 1, 12. */
 uint8_t link_begin(LinkReceiving *s, size_t n);
 
 /* One record after the other: read; where asked, mask; where asked, opened. The same datagram, of the length begun, goes into each
  * call. The mask is XORed onto the number bytes in place. opened is 1 if the host put the plaintext, length bytes (16 fewer than the
  * protected part), at the start of the protected part, else 0. */
+
+/* The next record, or the question that waits again. Refused by 12, 15; ended by 2, 3; dropped by 4, 5, 6, 7. */
 LinkReading link_read(LinkReceiving *s, const uint8_t *d, size_t n);
+/* The reply to LINK_MASK. Refused by 12, 15; dropped by 8, 9. */
 LinkReading link_mask(LinkReceiving *s, uint8_t mask_0, uint8_t mask_1, uint8_t *d, size_t n);
+/* The reply to LINK_OPENING. Refused by 12, 15; ended by 3; dropped by 10, 11. */
 LinkReading link_opened(LinkReceiving *s, uint8_t opened, size_t length, const uint8_t *d, size_t n);
 
 /* ---- sending */
@@ -72,7 +107,7 @@ enum {
     LINK_SEAL = 2        /* seal length bytes of the queue from start on, for epoch and number under nonce, header beside them */
 };
 
-/* kind 0 is refused, by 12. The part to seal is the content, its type and room for the tag of 16. */
+/* Kind 0 is refused. The part to seal is the content, its type and room for the tag of 16. */
 typedef struct {
     uint8_t kind, refusal;
     uint16_t epoch;
@@ -86,23 +121,26 @@ enum {
     LINK_TAKEN = 2  /* a datagram of length bytes is at the start of the buffer */
 };
 
-/* kind 0 is refused: 12, 23 (the front datagram is not wholly sealed), 16 (length bytes are needed). */
+/* Kind 0 is refused; by 16, length bytes are needed. */
 typedef struct {
     uint8_t kind, refusal;
     size_t length;
 } LinkTake;
 
-/* Nothing keyed, nothing queued: MTU 576 to 1,500, at most limit datagrams, 1 to 16. The queue is a buffer of the host with at least
- * limit times mtu bytes, the same in every call. */
+/* Nothing keyed, nothing queued, whatever stood in the words: MTU 576 to 1,500, at most limit datagrams, 1 to 16. The queue is a buffer
+ * of the host with at least limit times mtu bytes, the same in every call. Refused by 12, and then so is every call on it. */
 uint8_t link_sending(LinkSending *s, size_t mtu, size_t limit);
+/* Keys an epoch to send, 2 or above and above every earlier one, with its IV; an application epoch replaces the one before. Refused by
+ * 12, 13, 23. */
 uint8_t link_key_send(LinkSending *s, uint16_t epoch, const uint8_t iv[12]);
-/* A record: in plaintext in epoch 0, else to be sealed. */
+/* A record: in plaintext in epoch 0, else to be sealed. Refused by 12, 13, 14, 17, 19, 20. */
 uint8_t link_send(LinkSending *s, uint16_t epoch, uint8_t content_type, const uint8_t *content, size_t content_len, uint8_t *queue,
     size_t queue_len);
-/* The oldest sealing that waits; the host seals it in place in the queue, then says so, with the mask of the two number bytes. */
+/* The oldest sealing that waits; the host seals it in place in the queue, then says so. Refused by 12. */
 LinkSealing link_sealing(const LinkSending *s);
+/* It is sealed, length bytes, and this is the mask of its two number bytes. Refused by 12, 15. */
 uint8_t link_sealed(LinkSending *s, size_t length, uint8_t mask_0, uint8_t mask_1, uint8_t *queue, size_t queue_len);
-/* The front datagram, copied to the start of a buffer. */
+/* The front datagram, copied to the start of a buffer. Refused by 12, 16, 23. */
 LinkTake link_take(LinkSending *s, uint8_t *buffer, size_t buffer_len, const uint8_t *queue, size_t queue_len);
 
 /* ---- saved records and handshake messages */
@@ -113,14 +151,14 @@ typedef struct {
     uint64_t word[73], numbers[384];
 } LinkFlight;
 
-/* Nothing saved. */
+/* Nothing saved, whatever stood in the words. */
 void link_flight(uint64_t word[73], uint64_t numbers[384]);
-/* A new flight: it is empty. */
+/* A new flight: it is empty. Refused by 12. */
 uint8_t link_begin_flight(uint64_t word[73]);
-/* A record sent and saved. */
+/* A record sent and saved. Refused by 12, 13, 14, 17, 18, 19, 20. */
 uint8_t link_send_saved(LinkSending *s, uint64_t word[73], uint64_t numbers[384], uint16_t epoch, uint8_t content_type,
     const uint8_t *content, size_t content_len, uint8_t *queue, size_t queue_len, uint8_t *kept, size_t kept_len);
-/* A handshake message of a type, cut, sent and saved, wholly or not at all. */
+/* A handshake message of a type, cut, sent and saved, wholly or not at all. Refused by 12, 14, 17, 18, 19, 20, 21. */
 uint8_t link_create_handshake(LinkSending *s, uint64_t word[73], uint64_t numbers[384], uint8_t msg_type, const uint8_t *body,
     size_t body_len, uint8_t *queue, size_t queue_len, uint8_t *kept, size_t kept_len);
 
@@ -131,16 +169,17 @@ typedef struct {
     uint64_t count[1], epochs[32], numbers[32];
 } LinkNotes;
 
-/* The saved records that are not acknowledged, sent again under new numbers in new datagrams, wholly or not at all. */
+/* The saved records that are not acknowledged, sent again under new numbers in new datagrams, wholly or not at all. Refused by
+ * 12, 13, 14, 17, 19, 20, 22. */
 uint8_t link_resend(LinkSending *s, uint64_t word[73], uint64_t numbers[384], const uint8_t *kept, size_t kept_len, uint8_t *queue,
     size_t queue_len);
 /* Acts on an ACK with this content: marks the saved records that it names. The flight empties if it has records of epoch 2 and all of
- * these are marked. A content without the form of an ACK marks nothing and is not refused. */
+ * these are marked. A content without the form of an ACK marks nothing and is not refused. Refused by 12. */
 uint8_t link_process_ack(uint64_t word[73], uint64_t numbers[384], const uint8_t *content, size_t content_len);
-/* Notes a record for the outgoing ACK. Where 32 are noted, nothing changes, and the answer is 0. */
+/* Notes a record for the outgoing ACK. Where 32 are noted, nothing changes, and the answer is 0. Refused by 12. */
 uint8_t link_note(uint64_t count[1], uint64_t epochs[32], uint64_t numbers[32], uint64_t epoch, uint64_t number);
 /* The ACK of all that is noted, sent in the application epoch if keyed, else in 2; then nothing is noted. With nothing noted, nothing
- * is sent, and the answer is 0. */
+ * is sent, and the answer is 0. Refused by 12, 13, 17, 19, 20. */
 uint8_t link_send_ack(LinkSending *s, uint64_t count[1], uint64_t epochs[32], uint64_t numbers[32], uint8_t *queue, size_t queue_len);
 
 #ifdef __cplusplus
