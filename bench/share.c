@@ -10,7 +10,7 @@
 #include <string.h>
 #include <time.h>
 
-#include "link.h"
+#include "huskelapse.h"
 
 enum { MTU = 1500, LIMIT = 16, TAG = 16, ROW = 256, ROWS = 40, MOST_RUNS = 99, HEADER = 5 };
 

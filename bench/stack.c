@@ -6,7 +6,7 @@
 #include <stdio.h>
 #include <stdlib.h>
 
-#include "link.h"
+#include "huskelapse.h"
 
 enum { SHALLOW = 65536, DEEP = 1 << 20, WORD = sizeof(uint64_t), CALLS = 24 };
 

@@ -1,8 +1,6 @@
-//! Links the driver with the static library of the Rattle crate `leaves`, and the timer with those of the record link.
+//! Links the driver with the static library of the Rattle crate `leaves`, and the timer with that of `link`.
 
 use std::env;
-
-const LINK: [&str; 4] = ["link", "link_sending", "link_flight", "link_acks"];
 
 fn main() {
     let root = env::var("CARGO_MANIFEST_DIR").unwrap();
@@ -13,9 +11,6 @@ fn main() {
     println!("cargo:rerun-if-env-changed=LEAVES_LIB");
     let links = env::var("LINK_LIBS").unwrap_or(folder);
     println!("cargo:rerun-if-env-changed=LINK_LIBS");
-    for name in LINK {
-        let link = format!("{links}/lib{name}.a");
-        println!("cargo:rustc-link-arg-bin=bench={link}");
-        println!("cargo:rerun-if-changed={link}");
-    }
+    println!("cargo:rustc-link-arg-bin=bench={links}/liblink.a");
+    println!("cargo:rerun-if-changed={links}/liblink.a");
 }

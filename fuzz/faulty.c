@@ -1,8 +1,8 @@
 /* Faults planted around the calls, one by the environment's FAULT, each of which the driver must find. Linked with --wrap,
- * and like the libraries built without sanitizers. */
+ * and like the library built without sanitizers. */
 #include <stdlib.h>
 
-#include "link.h"
+#include "huskelapse.h"
 
 LinkReading __real_link_read(LinkReceiving *s, const uint8_t *d, size_t n);
 LinkReading __real_link_mask(LinkReceiving *s, uint8_t m0, uint8_t m1, uint8_t *d, size_t n);

@@ -5,7 +5,7 @@
 #include <stddef.h>
 #include <stdint.h>
 
-#include "link.h"
+#include "huskelapse.h"
 
 /* ---- random choices, the same for the same seed and history */
 

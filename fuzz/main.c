@@ -27,7 +27,7 @@ enum { KINDS = 8, REFUSALS = 24, ENOUGH = 1000000 };
 
 #define R(n) (1u << (n))
 
-/* The answers that include/link.h and the specification name: by call and kind, the refusals. */
+/* The answers that include/huskelapse.h and the specification name: by call and kind, the refusals. */
 static const struct {
     const char *name;
     uint32_t refusals[KINDS];

@@ -5,7 +5,7 @@
 #include <stddef.h>
 #include <stdint.h>
 
-#include "link.h"
+#include "huskelapse.h"
 
 enum { EPOCHS = 16, DATAGRAM = 16384, TAG = 16 };
 

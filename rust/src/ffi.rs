@@ -1,4 +1,4 @@
-//! The C interface as include/link.h declares it.
+//! The C interface as include/huskelapse.h declares it.
 
 pub const RECEIVING_WORDS: usize = 89;
 pub const SENDING_WORDS: usize = 59;

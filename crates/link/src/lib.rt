@@ -1,369 +1,236 @@
-// The receive side of a link as C functions: a static library for hosts. The state is 89 words that the host keeps and lends; a call
-// changes them in place and copies none of them. Whatever stands in them, a call ends with an answer.
-ghost use mathlib.Core.Path.{_≡_};
-ghost use Prim.Native.Nat.{_<_};
-ghost use lib.ListN.{length};
-ghost use mathlib.Core.Bool.{true};
-ghost use Rattle.receiving.specs.Receiving.{freshOf, keyOf, removeOf, encryptOf, releaseOf, beginOf, readOf, maskOf, openedOf};
-ghost use Rattle.records.specs.Records.{readStep};
-ghost use Rattle.link_words.specs.Words.{keysOf, isFlat};
-ghost use Rattle.link_steps.specs.Goes.{Goes};
-ghost use Rattle.link_steps.specs.Opens.{opens};
-ghost use Rattle.link.specs.Flat.{answerOf, reasonOf, bare, flatReading, openingOf};
-ghost use Rattle.link_calls.specs.Kept.{stateOf};
-ghost use Rattle.link.specs.Calls.{Stepped, Does, Reads, BeginsRead, masks, maskBytesOf, OpenedAs};
-use datagram::Datagram;
-use datagram::Question;
-use datagram::Reading;
-use datagram::Reason;
-use datagram::Step;
-use link_steps::Opened;
-use opening_reply::Opening;
-use receiving::Answer;
+// The link's C interface, one static library for hosts: each call of link_receiving, link_sending, link_flight and link_acks as a C
+// function with the same contract. The library keeps no state.
+ghost use Rattle.link_receiving.specs.Calls as receive;
+ghost use Rattle.link_sending.specs.Calls as sends;
+ghost use Rattle.link_flight.specs.Calls as flights;
+ghost use Rattle.link_acks.specs.Calls as acks;
+use link_receiving::LinkReading;
+use link_sending::LinkSealing;
+use link_sending::LinkTake;
 
-// What a call says of the record at the cursor, by kind:
-//   0 refused by 12 or 15, and nothing has changed;
-//   1 the datagram ends, without a fault or by 2 or 3;
-//   2 a record is dropped by 4 to 11;
-//   3 a plaintext record: type, number, and where its content is;
-//   4 a sealed record, unopened: epoch bits in place of the epoch, number, and where its protected part is;
-//   5 an opened record: epoch, number, type, and where its content is;
-//   6 the mask is asked for: epoch, and where the 16 bytes are;
-//   7 the opening is asked for: epoch, number, nonce, where the record starts, how long its header and its protected part are.
-// Fields that a kind does not use are zeros.
-#[repr(C)]
-pub struct LinkReading {
-    pub kind: u8,
-    pub refusal: u8,
-    pub content_type: u8,
-    pub epoch: u16,
-    pub number: u64,
-    pub start: usize,
-    pub header_len: usize,
-    pub length: usize,
-    pub nonce: [u8; 12],
-}
+// ---- receiving
 
-// ---- answers
-
-// The number of a refusal; 0 where the call is done. A record dropped with its epoch is 6.
-fn answer_of(a: Answer) -> u8
-    ensures { λ r. ⌜ r ≡ answerOf a ⌝ }
-{
-    match a {
-        Answer::Done => 0,
-        Answer::Dropped => 6,
-        Answer::Setting => 12,
-        Answer::TooLong => 1,
-        Answer::Unusable => 13,
-        Answer::Full => 23,
-    }
-}
-
-fn reason_of(r: Reason) -> u8
-    ensures { λ n. ⌜ n ≡ reasonOf r ⌝ }
-{
-    match r {
-        Reason::Invalid => 4,
-        Reason::EarlyBits => 5,
-        Reason::NoKeys => 6,
-        Reason::TooShort => 7,
-        Reason::TooHigh => 8,
-        Reason::Replayed => 9,
-        Reason::NotOpened => 10,
-        Reason::NoContentType => 11,
-    }
-}
-
-fn told(kind: u8, refusal: u8) -> LinkReading
-    ensures { λ r. ⌜ r ≡ bare kind refusal ⌝ }
-{
-    LinkReading {
-        kind: kind,
-        refusal: refusal,
-        content_type: 0,
-        epoch: 0,
-        number: 0,
-        start: 0,
-        header_len: 0,
-        length: 0,
-        nonce: [0u8; 12],
-    }
-}
-
-fn flat_reading(r: Reading, nonce: [u8; 12]) -> LinkReading
-    ensures { λ t. ⌜ t ≡ flatReading r nonce ⌝ }
-{
-    match r {
-        Reading::Setting => told(0, 12),
-        Reading::Reply => told(0, 15),
-        Reading::End => told(1, 0),
-        Reading::Incomplete => told(1, 2),
-        Reading::TooMany => told(1, 3),
-        Reading::Dropped(why) => told(2, reason_of(why)),
-        Reading::Plaintext {
-            content_type,
-            number,
-            start,
-            length,
-        } => LinkReading {
-            kind: 3,
-            refusal: 0,
-            content_type: content_type,
-            epoch: 0,
-            number: number,
-            start: start,
-            header_len: 0,
-            length: length,
-            nonce: [0u8; 12],
-        },
-        Reading::Unopened {
-            epoch_bits,
-            number,
-            start,
-            length,
-        } => LinkReading {
-            kind: 4,
-            refusal: 0,
-            content_type: 0,
-            epoch: epoch_bits as u16,
-            number: number,
-            start: start,
-            header_len: 0,
-            length: length,
-            nonce: [0u8; 12],
-        },
-        Reading::Opened {
-            epoch,
-            number,
-            content_type,
-            start,
-            length,
-        } => LinkReading {
-            kind: 5,
-            refusal: 0,
-            content_type: content_type,
-            epoch: epoch,
-            number: number,
-            start: start,
-            header_len: 0,
-            length: length,
-            nonce: [0u8; 12],
-        },
-        Reading::Mask { epoch, start } => LinkReading {
-            kind: 6,
-            refusal: 0,
-            content_type: 0,
-            epoch: epoch,
-            number: 0,
-            start: start,
-            header_len: 0,
-            length: 16,
-            nonce: [0u8; 12],
-        },
-        Reading::Opening {
-            epoch,
-            number,
-            start,
-            header_len,
-            length,
-        } => LinkReading {
-            kind: 7,
-            refusal: 0,
-            content_type: 0,
-            epoch: epoch,
-            number: number,
-            start: start,
-            header_len: header_len,
-            length: length,
-            nonce: nonce,
-        },
-    }
-}
-
-fn opening_of(opened: u8, length: usize) -> Opening
-    ensures { λ r. ⌜ r ≡ openingOf opened length ⌝ }
-{
-    if opened == 1 {
-        return Opening::Yes(length);
-    }
-    Opening::No
-}
-
-// A step written, and what it says.
-fn settle(w: &mut [u64; 89], t: Step) -> LinkReading
-    requires { ⌜ isFlat (now w) ≡ true ⌝ }
-    ensures { λ r. ⌜ Stepped r (now (w .exit)) (now (w .entry)) t ⌝ }
-{
-    let b = t.datagram;
-    let r = t.reading;
-    let nonce = t.nonce;
-    link_words::sized(w);
-    link_words::put_datagram(w, b);
-    flat_reading(r, nonce)
-}
-
-// ---- the calls
-
-// A receive side with nothing keyed and no datagram begun, whatever stood in the words. A protected part has at least min_protected
-// bytes, 0 to 17.
 #[no_mangle]
 pub extern "C" fn link_receiving(w: &mut [u64; 89], min_protected: usize) -> u8
-    ensures { λ r. ⌜ (r ≡ answerOf (freshOf «min_protected» .answer)) × (stateOf (now (w .exit)) ≡ freshOf «min_protected» .state) × (isFlat (now (w .exit)) ≡ true) ⌝ }
+    ensures { λ r. ⌜ receive.FreshCall r (now (w .exit)) «min_protected» ⌝ }
 {
-    link_words::put_fresh(w, min_protected);
-    if 17 < min_protected {
-        return 12;
-    }
-    0
+    link_receiving::fresh(w, min_protected)
 }
 
-// Keys an epoch to receive, with its IV.
 #[no_mangle]
 pub extern "C" fn link_key_receive(w: &mut [u64; 89], epoch: u16, iv: &[u8; 12]) -> u8
-    ensures { λ r. ⌜ Does r (now (w .exit)) (now (w .entry)) (keyOf (stateOf (now (w .entry))) epoch (now (iv .entry))) ⌝ }
+    ensures { λ r. ⌜ receive.KeyReceiveCall r (now (w .exit)) (now (w .entry)) epoch (now (iv .entry)) ⌝ }
 {
-    if link_words::is_flat(w) {
-        let v = *iv;
-        return answer_of(link_calls::key(w, epoch, v));
-    }
-    12
+    link_receiving::key_receive(w, epoch, iv)
 }
 
-// Removes a receive epoch, and the question under it: 6 where a record is dropped with it.
 #[no_mangle]
 pub extern "C" fn link_remove_receive(w: &mut [u64; 89], epoch: u16) -> u8
-    ensures { λ r. ⌜ Does r (now (w .exit)) (now (w .entry)) (removeOf (stateOf (now (w .entry))) epoch) ⌝ }
+    ensures { λ r. ⌜ receive.RemoveReceiveCall r (now (w .exit)) (now (w .entry)) epoch ⌝ }
 {
-    if link_words::is_flat(w) {
-        return answer_of(link_calls::remove(w, epoch));
-    }
-    12
+    link_receiving::remove_receive(w, epoch)
 }
 
-// Peer encryption on, from the next record read.
 #[no_mangle]
 pub extern "C" fn link_enable_peer_encryption(w: &mut [u64; 89]) -> u8
-    ensures { λ r. ⌜ Does r (now (w .exit)) (now (w .entry)) (encryptOf (stateOf (now (w .entry)))) ⌝ }
+    ensures { λ r. ⌜ receive.EnablePeerEncryptionCall r (now (w .exit)) (now (w .entry)) ⌝ }
 {
-    if link_words::is_flat(w) {
-        return answer_of(link_calls::encrypt(w));
-    }
-    12
+    link_receiving::enable_peer_encryption(w)
 }
 
-// Application data released.
 #[no_mangle]
 pub extern "C" fn link_release_application_data(w: &mut [u64; 89]) -> u8
-    ensures { λ r. ⌜ Does r (now (w .exit)) (now (w .entry)) (releaseOf (stateOf (now (w .entry)))) ⌝ }
+    ensures { λ r. ⌜ receive.ReleaseApplicationDataCall r (now (w .exit)) (now (w .entry)) ⌝ }
 {
-    if link_words::is_flat(w) {
-        return answer_of(link_calls::release(w));
-    }
-    12
+    link_receiving::release_application_data(w)
 }
 
-// Begins a datagram of n bytes; a question that waits is cancelled.
 #[no_mangle]
 pub extern "C" fn link_begin(w: &mut [u64; 89], n: usize) -> u8
-    ensures { λ r. ⌜ Does r (now (w .exit)) (now (w .entry)) (beginOf (stateOf (now (w .entry))) n) ⌝ }
+    ensures { λ r. ⌜ receive.BeginCall r (now (w .exit)) (now (w .entry)) n ⌝ }
 {
-    if link_words::is_flat(w) {
-        return answer_of(link_calls::begin(w, n));
-    }
-    12
+    link_receiving::begin(w, n)
 }
 
-// The record at the cursor of a datagram, where no question waits.
-fn read_on(w: &mut [u64; 89], b: Datagram, d: &[u8]) -> LinkReading
-    requires { ⌜ (isFlat (now w) ≡ true) × Goes (keysOf (now w)) b (length (now d)) ⌝ }
-    ensures { λ r. ⌜ Stepped r (now (w .exit)) (now (w .entry)) (readStep (keysOf (now (w .entry))) b (now (d .entry))) ⌝ }
-{
-    let t = link_steps::go_on(w, b, d);
-    settle(w, t)
-}
-
-// Begins a datagram and reads its first record, in one call. A refused beginning is told by its number, 1 or 12.
-#[no_mangle]
-pub extern "C" fn link_begin_read(w: &mut [u64; 89], d: &[u8]) -> LinkReading
-    ensures { λ r. ⌜ BeginsRead r (now (w .exit)) (now (w .entry)) (now (d .entry)) ⌝ }
-{
-    if link_words::is_flat(w) {
-        let b = link_words::datagram_of(w);
-        if link_words::is_sound(w, b) {
-            if 16384 < d.len() {
-                return told(0, 1);
-            }
-            let first = Datagram {
-                size: d.len(),
-                at: 0,
-                readings: 0,
-                question: Question::Nothing,
-            };
-            return read_on(w, first, d);
-        }
-        return told(0, 12);
-    }
-    told(0, 12)
-}
-
-// One record of the datagram begun, or the question that waits again.
 #[no_mangle]
 pub extern "C" fn link_read(w: &mut [u64; 89], d: &[u8]) -> LinkReading
-    ensures { λ r. ⌜ Reads r (now (w .exit)) (now (w .entry)) (readOf (stateOf (now (w .entry))) (now (d .entry))) ⌝ }
+    ensures { λ r. ⌜ receive.ReadCall r (now (w .exit)) (now (w .entry)) (now (d .entry)) ⌝ }
 {
-    if link_words::is_flat(w) {
-        let b = link_words::datagram_of(w);
-        if link_steps::goes_on(w, b, d.len()) {
-            return read_on(w, b, d);
-        }
-        let t = link_steps::wait_step(w, b, d);
-        return settle(w, t);
-    }
-    told(0, 12)
+    link_receiving::read(w, d)
 }
 
-// The mask that was asked for; the number bytes are unmasked in the datagram.
+#[no_mangle]
+pub extern "C" fn link_begin_read(w: &mut [u64; 89], d: &[u8]) -> LinkReading
+    ensures { λ r. ⌜ receive.BeginReadCall r (now (w .exit)) (now (w .entry)) (now (d .entry)) ⌝ }
+{
+    link_receiving::begin_read(w, d)
+}
+
 #[no_mangle]
 pub extern "C" fn link_mask(w: &mut [u64; 89], mask_0: u8, mask_1: u8, d: &mut [u8]) -> LinkReading
-    ensures { λ r. ⌜ Reads r (now (w .exit)) (now (w .entry)) (maskOf (stateOf (now (w .entry))) (masks «mask_0» «mask_1») (now (d .entry)) .0) ⌝ }
-    ensures { λ r. ⌜ now (d .exit) ≡ maskBytesOf (now (w .entry)) «mask_0» «mask_1» (now (d .entry)) ⌝ }
+    ensures { λ r. ⌜ receive.MaskCall r (now (w .exit)) (now (w .entry)) «mask_0» «mask_1» (now (d .exit)) (now (d .entry)) ⌝ }
 {
-    if link_words::is_flat(w) {
-        let b = link_words::datagram_of(w);
-        let t = link_steps::mask_step(w, b, [mask_0, mask_1], d);
-        return settle(w, t);
-    }
-    told(0, 12)
+    link_receiving::mask(w, mask_0, mask_1, d)
 }
 
-// A number marked where the reply to an opening question says so.
-fn mark(w: &mut [u64; 89], o: Opened)
-    requires { ⌜ (o .place < 5) × (isFlat (now w) ≡ true) ⌝ }
-    ensures { λ _. ⌜ (keysOf (now (w .exit)) ≡ opens o (keysOf (now (w .entry))) .keys) × (isFlat (now (w .exit)) ≡ true) ⌝ }
-{
-    let i = o.place;
-    link_words::sized(w);
-    if o.marks {
-        let v = link_words::window_at(w, i);
-        link_words::put_window(w, i, v.update(o.number));
-    }
-}
-
-// Whether the record was opened, 0 or 1; its plaintext, of so many bytes, then stands at the start of the protected part.
 #[no_mangle]
 pub extern "C" fn link_opened(w: &mut [u64; 89], opened: u8, length: usize, d: &[u8]) -> LinkReading
-    ensures { λ r. ⌜ OpenedAs r (now (w .exit)) (now (w .entry)) opened (openedOf (stateOf (now (w .entry))) (openingOf opened length) (now (d .entry))) ⌝ }
+    ensures { λ r. ⌜ receive.OpenedCall r (now (w .exit)) (now (w .entry)) opened length (now (d .entry)) ⌝ }
 {
-    if 1 < opened {
-        return told(0, 12);
-    }
-    if link_words::is_flat(w) {
-        let b = link_words::datagram_of(w);
-        let o = link_steps::opened_step(w, b, opening_of(opened, length), d);
-        mark(w, o);
-        let t = o.step;
-        return settle(w, t);
-    }
-    told(0, 12)
+    link_receiving::opened(w, opened, length, d)
+}
+
+// ---- sending
+
+#[no_mangle]
+pub extern "C" fn link_sending(w: &mut [u64; 59], mtu: usize, limit: usize) -> u8
+    ensures { λ r. ⌜ sends.FreshCall r (now (w .exit)) mtu limit ⌝ }
+{
+    link_sending::fresh(w, mtu, limit)
+}
+
+#[no_mangle]
+pub extern "C" fn link_key_send(w: &mut [u64; 59], epoch: u16, iv: &[u8; 12]) -> u8
+    ensures { λ r. ⌜ sends.KeySendCall r (now (w .exit)) (now (w .entry)) epoch (now (iv .entry)) ⌝ }
+{
+    link_sending::key_send(w, epoch, iv)
+}
+
+#[no_mangle]
+pub extern "C" fn link_send(
+    w: &mut [u64; 59],
+    epoch: u16,
+    content_type: u8,
+    content: &[u8],
+    queue: &mut [u8],
+) -> u8
+    ensures { λ r. ⌜ sends.SendCall r (now (w .exit)) (now (w .entry)) epoch «content_type» (now (content .entry)) (now (queue .exit)) (now (queue .entry)) ⌝ }
+{
+    link_sending::send(w, epoch, content_type, content, queue)
+}
+
+#[no_mangle]
+pub extern "C" fn link_sealing(w: &[u64; 59]) -> LinkSealing
+    ensures { λ r. ⌜ sends.SealingCall r (now (w .entry)) ⌝ }
+{
+    link_sending::sealing(w)
+}
+
+#[no_mangle]
+pub extern "C" fn link_sealed(
+    w: &mut [u64; 59],
+    length: usize,
+    mask_0: u8,
+    mask_1: u8,
+    queue: &mut [u8],
+) -> u8
+    ensures { λ r. ⌜ sends.SealedCall r (now (w .exit)) (now (w .entry)) length «mask_0» «mask_1» (now (queue .exit)) (now (queue .entry)) ⌝ }
+{
+    link_sending::sealed(w, length, mask_0, mask_1, queue)
+}
+
+#[no_mangle]
+pub extern "C" fn link_take(w: &mut [u64; 59], buffer: &mut [u8], queue: &[u8]) -> LinkTake
+    ensures { λ r. ⌜ sends.TakeCall r (now (w .exit)) (now (w .entry)) (now (buffer .exit)) (now (buffer .entry)) (now (queue .entry)) ⌝ }
+{
+    link_sending::take(w, buffer, queue)
+}
+
+// ---- saved records and handshake messages
+
+#[no_mangle]
+pub extern "C" fn link_flight(f: &mut [u64; 73], numbers: &mut [u64; 384])
+    ensures { λ _. ⌜ flights.FreshCall (now (f .exit)) (now (numbers .exit)) ⌝ }
+{
+    link_flight::fresh(f, numbers)
+}
+
+#[no_mangle]
+pub extern "C" fn link_begin_flight(f: &mut [u64; 73]) -> u8
+    ensures { λ r. ⌜ flights.BeginFlightCall r (now (f .exit)) (now (f .entry)) ⌝ }
+{
+    link_flight::begin_flight(f)
+}
+
+#[no_mangle]
+pub extern "C" fn link_send_saved(
+    w: &mut [u64; 59],
+    f: &mut [u64; 73],
+    numbers: &mut [u64; 384],
+    epoch: u16,
+    content_type: u8,
+    content: &[u8],
+    queue: &mut [u8],
+    kept: &mut [u8],
+) -> u8
+    ensures { λ r. ⌜ flights.SendSavedCall r (now (w .exit)) (now (w .entry)) (now (f .exit)) (now (f .entry)) (now (numbers .exit)) (now (numbers .entry)) epoch «content_type» (now (content .entry)) (now (queue .exit)) (now (queue .entry)) (now (kept .exit)) (now (kept .entry)) ⌝ }
+{
+    link_flight::send_saved(w, f, numbers, epoch, content_type, content, queue, kept)
+}
+
+#[no_mangle]
+pub extern "C" fn link_create_handshake(
+    w: &mut [u64; 59],
+    f: &mut [u64; 73],
+    numbers: &mut [u64; 384],
+    kind: u8,
+    body: &[u8],
+    queue: &mut [u8],
+    kept: &mut [u8],
+) -> u8
+    ensures { λ r. ⌜ flights.CreateHandshakeCall r (now (w .exit)) (now (w .entry)) (now (f .exit)) (now (f .entry)) (now (numbers .exit)) (now (numbers .entry)) kind (now (body .entry)) (now (queue .exit)) (now (queue .entry)) (now (kept .exit)) (now (kept .entry)) ⌝ }
+{
+    link_flight::create_handshake(w, f, numbers, kind, body, queue, kept)
+}
+
+// ---- resends and ACKs
+
+#[no_mangle]
+pub extern "C" fn link_resend(
+    w: &mut [u64; 59],
+    f: &mut [u64; 73],
+    numbers: &mut [u64; 384],
+    kept: &[u8],
+    queue: &mut [u8],
+) -> u8
+    ensures { λ r. ⌜ acks.ResendCall r (now (w .exit)) (now (w .entry)) (now (f .exit)) (now (f .entry)) (now (numbers .exit)) (now (numbers .entry)) (now (kept .entry)) (now (queue .exit)) (now (queue .entry)) ⌝ }
+{
+    link_acks::resend(w, f, numbers, kept, queue)
+}
+
+#[no_mangle]
+pub extern "C" fn link_process_ack(
+    f: &mut [u64; 73],
+    numbers: &mut [u64; 384],
+    content: &[u8],
+) -> u8
+    ensures { λ r. ⌜ acks.ProcessAckCall r (now (f .exit)) (now (f .entry)) (now (numbers .exit)) (now (numbers .entry)) (now (content .entry)) ⌝ }
+{
+    link_acks::process_ack(f, numbers, content)
+}
+
+#[no_mangle]
+pub extern "C" fn link_note(
+    count: &mut [u64; 1],
+    epochs: &mut [u64; 32],
+    numbers: &mut [u64; 32],
+    epoch: u64,
+    number: u64,
+) -> u8
+    ensures { λ r. ⌜ acks.NoteCall r (acks.notesOf (now (count .exit)) (now (epochs .exit)) (now (numbers .exit))) (acks.notesOf (now (count .entry)) (now (epochs .entry)) (now (numbers .entry))) epoch number ⌝ }
+{
+    link_acks::note(count, epochs, numbers, epoch, number)
+}
+
+#[no_mangle]
+pub extern "C" fn link_send_ack(
+    w: &mut [u64; 59],
+    count: &mut [u64; 1],
+    epochs: &mut [u64; 32],
+    numbers: &mut [u64; 32],
+    queue: &mut [u8],
+) -> u8
+    ensures { λ r. ⌜ acks.SendAckCall r (now (w .exit)) (now (w .entry)) (acks.notesOf (now (count .exit)) (now (epochs .exit)) (now (numbers .exit))) (acks.notesOf (now (count .entry)) (now (epochs .entry)) (now (numbers .entry))) (now (queue .exit)) (now (queue .entry)) ⌝ }
+{
+    link_acks::send_ack(w, count, epochs, numbers, queue)
 }

@@ -4,11 +4,13 @@ use mathlib.Core.Bool.{Bool, true, false}
 use mathlib.Core.List.{List}
 use mathlib.Core.Path.{_≡_, refl, sym, ap, _∙_}
 use Prim.Native.Nat.{ℕ}
-use lib.ListN.{getD}
+use lib.ListN.{getD, length}
 use Rattle.base.specs.Choose.{choose, both, if-true, if-false, both-true, both-false}
 use Rattle.outgoing.specs.State as sends
 use Rattle.resend.specs.declared.Resent.{Resent}
-use Rattle.resend.specs.Tests.{refusal}
+use Rattle.resend.specs.Tests.{refusal, resendAnswer}
+use Rattle.resend.specs.Resend.{resendState, resendQueue}
+use Rattle.process_ack.specs.Ack.{acked}
 use Rattle.process_ack.specs.declared.Acked.{Acked}
 use Rattle.acks.specs.declared.Notes as noted
 use Rattle.acks.specs.declared.Noting.{Noting}
@@ -53,6 +55,26 @@ Acknowledges r v w m n k =
     (r ≡ choose (isFlat w) (sends.refusal (k .answer)) 12)
     × (stateOf v ≡ choose (isFlat w) (k .state) (stateOf w)) × (isFlat v ≡ isFlat w)
     × (m ≡ choose (isFlat w) (k .notes) n)
+
+-- ---- the contracts of the calls, here and over C: r answered; w, f, n, queue q, notes a before; v, g, m, p, b behind
+
+-- k the saved contents
+abbrev pub ResendCall : ℕ → List ℕ → List ℕ → List ℕ → List ℕ → List ℕ → List ℕ → List ℕ → List ℕ → List ℕ → Type 0
+ResendCall r v w g f m n k p q =
+    Resends r v w g f m n (resendState (resendAnswer (stateOf w) (flightOf f n) (length q) (length k)) (stateOf w) (flightOf f n) k q)
+    × (p ≡ either w f (resendQueue (resendAnswer (stateOf w) (flightOf f n) (length q) (length k)) (stateOf w) (flightOf f n) k q) q)
+
+-- an ACK with content c
+abbrev pub ProcessAckCall : ℕ → List ℕ → List ℕ → List ℕ → List ℕ → List ℕ → Type 0
+ProcessAckCall r g f m n c = Acts r g f m n (acked (flightOf f n) c)
+
+abbrev pub NoteCall : ℕ → noted.Notes → noted.Notes → ℕ → ℕ → Type 0
+NoteCall r b a epoch number = Noted r b (noting.noted a epoch number)
+
+abbrev pub SendAckCall : ℕ → List ℕ → List ℕ → noted.Notes → noted.Notes → List ℕ → List ℕ → Type 0
+SendAckCall r v w b a p q =
+    Acknowledges r v w b a (noting.sentAck (stateOf w) a (length q))
+    × (p ≡ choose (isFlat w) (noting.ackMemory (stateOf w) a q) q)
 
 -- ---- from the parts to the whole
 

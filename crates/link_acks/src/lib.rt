@@ -1,16 +1,10 @@
-// Resends and ACKs as C functions: a static library for hosts. The words of the sending side and of the flight are those of link_sending
-// and link_flight. What is noted for the outgoing ACK is a count and two tables of 32 words.
+// Resends and ACKs as a host calls them. The words of the sending side and of the flight are those of link_sending and link_flight.
+// What is noted for the outgoing ACK is a count and two tables of 32 words.
 ghost use mathlib.Core.Path.{_≡_};
-ghost use lib.ListN.{length};
 ghost use Rattle.outgoing.specs.State as sends;
-ghost use Rattle.resend.specs.Tests.{refusal, resendAnswer};
-ghost use Rattle.resend.specs.Resend.{resendState, resendQueue};
-ghost use Rattle.process_ack.specs.Ack.{acked};
+ghost use Rattle.resend.specs.Tests.{refusal};
 ghost use Rattle.acks.specs.Acks as noting;
-ghost use Rattle.base.specs.Choose.{choose};
-ghost use Rattle.send_words.specs.Words.{stateOf, isFlat};
-ghost use Rattle.flight_words.specs.Words.{flightOf};
-ghost use Rattle.link_acks.specs.Calls.{either, Resends, Acts, notesOf, Noted, Acknowledges};
+ghost use Rattle.link_acks.specs.Calls.{notesOf, ResendCall, ProcessAckCall, NoteCall, SendAckCall};
 use acks::NoteAnswer;
 use acks::Notes;
 use outgoing::SendAnswer;
@@ -68,16 +62,14 @@ fn notes_of(count: [u64; 1], epochs: [u64; 32], numbers: [u64; 32]) -> Notes
 }
 
 // Sends the flight again, but for what is acknowledged, wholly or not at all.
-#[no_mangle]
-pub extern "C" fn link_resend(
+pub fn resend(
     w: &mut [u64; 59],
     f: &mut [u64; 73],
     numbers: &mut [u64; 384],
     kept: &[u8],
     queue: &mut [u8],
 ) -> u8
-    ensures { λ r. ⌜ Resends r (now (w .exit)) (now (w .entry)) (now (f .exit)) (now (f .entry)) (now (numbers .exit)) (now (numbers .entry)) (resendState (resendAnswer (stateOf (now (w .entry))) (flightOf (now (f .entry)) (now (numbers .entry))) (length (now (queue .entry))) (length (now (kept .entry)))) (stateOf (now (w .entry))) (flightOf (now (f .entry)) (now (numbers .entry))) (now (kept .entry)) (now (queue .entry))) ⌝ }
-    ensures { λ r. ⌜ now (queue .exit) ≡ either (now (w .entry)) (now (f .entry)) (resendQueue (resendAnswer (stateOf (now (w .entry))) (flightOf (now (f .entry)) (now (numbers .entry))) (length (now (queue .entry))) (length (now (kept .entry)))) (stateOf (now (w .entry))) (flightOf (now (f .entry)) (now (numbers .entry))) (now (kept .entry)) (now (queue .entry))) (now (queue .entry)) ⌝ }
+    ensures { λ r. ⌜ ResendCall r (now (w .exit)) (now (w .entry)) (now (f .exit)) (now (f .entry)) (now (numbers .exit)) (now (numbers .entry)) (now (kept .entry)) (now (queue .exit)) (now (queue .entry)) ⌝ }
 {
     if send_words::is_flat(w) {
         if flight_words::is_flat(f) {
@@ -99,13 +91,8 @@ pub extern "C" fn link_resend(
 }
 
 // Acts on an ACK with this content: marks the saved records that it names; the flight empties if those of epoch 2 are all marked.
-#[no_mangle]
-pub extern "C" fn link_process_ack(
-    f: &mut [u64; 73],
-    numbers: &mut [u64; 384],
-    content: &[u8],
-) -> u8
-    ensures { λ r. ⌜ Acts r (now (f .exit)) (now (f .entry)) (now (numbers .exit)) (now (numbers .entry)) (acked (flightOf (now (f .entry)) (now (numbers .entry))) (now (content .entry))) ⌝ }
+pub fn process_ack(f: &mut [u64; 73], numbers: &mut [u64; 384], content: &[u8]) -> u8
+    ensures { λ r. ⌜ ProcessAckCall r (now (f .exit)) (now (f .entry)) (now (numbers .exit)) (now (numbers .entry)) (now (content .entry)) ⌝ }
 {
     if flight_words::is_flat(f) {
         let n = *numbers;
@@ -122,15 +109,14 @@ pub extern "C" fn link_process_ack(
 }
 
 // Notes a record for the outgoing ACK, unless 32 are noted.
-#[no_mangle]
-pub extern "C" fn link_note(
+pub fn note(
     count: &mut [u64; 1],
     epochs: &mut [u64; 32],
     numbers: &mut [u64; 32],
     epoch: u64,
     number: u64,
 ) -> u8
-    ensures { λ r. ⌜ Noted r (notesOf (now (count .exit)) (now (epochs .exit)) (now (numbers .exit))) (noting.noted (notesOf (now (count .entry)) (now (epochs .entry)) (now (numbers .entry))) epoch number) ⌝ }
+    ensures { λ r. ⌜ NoteCall r (notesOf (now (count .exit)) (now (epochs .exit)) (now (numbers .exit))) (notesOf (now (count .entry)) (now (epochs .entry)) (now (numbers .entry))) epoch number ⌝ }
 {
     let c = *count;
     let e = *epochs;
@@ -148,16 +134,14 @@ pub extern "C" fn link_note(
 }
 
 // Sends the ACK of all that is noted, if anything is, wholly or not at all; then nothing is noted.
-#[no_mangle]
-pub extern "C" fn link_send_ack(
+pub fn send_ack(
     w: &mut [u64; 59],
     count: &mut [u64; 1],
     epochs: &mut [u64; 32],
     numbers: &mut [u64; 32],
     queue: &mut [u8],
 ) -> u8
-    ensures { λ r. ⌜ Acknowledges r (now (w .exit)) (now (w .entry)) (notesOf (now (count .exit)) (now (epochs .exit)) (now (numbers .exit))) (notesOf (now (count .entry)) (now (epochs .entry)) (now (numbers .entry))) (noting.sentAck (stateOf (now (w .entry))) (notesOf (now (count .entry)) (now (epochs .entry)) (now (numbers .entry))) (length (now (queue .entry)))) ⌝ }
-    ensures { λ r. ⌜ now (queue .exit) ≡ choose (isFlat (now (w .entry))) (noting.ackMemory (stateOf (now (w .entry))) (notesOf (now (count .entry)) (now (epochs .entry)) (now (numbers .entry))) (now (queue .entry))) (now (queue .entry)) ⌝ }
+    ensures { λ r. ⌜ SendAckCall r (now (w .exit)) (now (w .entry)) (notesOf (now (count .exit)) (now (epochs .exit)) (now (numbers .exit))) (notesOf (now (count .entry)) (now (epochs .entry)) (now (numbers .entry))) (now (queue .exit)) (now (queue .entry)) ⌝ }
 {
     if send_words::is_flat(w) {
         let s = send_words::load(w);

@@ -14,6 +14,8 @@ use Rattle.flight.specs.declared.Flight.{Flight}
 use Rattle.flight.specs.declared.Begun.{Begun}
 use Rattle.flight.specs.declared.Saved.{Saved}
 use Rattle.flight.specs.Flight.{begun, freshFlight}
+use Rattle.flight.specs.Save.{saveState, saveQueue, saveKept}
+use Rattle.messages.specs.Message.{messageAnswer, messageState, messageQueue, messageKept}
 use Rattle.send_words.specs.Words.{stateOf, isFlat}
 use Rattle.send_words.specs.Laws as sent
 use Rattle.flight_words.specs.Words.{entriesOf, flightOf, flatTo}
@@ -40,6 +42,28 @@ Saves r v w g f m n k =
     (r ≡ choose (areFlat w f) (refusal (k .answer)) 12)
     × (stateOf v ≡ choose (areFlat w f) (k .state) (stateOf w)) × (isFlat v ≡ isFlat w)
     × (flightOf g m ≡ choose (areFlat w f) (k .flight) (flightOf f n)) × (flatTo g 12 ≡ flatTo f 12)
+
+-- ---- the contracts of the calls, here and over C: r answered; w, f, n, queue q, contents k before; v, g, m, p, j behind
+
+abbrev pub FreshCall : List ℕ → List ℕ → Type 0
+FreshCall g m = (flightOf g m ≡ freshFlight) × (flatTo g 12 ≡ true)
+
+abbrev pub BeginFlightCall : ℕ → List ℕ → List ℕ → Type 0
+BeginFlightCall r g f = (n : List ℕ) → Begins r g f n
+
+-- a record of type t with content c
+abbrev pub SendSavedCall : ℕ → List ℕ → List ℕ → List ℕ → List ℕ → List ℕ → List ℕ → ℕ → ℕ → List ℕ → List ℕ → List ℕ → List ℕ → List ℕ → Type 0
+SendSavedCall r v w g f m n epoch t c p q j k =
+    Saves r v w g f m n (saveState (stateOf w) (flightOf f n) (length q) (length k) epoch t (length c))
+    × ((p ≡ either w f (saveQueue (stateOf w) (flightOf f n) (length k) epoch t c q) q)
+    × (j ≡ either w f (saveKept (stateOf w) (flightOf f n) (length q) epoch t c k) k))
+
+-- a message of type t with body b
+abbrev pub CreateHandshakeCall : ℕ → List ℕ → List ℕ → List ℕ → List ℕ → List ℕ → List ℕ → ℕ → List ℕ → List ℕ → List ℕ → List ℕ → List ℕ → Type 0
+CreateHandshakeCall r v w g f m n t b p q j k =
+    Saves r v w g f m n (messageState (messageAnswer (stateOf w) (flightOf f n) (length q) (length k) t (length b)) (stateOf w) (flightOf f n) q k t b)
+    × ((p ≡ either w f (messageQueue (messageAnswer (stateOf w) (flightOf f n) (length q) (length k) t (length b)) (stateOf w) (flightOf f n) q k t b) q)
+    × (j ≡ either w f (messageKept (messageAnswer (stateOf w) (flightOf f n) (length q) (length k) t (length b)) (stateOf w) (flightOf f n) q k t b) k))
 
 -- ---- from the parts to the whole
 

@@ -4,10 +4,10 @@ use mathlib.Core.Bool.{true}
 use mathlib.Core.List.{List, [], _∷_}
 use mathlib.Core.Path.{_≡_, refl, sym, ap, _∙_}
 use Prim.Native.Nat.{ℕ}
-use lib.ListN.{replicate}
+use lib.ListN.{replicate, length}
 use Rattle.base.specs.Choose.{choose, if-true, by-test}
 use Rattle.send_keys.specs.Keys as keying
-use Rattle.outgoing.specs.State.{refusal}
+use Rattle.outgoing.specs.State.{refusal, started, keyingState}
 use Rattle.outgoing.specs.declared.Sending.{Sending}
 use Rattle.outgoing.specs.declared.Sent.{Sent}
 use Rattle.outgoing.specs.declared.Keying.{Keying}
@@ -27,7 +27,7 @@ use Rattle.queue.specs.declared.Queue.{Queue}
 use Rattle.send_keys.specs.declared.SendKeys.{SendKeys}
 use Rattle.outgoing.specs.declared.Waiting.{Waiting}
 use Rattle.outgoing.specs.declared.SendAnswer.{SendAnswer}
-use Rattle.outgoing.specs.Send.{sendState, laidState}
+use Rattle.outgoing.specs.Send.{sendAnswer, sendState, sendMemory, laidState}
 use Rattle.taking.specs.Take as takes
 use Rattle.sealing.specs.declared.SealAnswer.{SealAnswer}
 use Rattle.link_sending.specs.declared.LinkSealing.{LinkSealing}
@@ -80,6 +80,36 @@ Takes r v w k = (r ≡ choose (isFlat w) (sealings.refusal (k .answer)) 12) × A
 
 abbrev pub Taken : LinkTake → List ℕ → List ℕ → Take → Type 0
 Taken r v w k = (r ≡ choose (isFlat w) (flatTake (k .answer)) (noTake 0 12 0)) × After v w (k .state)
+
+-- ---- the contracts of the calls, here and over C: r answered; w, q before; v, p behind
+
+abbrev pub FreshCall : ℕ → List ℕ → ℕ → ℕ → Type 0
+FreshCall r v mtu limit = (r ≡ refusal (started mtu limit .answer)) × (stateOf v ≡ started mtu limit .state) × (isFlat v ≡ true)
+
+abbrev pub KeySendCall : ℕ → List ℕ → List ℕ → ℕ → List ℕ → Type 0
+KeySendCall r v w epoch iv = Keys r v w (keyingState (stateOf w) epoch iv)
+
+-- a record of type t with content c
+abbrev pub SendCall : ℕ → List ℕ → List ℕ → ℕ → ℕ → List ℕ → List ℕ → List ℕ → Type 0
+SendCall r v w epoch t c p q =
+    Sends r v w (sendState (sendAnswer (stateOf w) (length q) epoch t (length c)) (stateOf w) epoch (length c))
+    × (p ≡ either w (sendMemory (sendAnswer (stateOf w) (length q) epoch t (length c)) (stateOf w) epoch t c q) q)
+
+abbrev pub SealingCall : LinkSealing → List ℕ → Type 0
+SealingCall r w = r ≡ Seals w (sealings.questionOf (stateOf w))
+
+abbrev pub SealedCall : ℕ → List ℕ → List ℕ → ℕ → ℕ → ℕ → List ℕ → List ℕ → Type 0
+SealedCall r v w len m n p q =
+    Takes r v w (sealings.sealedState (sealings.sealAnswer (stateOf w) (length q) len) (stateOf w) q)
+    × (p ≡ either w (sealings.sealedMemory (sealings.sealAnswer (stateOf w) (length q) len) (stateOf w) (masks m n) q) q)
+
+-- b the buffer before, c behind
+abbrev pub TakeCall : LinkTake → List ℕ → List ℕ → List ℕ → List ℕ → List ℕ → Type 0
+TakeCall r v w c b q =
+    Taken r v w (takes.takeState (takes.takeAnswer (stateOf w) (length q) (length b)) (stateOf w))
+    × (c ≡ either w (takes.takeBuffer (takes.takeAnswer (stateOf w) (length q) (length b)) (stateOf w) q b) b)
+
+-- ---- from the parts to the whole
 
 -- a state written is the state behind the call
 pub after : (v w : List ℕ) (x s : Sending) → isFlat w ≡ true → Kept x v → x ≡ s → After v w s

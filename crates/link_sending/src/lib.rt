@@ -1,26 +1,20 @@
-// The sending side of a link as C functions: a static library for hosts. The state is 59 words that the host keeps and lends, and the
-// queue a buffer of its own. Whatever stands in the words, a call ends with an answer.
+// The sending side of a link as a host calls it. The state is 59 words that the host keeps and lends, and the queue a buffer of its own.
+// Whatever stands in the words, a call ends with an answer.
 ghost use mathlib.Core.Path.{_≡_};
-ghost use mathlib.Core.Bool.{true};
-ghost use lib.ListN.{length};
 ghost use Rattle.send_keys.specs.Keys as keying;
-ghost use Rattle.outgoing.specs.State.{refusal, started, keyingState};
-ghost use Rattle.outgoing.specs.Send.{sendAnswer, sendState, sendMemory};
+ghost use Rattle.outgoing.specs.State.{refusal};
 ghost use Rattle.sealing.specs.Sealing as sealings;
-ghost use Rattle.taking.specs.Take as takes;
-ghost use Rattle.send_words.specs.Words.{stateOf, isFlat};
 ghost use Rattle.link_sending.specs.Calls.{
-  masks,
   flatSealing,
   noSealing,
   flatTake,
   noTake,
-  Sends,
-  Keys,
-  Seals,
-  Takes,
-  Taken,
-  either,
+  FreshCall,
+  KeySendCall,
+  SendCall,
+  SealingCall,
+  SealedCall,
+  TakeCall,
 };
 use outgoing::SendAnswer;
 use outgoing::Sending;
@@ -155,9 +149,8 @@ fn flat_take(a: TakeAnswer) -> LinkTake
 // ---- the calls
 
 // Nothing keyed, nothing queued, whatever stood in the words. MTU 576 to 1,500, at most 1 to 16 datagrams.
-#[no_mangle]
-pub extern "C" fn link_sending(w: &mut [u64; 59], mtu: usize, limit: usize) -> u8
-    ensures { λ r. ⌜ (r ≡ refusal (started mtu limit .answer)) × (stateOf (now (w .exit)) ≡ started mtu limit .state) × (isFlat (now (w .exit)) ≡ true) ⌝ }
+pub fn fresh(w: &mut [u64; 59], mtu: usize, limit: usize) -> u8
+    ensures { λ r. ⌜ FreshCall r (now (w .exit)) mtu limit ⌝ }
 {
     let k = Sending::fresh(mtu, limit);
     let a = k.answer;
@@ -166,9 +159,8 @@ pub extern "C" fn link_sending(w: &mut [u64; 59], mtu: usize, limit: usize) -> u
 }
 
 // Keys an epoch to send, with its IV.
-#[no_mangle]
-pub extern "C" fn link_key_send(w: &mut [u64; 59], epoch: u16, iv: &[u8; 12]) -> u8
-    ensures { λ r. ⌜ Keys r (now (w .exit)) (now (w .entry)) (keyingState (stateOf (now (w .entry))) epoch (now (iv .entry))) ⌝ }
+pub fn key_send(w: &mut [u64; 59], epoch: u16, iv: &[u8; 12]) -> u8
+    ensures { λ r. ⌜ KeySendCall r (now (w .exit)) (now (w .entry)) epoch (now (iv .entry)) ⌝ }
 {
     if send_words::is_flat(w) {
         let v = *iv;
@@ -182,16 +174,8 @@ pub extern "C" fn link_key_send(w: &mut [u64; 59], epoch: u16, iv: &[u8; 12]) ->
 }
 
 // A record that is not saved: in plaintext in epoch 0, else to be sealed.
-#[no_mangle]
-pub extern "C" fn link_send(
-    w: &mut [u64; 59],
-    epoch: u16,
-    content_type: u8,
-    content: &[u8],
-    queue: &mut [u8],
-) -> u8
-    ensures { λ r. ⌜ Sends r (now (w .exit)) (now (w .entry)) (sendState (sendAnswer (stateOf (now (w .entry))) (length (now (queue .entry))) epoch «content_type» (length (now (content .entry)))) (stateOf (now (w .entry))) epoch (length (now (content .entry)))) ⌝ }
-    ensures { λ r. ⌜ now (queue .exit) ≡ either (now (w .entry)) (sendMemory (sendAnswer (stateOf (now (w .entry))) (length (now (queue .entry))) epoch «content_type» (length (now (content .entry)))) (stateOf (now (w .entry))) epoch «content_type» (now (content .entry)) (now (queue .entry))) (now (queue .entry)) ⌝ }
+pub fn send(w: &mut [u64; 59], epoch: u16, content_type: u8, content: &[u8], queue: &mut [u8]) -> u8
+    ensures { λ r. ⌜ SendCall r (now (w .exit)) (now (w .entry)) epoch «content_type» (now (content .entry)) (now (queue .exit)) (now (queue .entry)) ⌝ }
 {
     if send_words::is_flat(w) {
         let s = send_words::load(w);
@@ -204,9 +188,8 @@ pub extern "C" fn link_send(
 }
 
 // The oldest sealing that waits.
-#[no_mangle]
-pub extern "C" fn link_sealing(w: &[u64; 59]) -> LinkSealing
-    ensures { λ r. ⌜ r ≡ Seals (now (w .entry)) (sealings.questionOf (stateOf (now (w .entry)))) ⌝ }
+pub fn sealing(w: &[u64; 59]) -> LinkSealing
+    ensures { λ r. ⌜ SealingCall r (now (w .entry)) ⌝ }
 {
     if send_words::is_flat(w) {
         let q = sealing::sealing(send_words::load(w));
@@ -219,16 +202,8 @@ pub extern "C" fn link_sealing(w: &[u64; 59]) -> LinkSealing
 }
 
 // The host has sealed so many bytes in place, and this is the mask of the two number bytes.
-#[no_mangle]
-pub extern "C" fn link_sealed(
-    w: &mut [u64; 59],
-    length: usize,
-    mask_0: u8,
-    mask_1: u8,
-    queue: &mut [u8],
-) -> u8
-    ensures { λ r. ⌜ Takes r (now (w .exit)) (now (w .entry)) (sealings.sealedState (sealings.sealAnswer (stateOf (now (w .entry))) (lib.ListN.length (now (queue .entry))) length) (stateOf (now (w .entry))) (now (queue .entry))) ⌝ }
-    ensures { λ r. ⌜ now (queue .exit) ≡ either (now (w .entry)) (sealings.sealedMemory (sealings.sealAnswer (stateOf (now (w .entry))) (lib.ListN.length (now (queue .entry))) length) (stateOf (now (w .entry))) (masks «mask_0» «mask_1») (now (queue .entry))) (now (queue .entry)) ⌝ }
+pub fn sealed(w: &mut [u64; 59], length: usize, mask_0: u8, mask_1: u8, queue: &mut [u8]) -> u8
+    ensures { λ r. ⌜ SealedCall r (now (w .exit)) (now (w .entry)) length «mask_0» «mask_1» (now (queue .exit)) (now (queue .entry)) ⌝ }
 {
     if send_words::is_flat(w) {
         let k = sealing::sealed(send_words::load(w), length, [mask_0, mask_1], queue);
@@ -240,10 +215,8 @@ pub extern "C" fn link_sealed(
 }
 
 // The front datagram, if it is wholly sealed, copied to the start of a buffer.
-#[no_mangle]
-pub extern "C" fn link_take(w: &mut [u64; 59], buffer: &mut [u8], queue: &[u8]) -> LinkTake
-    ensures { λ r. ⌜ Taken r (now (w .exit)) (now (w .entry)) (takes.takeState (takes.takeAnswer (stateOf (now (w .entry))) (length (now (queue .entry))) (length (now (buffer .entry)))) (stateOf (now (w .entry)))) ⌝ }
-    ensures { λ r. ⌜ now (buffer .exit) ≡ either (now (w .entry)) (takes.takeBuffer (takes.takeAnswer (stateOf (now (w .entry))) (length (now (queue .entry))) (length (now (buffer .entry)))) (stateOf (now (w .entry))) (now (queue .entry)) (now (buffer .entry))) (now (buffer .entry)) ⌝ }
+pub fn take(w: &mut [u64; 59], buffer: &mut [u8], queue: &[u8]) -> LinkTake
+    ensures { λ r. ⌜ TakeCall r (now (w .exit)) (now (w .entry)) (now (buffer .exit)) (now (buffer .entry)) (now (queue .entry)) ⌝ }
 {
     if send_words::is_flat(w) {
         let k = taking::poll_packet_tx(send_words::load(w), buffer, queue);
