@@ -108,14 +108,11 @@ pub extern "C" fn link_process_ack(
     ensures { λ r. ⌜ Acts r (now (f .exit)) (now (f .entry)) (now (numbers .exit)) (now (numbers .entry)) (acked (flightOf (now (f .entry)) (now (numbers .entry))) (now (content .entry))) ⌝ }
 {
     if flight_words::is_flat(f) {
-        let n = *numbers;
-        let g = flight_words::load(f, n);
-        let k = process_ack::process_ack(g, content);
+        let g = flight_words::load_records(f);
+        let k = process_ack::ack_records(g, numbers, content);
         let a = k.answer;
-        let h = k.flight;
-        flight_words::save(f, h);
-        let m = h.numbers;
-        *numbers = m;
+        let h = k.records;
+        flight_words::save_records(f, h);
         return answer_of(a);
     }
     12
