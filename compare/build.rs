@@ -1,26 +1,21 @@
-//! Links the driver with the static library of the Rattle crate `leaves`, and the timer with those of `link`, `link_sending` and `link_flight`.
+//! Links the driver with the static library of the Rattle crate `leaves`, and the timer with those of the record link.
 
 use std::env;
 
+const LINK: [&str; 4] = ["link", "link_sending", "link_flight", "link_acks"];
+
 fn main() {
-    let lib = env::var("LEAVES_LIB").unwrap_or_else(|_| {
-        let root = env::var("CARGO_MANIFEST_DIR").unwrap();
-        format!("{root}/../target/staticlib/libleaves.a")
-    });
+    let root = env::var("CARGO_MANIFEST_DIR").unwrap();
+    let folder = format!("{root}/../target/staticlib");
+    let lib = env::var("LEAVES_LIB").unwrap_or_else(|_| format!("{folder}/libleaves.a"));
     println!("cargo:rustc-link-arg-bin=compare={lib}");
     println!("cargo:rerun-if-changed={lib}");
     println!("cargo:rerun-if-env-changed=LEAVES_LIB");
-    for (name, variable) in [
-        ("link", "LINK_LIB"),
-        ("link_sending", "LINK_SENDING_LIB"),
-        ("link_flight", "LINK_FLIGHT_LIB"),
-    ] {
-        let link = env::var(variable).unwrap_or_else(|_| {
-            let root = env::var("CARGO_MANIFEST_DIR").unwrap();
-            format!("{root}/../target/staticlib/lib{name}.a")
-        });
+    let links = env::var("LINK_LIBS").unwrap_or(folder);
+    println!("cargo:rerun-if-env-changed=LINK_LIBS");
+    for name in LINK {
+        let link = format!("{links}/lib{name}.a");
         println!("cargo:rustc-link-arg-bin=bench={link}");
         println!("cargo:rerun-if-changed={link}");
-        println!("cargo:rerun-if-env-changed={variable}");
     }
 }

@@ -89,6 +89,13 @@ pub mod probe {
         engine.process_ack(content)
     }
 
+    /// Takes the marks of the saved records away, as before any ACK.
+    pub fn unmark(engine: &mut Engine) {
+        for entry in &mut engine.flight_saved_records {
+            entry.acked = false;
+        }
+    }
+
     /// What a buffer was handed: a datagram's length, or the length that it lacks.
     #[derive(Debug, PartialEq, Eq)]
     pub enum Taken {

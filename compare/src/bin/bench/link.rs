@@ -93,4 +93,32 @@ unsafe extern "C" {
         kept: *mut u8,
         kept_len: usize,
     ) -> u8;
+    pub fn link_send_saved(
+        s: &mut LinkSending,
+        f: &mut LinkFlight,
+        numbers: &mut LinkNumbers,
+        epoch: u16,
+        content_type: u8,
+        content: *const u8,
+        content_len: usize,
+        queue: *mut u8,
+        queue_len: usize,
+        kept: *mut u8,
+        kept_len: usize,
+    ) -> u8;
+    pub fn link_resend(
+        s: &mut LinkSending,
+        f: &mut LinkFlight,
+        numbers: &mut LinkNumbers,
+        kept: *const u8,
+        kept_len: usize,
+        queue: *mut u8,
+        queue_len: usize,
+    ) -> u8;
+    pub fn link_process_ack(
+        f: &mut LinkFlight,
+        numbers: &mut LinkNumbers,
+        content: *const u8,
+        content_len: usize,
+    ) -> u8;
 }
