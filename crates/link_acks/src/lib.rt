@@ -82,15 +82,12 @@ pub extern "C" fn link_resend(
     if send_words::is_flat(w) {
         if flight_words::is_flat(f) {
             let s = send_words::load(w);
-            let n = *numbers;
-            let g = flight_words::load(f, n);
-            let k = resend::flight_resend(s, g, kept, queue);
+            let g = flight_words::load_records(f);
+            let k = resend::resend_records(s, g, numbers, kept, queue);
             let a = k.answer;
-            let h = k.flight;
+            let h = k.records;
             send_words::save(w, k.state);
-            flight_words::save(f, h);
-            let m = h.numbers;
-            *numbers = m;
+            flight_words::save_records(f, h);
             return resent_of(a);
         }
         return 12;

@@ -18,18 +18,18 @@ survey-requires c κs = (c .before .before .before .pre .0 .high, c .tail-of .en
 
 returns : tie.Need-returns
 unfolding fitAnswer
-returns c = sym (if-true _ _ (lt-ltb _ _ (rw (c .before .before .before .survey .ensures, c .before .before .before .before .tail-of .ensures .0) at (c .if1 .taken))))
+returns c n = sym (if-true _ _ (lt-ltb _ _ (rw (c .before .before .before .survey .ensures n, c .before .before .before .before .tail-of .ensures .0) at (c .if1 .taken))))
 
 any-spent-requires : tie.Need-any-spent-requires
 any-spent-requires c κs = c .before .before .before .before .before .before .before .pre .1
 
 returns-2 : tie.Need-returns-2
 unfolding fitAnswer
-returns-2 c = sym (if-false _ _ (le-ltb _ _ (rw (c .before .before .before .before .before .survey .ensures, c .before .before .before .before .before .before .tail-of .ensures .0) at (c .before .before .if1 .left))) ∙ if-true _ _ (sym (c .before .any-spent .ensures) ∙ c .if2 .taken))
+returns-2 c n = sym (if-false _ _ (le-ltb _ _ (rw (c .before .before .before .before .before .survey .ensures n, c .before .before .before .before .before .before .tail-of .ensures .0) at (c .before .before .if1 .left))) ∙ if-true _ _ (sym (c .before .any-spent .ensures n) ∙ c .if2 .taken))
 
 returns-3 : tie.Need-returns-3
 unfolding fitAnswer
-returns-3 c = sym (if-false _ _ (le-ltb _ _ (rw (c .before .before .before .before .before .survey .ensures, c .before .before .before .before .before .before .tail-of .ensures .0) at (c .before .before .if1 .left))) ∙ if-false _ _ (sym (c .before .any-spent .ensures) ∙ c .if2 .left))
+returns-3 c n = sym (if-false _ _ (le-ltb _ _ (rw (c .before .before .before .before .before .survey .ensures n, c .before .before .before .before .before .before .tail-of .ensures .0) at (c .before .before .if1 .left))) ∙ if-false _ _ (sym (c .before .any-spent .ensures n) ∙ c .if2 .left))
 
 pub fit-answer-spec : {M : Type 1} → statement M
 fit-answer-spec =

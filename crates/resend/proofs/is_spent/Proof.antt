@@ -15,7 +15,7 @@ is-over-requires c κs = search needs
 
 returns : tie.Need-returns
 unfolding isSpent
-returns c = rw (c .is-over .ensures, c .before .next-of .ensures, c .before .before .count-in .ensures .0)
+returns c n = rw (c .is-over .ensures, c .before .next-of .ensures, c .before .before .count-in .ensures .0 n)
 
 pub is-spent-spec : {M : Type 1} → statement M
 is-spent-spec = tie.close (tie.spec count-in-requires next-of-requires is-over-requires returns)
