@@ -143,6 +143,20 @@ again-range kept i l r =
 pub laying-same : {a b : Laying} → a .state ≡ b .state → a .flight ≡ b .flight → a .queue ≡ b .queue → a ≡ b
 laying-same p q r = λ i. record { state = p i; flight = q i; queue = r i }
 
+-- a saved record that is not acknowledged, sent: state, entry, table and queue
+pub sent-again : (kept : List ℕ) (i : ℕ) (s : Sending) (g : SavedRecords) (n q : List ℕ) {t : Sending} {e : Entry} {m p : List ℕ}
+    → let l : Laying = laying s g n q in
+    let a : SendAnswer = againAnswer kept i l in
+    let o : Entry = entryAt (whole g n) i in
+    o .marked ≡ false → t ≡ sentAgain a kept i l .state → e ≡ sentEntry a o (nextOf (s .keys) (o .epoch)) → m ≡ sentTable a o i n
+    → p ≡ sentAgain a kept i l .queue → laying t (withEntry g i e) m p ≡ againAt kept i l
+unfolding againAt sentAgain
+sent-again kept i s g n q o x y z w =
+    laying-same x (both-same y z ∙ sent-parts (againAnswer kept i (laying s g n q)) g n i (nextOf (s .keys) (entryAt (whole g n) i .epoch))) w ∙ sym (if-false (laying s g n q) _ o)
+  where
+    both-same : {e v : Entry} {m p : List ℕ} → e ≡ v → m ≡ p → whole (withEntry g i e) m ≡ whole (withEntry g i v) p
+    both-same a b = λ j. whole (withEntry g i (a j)) (b j)
+
 pub can-few : (e : Entry) → canRemember e ≡ true → e .remembered < 32
 unfolding canRemember
 can-few e h = ltb-true (e .remembered) 32 (both-right (remembers e) _ h)

@@ -8,9 +8,8 @@ ghost use lib.ListN.{length};
 ghost use Rattle.base.specs.Choose.{choose};
 ghost use Rattle.queue.specs.Queue.{InRange, Tailed};
 ghost use Rattle.resend.specs.Tests.{isDone, remembers, hasRoom, passes, allPass, joined, tailAfter, countAfter, isOver, isSpent, anySpent, closedState, fitAnswer, resendAnswer, Joins, Fitting};
-ghost use Rattle.resend.specs.Resend.{canRemember, newEntry, newTable, sentEntry, sentTable, withEntry, laying, againAt, againAfter, resentWhole, resendState, resendQueue};
-ghost use Rattle.flight.specs.declared.SavedRecords as records;
-ghost use Rattle.flight.specs.Flight.{isKept, entryAt, whole};
+ghost use Rattle.resend.specs.Resend.{canRemember, newEntry, newTable, sentEntry, sentTable, laying, againAfter, resentWhole, resendState, resendQueue};
+ghost use Rattle.flight.specs.Flight.{isKept, whole};
 use flight::Entry;
 use flight::Flight;
 use flight::SavedRecords;
@@ -45,12 +44,6 @@ pub struct ResentRecords {
     pub answer: ResendAnswer,
     pub state: Sending,
     pub records: SavedRecords,
-}
-
-// A saved record sent again: the state behind it, and the record under its new number.
-pub struct AgainOne {
-    pub state: Sending,
-    pub entry: Entry,
 }
 
 // State and saved records while records are sent again.
@@ -332,35 +325,7 @@ fn renew_if(a: SendAnswer, e: Entry, numbers: &mut [u64; 384], i: usize, number:
     e
 }
 
-// The i-th saved record sent again, unless it is acknowledged.
-fn resend_at(
-    s: Sending,
-    e: Entry,
-    numbers: &mut [u64; 384],
-    i: usize,
-    kept: &[u8],
-    memory: &mut [u8],
-) -> AgainOne
-    requires { ⌜ (i < 12) × InRange (s .queue) ⌝ }
-    ensures { λ r. ⌜ ((g : records.SavedRecords) → e ≡ entryAt (whole g (now (numbers .entry))) i → laying (r .state) (withEntry g i (r .entry)) (now (numbers .exit)) (now (memory .exit)) ≡ againAt (now (kept .entry)) i (laying s g (now (numbers .entry)) (now (memory .entry)))) ⌝ }
-{
-    if e.marked {
-        return AgainOne { state: s, entry: e };
-    }
-    let q = s.queue;
-    let k = s.keys;
-    let number = send_keys::next_of(k, e.epoch);
-    let content = base::fragment(kept, i * q.mtu, e.length);
-    let r = s.send(e.epoch, e.content_type, content, memory);
-    let t = r.state;
-    let a = r.answer;
-    AgainOne {
-        state: t,
-        entry: renew_if(a, e, numbers, i, number),
-    }
-}
-
-// The saved records sent again, one after the other.
+// The saved records that are not acknowledged, sent again one after the other.
 fn resend_all(
     s: Sending,
     g: SavedRecords,
@@ -377,11 +342,19 @@ fn resend_all(
     let mut i = 0;
     while i < saved {
         let e = h.entries[i];
-        let r = resend_at(t, e, numbers, i, kept, memory);
+        if e.marked {
+            i += 1;
+            continue;
+        }
+        let q = t.queue;
+        let k = t.keys;
+        let number = send_keys::next_of(k, e.epoch);
+        let content = base::fragment(kept, i * q.mtu, e.length);
+        let r = t.send(e.epoch, e.content_type, content, memory);
+        let a = r.answer;
         let u = r.state;
-        let x = r.entry;
         t = u;
-        h.entries[i] = x;
+        h.entries[i] = renew_if(a, e, numbers, i, number);
         i += 1;
     }
     Again {
