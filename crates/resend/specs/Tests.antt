@@ -18,6 +18,7 @@ use Rattle.outgoing.specs.Send.{allowed-fits}
 use Rattle.flight.specs.declared.Entry.{Entry}
 use Rattle.flight.specs.declared.Flight.{Flight}
 use Rattle.flight.specs.Flight.{isKept, entryAt}
+use Rattle.resend.specs.declared.Passed.{Passed}
 use Rattle.resend.specs.declared.ResendAnswer.{ResendAnswer}
 use Rattle.resend.specs.declared.ResendAnswer.the-variants.{Done, OutOfRange, BadEpoch, BadRecord, KeysAbsent, HistoryFull, QueueFull, NumbersSpent}
 
@@ -63,6 +64,18 @@ passes test k mtu e =
 unfoldable pub allPass : ℕ → SendKeys → ℕ → Flight → ℕ → Bool
 allPass test k mtu f zero = true
 allPass test k mtu f (suc n) = choose (passes test k mtu (entryAt f n)) (allPass test k mtu f n) false
+
+-- all four tests at once, a record more and of the first n
+unfoldable pub passedWith : Passed → SendKeys → ℕ → Entry → Passed
+passedWith p k mtu e = record {
+  usable = choose (passes 0 k mtu e) (p .usable) false;
+  allowed = choose (passes 1 k mtu e) (p .allowed) false;
+  keyed = choose (passes 2 k mtu e) (p .keyed) false;
+  room = choose (passes 3 k mtu e) (p .room) false;
+}
+
+unfoldable pub passedAfter : SendKeys → ℕ → Flight → ℕ → Passed
+passedAfter k mtu f n = record { usable = allPass 0 k mtu f n; allowed = allPass 1 k mtu f n; keyed = allPass 2 k mtu f n; room = allPass 3 k mtu f n }
 
 -- the queue's end with a saved record sent again
 unfoldable pub joined : ℕ → Tail → Entry → Tail
@@ -130,11 +143,11 @@ pub record Joins (mtu : ℕ) (e : Entry) : Type 0 where
   pub fits : e .marked ≡ false → recordLen (e .epoch) (e .length) ≤ mtu
   pub short : e .marked ≡ false → e .length ≤ 16384
 
-module _ (test : ℕ) (k : SendKeys) (mtu : ℕ) (f : Flight) where
-  pub pass-next : (n : ℕ) → allPass test k mtu f (n + 1) ≡ choose (passes test k mtu (entryAt f n)) (allPass test k mtu f n) false
-  unfolding allPass
-  pass-next n = rw add-one
+pub passed-next : (k : SendKeys) (mtu : ℕ) (f : Flight) (n : ℕ) → passedAfter k mtu f (n + 1) ≡ passedWith (passedAfter k mtu f n) k mtu (entryAt f n)
+unfolding passedAfter passedWith allPass
+passed-next k mtu f n = rw add-one
 
+module _ (test : ℕ) (k : SendKeys) (mtu : ℕ) (f : Flight) where
   -- each of them passes if all do
   pub pass-at : (n i : ℕ) → allPass test k mtu f n ≡ true → i < n → passes test k mtu (entryAt f i) ≡ true
   unfolding allPass

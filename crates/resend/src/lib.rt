@@ -7,7 +7,7 @@ ghost use lib.Dec as tests;
 ghost use lib.ListN.{length};
 ghost use Rattle.base.specs.Choose.{choose};
 ghost use Rattle.queue.specs.Queue.{InRange, Tailed};
-ghost use Rattle.resend.specs.Tests.{isDone, remembers, hasRoom, passes, allPass, joined, tailAfter, countAfter, isOver, isSpent, anySpent, closedState, fitAnswer, resendAnswer, Joins, Fitting};
+ghost use Rattle.resend.specs.Tests.{isDone, remembers, hasRoom, passes, passedWith, passedAfter, joined, tailAfter, countAfter, isOver, isSpent, anySpent, closedState, fitAnswer, resendAnswer, Joins, Fitting};
 ghost use Rattle.resend.specs.Resend.{canRemember, newEntry, newTable, sentEntry, sentTable, laying, againAfter, resentWhole, resendState, resendQueue};
 ghost use Rattle.flight.specs.Flight.{isKept, whole};
 use flight::Entry;
@@ -44,6 +44,14 @@ pub struct ResentRecords {
     pub answer: ResendAnswer,
     pub state: Sending,
     pub records: SavedRecords,
+}
+
+// The tests of a saved record, and whether all records pass each.
+pub struct Passed {
+    pub usable: bool,
+    pub allowed: bool,
+    pub keyed: bool,
+    pub room: bool,
 }
 
 // State and saved records while records are sent again.
@@ -115,18 +123,35 @@ fn both(a: bool, b: bool) -> bool
     false
 }
 
-// Whether every saved record passes a test.
-fn all_pass(test: u8, k: SendKeys, mtu: usize, g: SavedRecords) -> bool
-    requires { ⌜ g .saved ≤ 12 ⌝ }
-    ensures { λ r. ⌜ ((n : List ℕ) → r ≡ allPass test k mtu (whole g n) (g .saved)) ⌝ }
+// A record more.
+fn passed_with(p: Passed, k: SendKeys, mtu: usize, e: Entry) -> Passed
+    ensures { λ r. ⌜ r ≡ passedWith p k mtu e ⌝ }
 {
-    let mut ok = true;
+    Passed {
+        usable: both(passes(0, k, mtu, e), p.usable),
+        allowed: both(passes(1, k, mtu, e), p.allowed),
+        keyed: both(passes(2, k, mtu, e), p.keyed),
+        room: both(passes(3, k, mtu, e), p.room),
+    }
+}
+
+// Which of the tests every saved record passes.
+fn all_passed(k: SendKeys, mtu: usize, g: SavedRecords) -> Passed
+    requires { ⌜ g .saved ≤ 12 ⌝ }
+    ensures { λ r. ⌜ ((n : List ℕ) → r ≡ passedAfter k mtu (whole g n) (g .saved)) ⌝ }
+{
+    let mut p = Passed {
+        usable: true,
+        allowed: true,
+        keyed: true,
+        room: true,
+    };
     let mut i = 0;
     while i < g.saved {
-        ok = both(passes(test, k, mtu, g.entries[i]), ok);
+        p = passed_with(p, k, mtu, g.entries[i]);
         i += 1;
     }
-    ok
+    p
 }
 
 // The queue's end with a saved record sent again.
@@ -274,16 +299,17 @@ fn resend_answer(s: Sending, g: SavedRecords, room: usize, kept: usize) -> Resen
     if !is_kept(g, q.mtu, kept) {
         return ResendAnswer::OutOfRange;
     }
-    if !all_pass(0, k, q.mtu, g) {
+    let p = all_passed(k, q.mtu, g);
+    if !p.usable {
         return ResendAnswer::BadEpoch;
     }
-    if !all_pass(1, k, q.mtu, g) {
+    if !p.allowed {
         return ResendAnswer::BadRecord;
     }
-    if !all_pass(2, k, q.mtu, g) {
+    if !p.keyed {
         return ResendAnswer::KeysAbsent;
     }
-    if !all_pass(3, k, q.mtu, g) {
+    if !p.room {
         return ResendAnswer::HistoryFull;
     }
     fit_answer(closed(s), g)
