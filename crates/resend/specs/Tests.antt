@@ -19,6 +19,7 @@ use Rattle.flight.specs.declared.Entry.{Entry}
 use Rattle.flight.specs.declared.Flight.{Flight}
 use Rattle.flight.specs.Flight.{isKept, entryAt}
 use Rattle.resend.specs.declared.Passed.{Passed}
+use Rattle.resend.specs.declared.Survey.{Survey}
 use Rattle.resend.specs.declared.ResendAnswer.{ResendAnswer}
 use Rattle.resend.specs.declared.ResendAnswer.the-variants.{Done, OutOfRange, BadEpoch, BadRecord, KeysAbsent, HistoryFull, QueueFull, NumbersSpent}
 
@@ -92,6 +93,18 @@ tailAfter mtu t f (suc n) = joined mtu (tailAfter mtu t f n) (entryAt f n)
 unfoldable pub countAfter : Flight → ℕ → ℕ → ℕ
 countAfter f epoch zero = 0
 countAfter f epoch (suc n) = countAfter f epoch n + choose (entryAt f n .marked) 0 (choose (eqb (entryAt f n .epoch) epoch) 1 0)
+
+-- both at once, a record more and of the first n
+unfoldable pub surveyedWith : Survey → ℕ → ℕ → Entry → Survey
+surveyedWith d mtu epoch e = record {
+  tail = joined mtu (d .tail) e;
+  plaintext = d .plaintext + choose (e .marked) 0 (choose (eqb (e .epoch) 0) 1 0);
+  handshake = d .handshake + choose (e .marked) 0 (choose (eqb (e .epoch) 2) 1 0);
+  application = d .application + choose (e .marked) 0 (choose (eqb (e .epoch) epoch) 1 0);
+}
+
+unfoldable pub surveyedAfter : ℕ → ℕ → Tail → Flight → ℕ → Survey
+surveyedAfter mtu epoch t f n = record { tail = tailAfter mtu t f n; plaintext = countAfter f 0 n; handshake = countAfter f 2 n; application = countAfter f epoch n }
 
 -- 20: "2^48 - 1 would be used"
 unfoldable pub isOver : ℕ → ℕ → Bool
@@ -178,6 +191,10 @@ tail-next mtu t f n = rw add-one
 pub count-next : (f : Flight) (epoch n : ℕ) → countAfter f epoch (n + 1) ≡ countAfter f epoch n + choose (entryAt f n .marked) 0 (choose (eqb (entryAt f n .epoch) epoch) 1 0)
 unfolding countAfter
 count-next f epoch n = rw add-one
+
+pub surveyed-next : (mtu epoch : ℕ) (t : Tail) (f : Flight) (n : ℕ) → surveyedAfter mtu epoch t f (n + 1) ≡ surveyedWith (surveyedAfter mtu epoch t f n) mtu epoch (entryAt f n)
+unfolding surveyedAfter surveyedWith tailAfter countAfter
+surveyed-next mtu epoch t f n = rw add-one
 
 -- one record more is at most one datagram more
 pub joined-tail : {mtu : ℕ} {t : Tail} {e : Entry} → mtu ≤ 1500 → Tailed t → Joins mtu e → Tailed (joined mtu t e) × (joined mtu t e .count ≤ t .count + 1)

@@ -1,5 +1,5 @@
 // A flight sent again, after `flight_resend` of engine.rs: every saved record that is not acknowledged, under a new number.
-ghost use mathlib.Core.Bool.{false};
+ghost use mathlib.Core.Bool.{true, false};
 ghost use mathlib.Core.List.{List};
 ghost use mathlib.Core.Path.{_≡_};
 ghost use Prim.Native.Nat.{ℕ, _+_, _≤_, _<_};
@@ -7,7 +7,8 @@ ghost use lib.Dec as tests;
 ghost use lib.ListN.{length};
 ghost use Rattle.base.specs.Choose.{choose};
 ghost use Rattle.queue.specs.Queue.{InRange, Tailed};
-ghost use Rattle.resend.specs.Tests.{isDone, remembers, hasRoom, passes, passedWith, passedAfter, joined, tailAfter, countAfter, isOver, isSpent, anySpent, closedState, fitAnswer, resendAnswer, Joins, Fitting};
+ghost use Rattle.send_keys.specs.Keys.{nextOf};
+ghost use Rattle.resend.specs.Tests.{isDone, remembers, hasRoom, passes, passedWith, passedAfter, joined, surveyedWith, surveyedAfter, isOver, closedState, fitAnswer, resendAnswer, Joins, Fitting};
 ghost use Rattle.resend.specs.Resend.{canRemember, newEntry, newTable, sentEntry, sentTable, laying, againAfter, resentWhole, resendState, resendQueue};
 ghost use Rattle.flight.specs.Flight.{isKept, whole};
 use flight::Entry;
@@ -52,6 +53,14 @@ pub struct Passed {
     pub allowed: bool,
     pub keyed: bool,
     pub room: bool,
+}
+
+// A dry run: the queue's end, and how many numbers of each epoch are used.
+pub struct Survey {
+    pub tail: Tail,
+    pub plaintext: usize,
+    pub handshake: usize,
+    pub application: usize,
 }
 
 // State and saved records while records are sent again.
@@ -171,20 +180,6 @@ fn join(mtu: usize, t: Tail, e: Entry) -> Tail
     }
 }
 
-// A dry run: the queue's end with all of them sent again.
-fn survey(mtu: usize, from: Tail, g: SavedRecords) -> Tail
-    requires { ⌜ (mtu ≤ 1500) × Tailed from × (from .count ≤ 16) × (g .saved ≤ 12) × ((n : List ℕ) → Fitting mtu (whole g n)) ⌝ }
-    ensures { λ r. ⌜ ((n : List ℕ) → r ≡ tailAfter mtu from (whole g n) (g .saved)) ⌝ }
-{
-    let mut t = from;
-    let mut i = 0;
-    while i < g.saved {
-        t = join(mtu, t, g.entries[i]);
-        i += 1;
-    }
-    t
-}
-
 fn one_if(e: Entry, epoch: u16) -> usize
     ensures { λ r. ⌜ (r ≡ choose (e .marked) 0 (choose (tests.eqb (e .epoch) epoch) 1 0)) × (r ≤ 1) ⌝ }
 {
@@ -197,18 +192,38 @@ fn one_if(e: Entry, epoch: u16) -> usize
     0
 }
 
-// How many of them are of an epoch.
-fn count_in(g: SavedRecords, epoch: u16) -> usize
-    requires { ⌜ g .saved ≤ 12 ⌝ }
-    ensures { λ r. ⌜ ((n : List ℕ) → r ≡ countAfter (whole g n) epoch (g .saved)) × (r ≤ 12) ⌝ }
+// A record more.
+fn surveyed_with(d: Survey, mtu: usize, epoch: u16, e: Entry) -> Survey
+    requires { ⌜ (mtu ≤ 1500) × Tailed (d .tail) × (d .tail .count ≤ 64) × Joins mtu e × (d .plaintext ≤ 64) × (d .handshake ≤ 64) × (d .application ≤ 64) ⌝ }
+    ensures { λ r. ⌜ (r ≡ surveyedWith d mtu epoch e) × (r .plaintext ≤ d .plaintext + 1) × (r .handshake ≤ d .handshake + 1) × (r .application ≤ d .application + 1) ⌝ }
 {
-    let mut n = 0;
+    let t = d.tail;
+    let u = join(mtu, t, e);
+    Survey {
+        tail: u,
+        plaintext: d.plaintext + one_if(e, 0),
+        handshake: d.handshake + one_if(e, 2),
+        application: d.application + one_if(e, epoch),
+    }
+}
+
+// A dry run: all of them sent again, with this application epoch.
+fn survey_all(mtu: usize, epoch: u16, from: Tail, g: SavedRecords) -> Survey
+    requires { ⌜ (mtu ≤ 1500) × Tailed from × (from .count ≤ 16) × (g .saved ≤ 12) × ((n : List ℕ) → Fitting mtu (whole g n)) ⌝ }
+    ensures { λ r. ⌜ ((n : List ℕ) → r ≡ surveyedAfter mtu epoch from (whole g n) (g .saved)) × (r .plaintext ≤ 12) × (r .handshake ≤ 12) × (r .application ≤ 12) ⌝ }
+{
+    let mut d = Survey {
+        tail: from,
+        plaintext: 0,
+        handshake: 0,
+        application: 0,
+    };
     let mut i = 0;
     while i < g.saved {
-        n += one_if(g.entries[i], epoch);
+        d = surveyed_with(d, mtu, epoch, g.entries[i]);
         i += 1;
     }
-    n
+    d
 }
 
 // Whether so many numbers from one on would use 2^48 - 1.
@@ -225,27 +240,19 @@ fn is_over(next: u64, count: usize) -> bool
     281474976710655 < next + count as u64
 }
 
-fn is_spent(k: SendKeys, g: SavedRecords, epoch: u16) -> bool
-    requires { ⌜ g .saved ≤ 12 ⌝ }
-    ensures { λ r. ⌜ ((n : List ℕ) → r ≡ isSpent k (whole g n) epoch) ⌝ }
+// Whether one of the three epochs has too few numbers left.
+fn any_spent(k: SendKeys, d: Survey) -> bool
+    requires { ⌜ (d .plaintext ≤ 12) × (d .handshake ≤ 12) × (d .application ≤ 12) ⌝ }
+    ensures { λ r. ⌜ r ≡ choose (isOver (nextOf k 0) (d .plaintext)) true (choose (isOver (nextOf k 2) (d .handshake)) true (isOver (nextOf k (k .application .epoch)) (d .application))) ⌝ }
 {
-    let n = count_in(g, epoch);
-    is_over(send_keys::next_of(k, epoch), n)
-}
-
-// The same in one of the three epochs.
-fn any_spent(k: SendKeys, g: SavedRecords) -> bool
-    requires { ⌜ g .saved ≤ 12 ⌝ }
-    ensures { λ r. ⌜ ((n : List ℕ) → r ≡ anySpent k (whole g n)) ⌝ }
-{
-    if is_spent(k, g, 0) {
+    if is_over(send_keys::next_of(k, 0), d.plaintext) {
         return true;
     }
-    if is_spent(k, g, 2) {
+    if is_over(send_keys::next_of(k, 2), d.handshake) {
         return true;
     }
     let a = k.application;
-    is_spent(k, g, a.epoch)
+    is_over(send_keys::next_of(k, a.epoch), d.application)
 }
 
 // The last datagram closed to further records.
@@ -266,11 +273,13 @@ fn fit_answer(s: Sending, g: SavedRecords) -> ResendAnswer
 {
     let q = s.queue;
     let k = s.keys;
-    let t = survey(q.mtu, queue::tail_of(q), g);
+    let a = k.application;
+    let d = survey_all(q.mtu, a.epoch, queue::tail_of(q), g);
+    let t = d.tail;
     if q.limit < t.count {
         return ResendAnswer::QueueFull;
     }
-    if any_spent(k, g) {
+    if any_spent(k, d) {
         return ResendAnswer::NumbersSpent;
     }
     ResendAnswer::Done
