@@ -9,7 +9,7 @@ use lib.Dec.{ltb}
 use lib.ListN.{length, set}
 use lib.Seq.{set-getD}
 use borrow.Author.Tests.{ltb-true}
-use Rattle.base.specs.Choose.{choose, both, if-true, if-false, by-test, test-cases, both-right}
+use Rattle.base.specs.Choose.{choose, both, if-false, by-test, test-cases, both-right}
 use Rattle.base.specs.Parts.{part}
 use Rattle.queue.specs.Queue.{InRange}
 use Rattle.send_keys.specs.Keys.{nextOf}
@@ -117,6 +117,7 @@ resentWhole r n = record { answer = r .answer; state = r .state; flight = whole 
 
 -- ---- laws
 
+-- a record renewed, by entry and table
 pub renewed-parts : (g : SavedRecords) (n : List ℕ) (i number : ℕ)
     → whole (withEntry g i (newEntry (entryAt (whole g n) i) number)) (newTable (entryAt (whole g n) i) i n) ≡ renewed (whole g n) i number
 unfolding newEntry newTable renewed choose

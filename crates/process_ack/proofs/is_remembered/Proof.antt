@@ -1,5 +1,4 @@
 -- `process_ack::is_remembered` meets its contract. The loop's invariant: it depends on those that are left. Assumes nothing.
-use borrow.Author.Needs.{needs}
 use mathlib.Core.Path.{_≡_, refl, sym, ap, _∙_}
 use native.Mathlib.Omega.{arith}
 use Prim.Native.Nat.{_+_, _-_, _≤_}

@@ -1,5 +1,4 @@
 -- `process_ack::mark_all` meets its contract. The loop's invariant: the records so far are marked. Assumes nothing.
-use borrow.Author.Needs.{needs}
 use mathlib.Core.Path.{_≡_, refl, sym, ap, _∙_}
 use native.Mathlib.Omega.{arith}
 use Prim.Native.Nat.{_-_, _≤_}

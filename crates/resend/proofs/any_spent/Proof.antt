@@ -1,7 +1,6 @@
 -- `resend::any_spent` meets its contract. Assumes nothing.
-use mathlib.Core.Path.{sym, ap, _∙_}
+use mathlib.Core.Path.{sym, _∙_}
 use Rattle.base.specs.Choose.{if-true, if-false}
-use Rattle.resend.specs.Tests.{isOver}
 use borrow.Author.Needs.{needs}
 use Rattle.resend.proofs.any_spent.Statement.{statement}
 use Rattle.resend.proofs.any_spent.Tie as tie

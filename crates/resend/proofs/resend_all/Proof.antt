@@ -5,7 +5,7 @@ use Prim.Native.Nat.{_-_, _≤_}
 use lib.ListN.{length}
 use native.Mathlib.Nat.{mul-le-mul}
 use borrow.Author.Needs.{needs}
-use Rattle.base.specs.Choose.{if-true, if-false}
+use Rattle.base.specs.Choose.{if-true}
 use Rattle.queue.specs.Queue.{InRange}
 use Rattle.outgoing.specs.declared.Sent.{Sent}
 use Rattle.outgoing.specs.Send.{sendState}

@@ -1,5 +1,4 @@
 -- `resend::surveyed_with` meets its contract. Assumes nothing.
-use mathlib.Core.Path.{sym}
 use native.Mathlib.Omega.{arith}
 use Rattle.resend.specs.Tests.{surveyedWith}
 use borrow.Author.Needs.{needs}
