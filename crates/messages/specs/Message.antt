@@ -1,7 +1,7 @@
 -- Sending a handshake message (01, refusals 12, 14, 17, 21, 18, 19, 20), wholly or not at all. Assumes nothing.
 use mathlib.Core.Bool.{true, false≢true}
 use mathlib.Core.List.{List, _++_}
-use mathlib.Core.Path.{_≡_, sym, ap, _∙_}
+use mathlib.Core.Path.{_≡_, refl, sym, ap, _∙_}
 use Prim.Native.Nat.{ℕ, zero, suc, _+_, _-_, _<_, _≤_}
 use native.Mathlib.Omega.{arith}
 use lib.Dec.{ltb, leb, eqb}
@@ -18,8 +18,8 @@ use Rattle.outgoing.specs.declared.SendAnswer.the-variants.{Done, OutOfRange, B
 use Rattle.outgoing.specs.State.{isDone}
 use Rattle.flight.specs.declared.Flight.{Flight}
 use Rattle.flight.specs.declared.Saved.{Saved}
-use Rattle.flight.specs.Flight.{isKept}
-use Rattle.flight.specs.Save.{saveState, saveQueue, saveKept, save-range}
+use Rattle.flight.specs.Flight.{counted, isKept, savedWith, savedMemory}
+use Rattle.flight.specs.Save.{saveAnswer, saveState, saveQueue, saveKept, save-range}
 use Rattle.messages.specs.declared.Cut.{Cut}
 use Rattle.messages.specs.Cut.{epochOf, overhead, pieceSize, cutBehind, planCount, planReach}
 
@@ -114,6 +114,23 @@ length-content kind seq body at n h = simp (length-append, length-header, length
 
 pub laid-same : {a b : Laid} → a .saved ≡ b .saved → a .queue ≡ b .queue → a .kept ≡ b .kept → a ≡ b
 laid-same p q r = λ i. record { saved = p i; queue = q i; kept = r i }
+
+-- ---- answers, queue and buffer ask of the flight only how many are saved
+
+pub message-counted : (s : Sending) (f : Flight) (room kept kind n : ℕ) → messageAnswer s (counted (f .saved)) room kept kind n ≡ messageAnswer s f room kept kind n
+unfolding messageAnswer isKept
+message-counted s f room kept kind n = refl
+
+module _ (kind : ℕ) (body : List ℕ) (at n : ℕ) (s : Sending) (f : Flight) (q m : List ℕ) where
+  abbrev sent : Laid
+  sent = pieceOf kind body at n s (counted (f .saved)) q m
+
+  -- a piece sent behind so many, its entry written in place
+  pub piece-counted : {a : SendAnswer} {t : Sending} {g : Flight} {p k : List ℕ} → a ≡ sent .saved .answer → t ≡ sent .saved .state
+      → g ≡ choose (isDone a) (savedWith f 22 (epochOf kind) (nextOf (s .keys) (epochOf kind)) (12 + n)) f → p ≡ sent .queue → k ≡ sent .kept
+      → record { saved = record { answer = a; state = t; flight = g }; queue = p; kept = k } ≡ pieceOf kind body at n s f q m
+  unfolding pieceOf saveState saveQueue saveKept saveAnswer isKept savedMemory
+  piece-counted ea et eg ep ek = rw (et, eg, ep, ek, ea)
 
 -- ---- the pieces one after the other
 
