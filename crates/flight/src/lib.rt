@@ -5,11 +5,16 @@ ghost use mathlib.Core.Path.{_≡_};
 ghost use Prim.Native.Nat.{ℕ, _+_, _*_, _≤_, _<_};
 ghost use lib.ListN.{length};
 ghost use Rattle.base.specs.Choose.{choose};
+ghost use Rattle.send_keys.specs.declared.SendKeys.{SendKeys};
+ghost use Rattle.send_keys.specs.Keys.{isUsable, isKeyed, nextOf};
+ghost use Rattle.outgoing.specs.declared.Waiting.{Waiting};
 ghost use Rattle.outgoing.specs.State.{isDone};
+ghost use Rattle.outgoing.specs.Send.{sendingOf};
 ghost use Rattle.flight.specs.Flight.{entryOf, recordsIn, whole, counted, isKept, freshFlight, begun, savedWith};
 ghost use Rattle.flight.specs.Save.{saveAnswer, saveState, saveQueue, saveKept, savedAs};
 use outgoing::SendAnswer;
 use outgoing::Sending;
+use queue::Queue;
 
 // A saved record: its content type, epoch, number and length; whether it was acknowledged; how many earlier numbers it remembers.
 pub struct Entry {
@@ -197,9 +202,13 @@ pub fn count_behind(a: SendAnswer, saved: usize) -> usize
     saved
 }
 
-// Whether a record can be sent and saved behind so many, or why not.
+// Whether a record can be sent and saved behind so many, or why not: by the queue, by whether its epoch is usable and keyed, and by the
+// epoch's next number.
 pub fn save_answer(
-    s: Sending,
+    q: Queue,
+    usable: bool,
+    keyed: bool,
+    next: u64,
     saved: usize,
     room: usize,
     kept: usize,
@@ -207,32 +216,30 @@ pub fn save_answer(
     t: u8,
     n: usize,
 ) -> SendAnswer
-    ensures { λ r. ⌜ r ≡ saveAnswer s (counted saved) room kept epoch t n ⌝ }
+    ensures { λ r. ⌜ ((w : Waiting) (k : SendKeys) (m : ℕ) → isUsable k epoch ≡ usable → isKeyed k epoch ≡ keyed → nextOf k epoch ≡ next → r ≡ saveAnswer (sendingOf q w k m) (counted saved) room kept epoch t n) ⌝ }
 {
-    let q = s.queue;
-    let k = s.keys;
     if !queue::is_ready(q, room) {
         return SendAnswer::OutOfRange;
     }
     if !has_room(saved, q.mtu, kept) {
         return SendAnswer::OutOfRange;
     }
-    if !send_keys::is_usable(k, epoch) {
+    if !usable {
         return SendAnswer::BadEpoch;
     }
     if !outgoing::is_allowed(q.mtu, epoch, t, n) {
         return SendAnswer::BadRecord;
     }
-    if !send_keys::is_keyed(k, epoch) {
+    if !keyed {
         return SendAnswer::KeysAbsent;
     }
     if 12 <= saved {
         return SendAnswer::FlightFull;
     }
-    if outgoing::is_full(s, epoch, n) {
+    if outgoing::is_full(q, epoch, n) {
         return SendAnswer::QueueFull;
     }
-    if 281474976710655 <= send_keys::next_of(k, epoch) {
+    if 281474976710655 <= next {
         return SendAnswer::NumbersSpent;
     }
     SendAnswer::Done
@@ -252,11 +259,22 @@ pub fn send_record(
 {
     let n = content.len();
     let saved = g.saved;
-    let a = save_answer(s, saved, memory.len(), kept.len(), epoch, content_type, n);
+    let k = s.keys;
+    let q = s.queue;
+    let number = send_keys::next_of(k, epoch);
+    let a = save_answer(
+        q,
+        send_keys::is_usable(k, epoch),
+        send_keys::is_keyed(k, epoch),
+        number,
+        saved,
+        memory.len(),
+        kept.len(),
+        epoch,
+        content_type,
+        n,
+    );
     if outgoing::is_done(a) {
-        let k = s.keys;
-        let q = s.queue;
-        let number = send_keys::next_of(k, epoch);
         let at = saved * q.mtu;
         let end = at + n;
         queue::copy(content, &mut kept[at..end]);

@@ -12,15 +12,19 @@ use flight::RecordsSaved;
 use flight::Saved;
 use flight::SavedRecords;
 use handshake::Header;
+ghost use Rattle.base.specs.Choose.{choose};
+ghost use Rattle.send_keys.specs.Keys.{nextOf, used};
 ghost use Rattle.outgoing.specs.State.{isDone};
+ghost use Rattle.outgoing.specs.Send.{sendingOf};
 ghost use Rattle.flight.specs.Flight.{whole, counted};
 ghost use Rattle.flight.specs.Save.{savedAs};
 ghost use Rattle.messages.specs.Message.{contentOf, pieceOf, beginning, sendAll, planAnswer, messageAnswer, messageState, messageQueue, messageKept};
 use outgoing::SendAnswer;
 use outgoing::Sending;
-use outgoing::Sent;
+use outgoing::Waiting;
 use queue::Queue;
 use queue::Tail;
+use send_keys::SendKeys;
 
 // What is left to cut: the queue's end, and the bytes of the body that are left.
 pub struct Cut {
@@ -32,6 +36,13 @@ pub struct Cut {
 pub struct Plan {
     pub count: usize,
     pub reach: usize,
+}
+
+// What sending a piece leaves, besides the numbers and the flight.
+struct Piece {
+    answer: SendAnswer,
+    queue: Queue,
+    waiting: Waiting,
 }
 
 fn lesser(a: usize, b: usize) -> usize
@@ -152,28 +163,74 @@ fn send_piece(
     size: usize,
     memory: &mut [u8],
     kept: &mut [u8],
-) -> Sent
+) -> Piece
     requires { ⌜ (at + size ≤ length (now body)) × (length (now body) ≤ 16384) ⌝ }
-    ensures { λ r. ⌜ (r .answer ≡ pieceOf kind (now (body .entry)) at size s (counted saved) (now (memory .entry)) (now (kept .entry)) .saved .answer) × (r .state ≡ pieceOf kind (now (body .entry)) at size s (counted saved) (now (memory .entry)) (now (kept .entry)) .saved .state) × (isDone (r .answer) ≡ true → saved < 12) ⌝ }
+    ensures { λ r. ⌜ (r .answer ≡ pieceOf kind (now (body .entry)) at size s (counted saved) (now (memory .entry)) (now (kept .entry)) .saved .answer) × (r .queue ≡ pieceOf kind (now (body .entry)) at size s (counted saved) (now (memory .entry)) (now (kept .entry)) .saved .state .queue) × (r .waiting ≡ pieceOf kind (now (body .entry)) at size s (counted saved) (now (memory .entry)) (now (kept .entry)) .saved .state .waiting) × (isDone (r .answer) ≡ true → (saved < 12) × (nextOf (s .keys) (epochOf kind) < 281474976710655)) ⌝ }
     ensures { λ r. ⌜ (now (memory .exit) ≡ pieceOf kind (now (body .entry)) at size s (counted saved) (now (memory .entry)) (now (kept .entry)) .queue) × (now (kept .exit) ≡ pieceOf kind (now (body .entry)) at size s (counted saved) (now (memory .entry)) (now (kept .entry)) .kept) ⌝ }
 {
     let epoch = epoch_of(kind);
+    let q = s.queue;
+    let w = s.waiting;
+    let k = s.keys;
     let n = 12 + size;
-    let a = flight::save_answer(s, saved, memory.len(), kept.len(), epoch, 22, n);
+    let number = send_keys::next_of(k, epoch);
+    let usable = send_keys::is_usable(k, epoch);
+    let keyed = send_keys::is_keyed(k, epoch);
+    let a = flight::save_answer(
+        q,
+        usable,
+        keyed,
+        number,
+        saved,
+        memory.len(),
+        kept.len(),
+        epoch,
+        22,
+        n,
+    );
     if outgoing::is_done(a) {
-        let q = s.queue;
         let from = saved * q.mtu;
         let end = from + n;
         write_content(&mut kept[from..end], kind, s.message_seq, body, at, size);
-        let u = outgoing::lay(s, memory, epoch, 22, &kept[from..end]);
-        return Sent {
+        let r = outgoing::lay_numbered(q, w, memory, epoch, number, 22, &kept[from..end]);
+        let u = r.queue;
+        let v = r.waiting;
+        return Piece {
             answer: a,
-            state: u,
+            queue: u,
+            waiting: v,
         };
     }
-    Sent {
+    Piece {
         answer: a,
-        state: s,
+        queue: q,
+        waiting: w,
+    }
+}
+
+fn keys_behind(a: SendAnswer, k: SendKeys, epoch: u16) -> SendKeys
+    requires { ⌜ (isDone a ≡ true → nextOf k epoch < 281474976710655) ⌝ }
+    ensures { λ r. ⌜ r ≡ choose (isDone a) (used k epoch) k ⌝ }
+{
+    if outgoing::is_done(a) {
+        return send_keys::use_number(k, epoch);
+    }
+    k
+}
+
+// The state behind a piece.
+fn state_behind(s: Sending, p: Piece, epoch: u16) -> Sending
+    requires { ⌜ (isDone (p .answer) ≡ true → nextOf (s .keys) epoch < 281474976710655) ⌝ }
+    ensures { λ r. ⌜ r ≡ sendingOf (p .queue) (p .waiting) (choose (isDone (p .answer)) (used (s .keys) epoch) (s .keys)) (s .«message_seq») ⌝ }
+{
+    let a = p.answer;
+    let q = p.queue;
+    let w = p.waiting;
+    Sending {
+        queue: q,
+        waiting: w,
+        keys: keys_behind(a, s.keys, epoch),
+        message_seq: s.message_seq,
     }
 }
 
@@ -198,13 +255,12 @@ fn send_all(
     let mut n: usize = 0;
     while n < 13 {
         let q = t.queue;
-        let k = t.keys;
         let size = piece_size(q.mtu, over, queue::last_len(q), body.len() - at);
-        let number = send_keys::next_of(k, epoch);
+        let number = send_keys::next_of(t.keys, epoch);
         let saved = h.saved;
-        let r = send_piece(t, saved, kind, body, at, size, memory, kept);
-        a = r.answer;
-        t = r.state;
+        let p = send_piece(t, saved, kind, body, at, size, memory, kept);
+        a = p.answer;
+        t = state_behind(t, p, epoch);
         let i = flight::slot_behind(saved);
         h.entries[i] = flight::entry_behind(a, h.entries[i], 22, epoch, number, 12 + size);
         h.saved = flight::count_behind(a, saved);

@@ -33,19 +33,22 @@ loop-holds : tie.Need-loop-holds Inv-loop μ-loop
 loop-holds c l = record { turns = omega arith; inside = omega arith; range = c .before .before .before .before .before .pre .0; same = refl; queue = refl; kept = refl }
 
 last-len-requires : tie.Need-last-len-requires Inv-loop μ-loop
-last-len-requires c κs = (c .before .before .before .loop .inv []) .range
+last-len-requires c κs = (c .before .before .loop .inv []) .range
 
 sub-piece-size : tie.Need-sub-piece-size Inv-loop μ-loop
-sub-piece-size c = omega (arith, (c .before .before .before .before .loop .inv []) .inside)
+sub-piece-size c = omega (arith, (c .before .before .before .loop .inv []) .inside)
 
 piece-size-requires : tie.Need-piece-size-requires Inv-loop μ-loop
-piece-size-requires c κs = ((c .before .before .before .before .loop .inv []) .range .low, omega (arith, c .before .before .before .before .before .record-len .ensures, len-small (c .before .before .before .before .before .before .epoch-of .result) 12), c .last-len .ensures .1)
+piece-size-requires c κs = ((c .before .before .before .loop .inv []) .range .low, omega (arith, c .before .before .before .before .record-len .ensures, len-small (c .before .before .before .before .before .epoch-of .result) 12), c .last-len .ensures .1)
 
 next-of-requires : tie.Need-next-of-requires Inv-loop μ-loop
 next-of-requires c κs = search needs
 
 send-piece-requires : tie.Need-send-piece-requires Inv-loop μ-loop
-send-piece-requires c κs = let v = size-rest (c .before .before .before .before .before .before .before .before .loop .t .queue .mtu) (c .before .before .before .before .before .before .before .before .before .record-len .result) (c .before .before .before .before .last-len .result) (length (c .before .before .before .before .before .before .before .before .before .before .before .before .before .before .args .body .now) - c .before .before .before .before .before .before .before .before .loop .at) in (omega (arith, c .before .before .before .piece-size .ensures, v, (c .before .before .before .before .before .before .before .before .loop .inv []) .inside), c .before .before .before .before .before .before .before .before .before .before .before .before .before .before .pre .1)
+send-piece-requires c κs = let v = size-rest (c .before .before .before .before .before .before .before .loop .t .queue .mtu) (c .before .before .before .before .before .before .before .before .record-len .result) (c .before .before .before .before .last-len .result) (length (c .before .before .before .before .before .before .before .before .before .before .before .before .before .args .body .now) - c .before .before .before .before .before .before .before .loop .at) in (omega (arith, c .before .before .before .piece-size .ensures, v, (c .before .before .before .before .before .before .before .loop .inv []) .inside), c .before .before .before .before .before .before .before .before .before .before .before .before .before .pre .1)
+
+state-behind-requires : tie.Need-state-behind-requires Inv-loop μ-loop
+state-behind-requires c κs = rw (c .before .before .before .before .before .before .before .before .before .before .before .before .before .before .epoch-of .ensures) (λ d. c .before .before .before .before .send-piece .ensures .0 .3 d .1)
 
 slot-behind-requires : tie.Need-slot-behind-requires Inv-loop μ-loop
 slot-behind-requires c κs = search needs
@@ -57,38 +60,38 @@ element-copy-out-entry-behind : tie.Need-element-copy-out-entry-behind Inv-loop 
 element-copy-out-entry-behind c = omega (arith, c .slot-behind .ensures .0)
 
 add-entry-behind : tie.Need-add-entry-behind Inv-loop μ-loop
-add-entry-behind c = let v = size-rest (c .before .before .before .before .before .before .before .before .before .before .before .before .before .before .before .before .loop .t .queue .mtu) (c .before .before .before .before .before .before .before .before .before .before .before .before .before .before .before .before .before .record-len .result) (c .before .before .before .before .before .before .before .before .before .before .before .before .last-len .result) (length (c .before .before .before .before .before .before .before .before .before .before .before .before .before .before .before .before .before .before .before .before .before .before .args .body .now) - c .before .before .before .before .before .before .before .before .before .before .before .before .before .before .before .before .loop .at) in omega (arith, c .before .before .before .before .before .before .before .before .before .before .before .piece-size .ensures, v, c .before .before .before .before .before .before .before .before .before .before .before .before .before .before .before .before .before .before .before .before .before .before .pre .1)
+add-entry-behind c = let v = size-rest (c .before .before .before .before .before .before .before .before .before .before .before .before .before .before .before .loop .t .queue .mtu) (c .before .before .before .before .before .before .before .before .before .before .before .before .before .before .before .before .record-len .result) (c .before .before .before .before .before .before .before .before .before .before .before .before .last-len .result) (length (c .before .before .before .before .before .before .before .before .before .before .before .before .before .before .before .before .before .before .before .before .before .args .body .now) - c .before .before .before .before .before .before .before .before .before .before .before .before .before .before .before .loop .at) in omega (arith, c .before .before .before .before .before .before .before .before .before .before .before .piece-size .ensures, v, c .before .before .before .before .before .before .before .before .before .before .before .before .before .before .before .before .before .before .before .before .before .pre .1)
 
 entry-behind-requires : tie.Need-entry-behind-requires Inv-loop μ-loop
 entry-behind-requires c κs = search needs
 
-mul-t23 : tie.Need-mul-t23 Inv-loop μ-loop
-mul-t23 c = search needs
+mul-t22 : tie.Need-mul-t22 Inv-loop μ-loop
+mul-t22 c = search needs
 
 element-set-from-h : tie.Need-element-set-from-h Inv-loop μ-loop
 element-set-from-h c = omega (arith, c .before .before .slot-behind .ensures .0)
 
 count-behind-requires : tie.Need-count-behind-requires Inv-loop μ-loop
-count-behind-requires c κs = c .before .before .before .before .before .before .before .before .send-piece .ensures .0 .2
+count-behind-requires c κs = λ d. c .before .before .before .before .before .before .before .before .send-piece .ensures .0 .3 d .0
 
 add-at : tie.Need-add-at Inv-loop μ-loop
-add-at c = let v = size-rest (c .before .before .before .before .before .before .before .before .before .before .before .before .before .before .before .before .before .before .loop .t .queue .mtu) (c .before .before .before .before .before .before .before .before .before .before .before .before .before .before .before .before .before .before .before .record-len .result) (c .before .before .before .before .before .before .before .before .before .before .before .before .before .before .last-len .result) (length (c .before .before .before .before .before .before .before .before .before .before .before .before .before .before .before .before .before .before .before .before .before .before .before .before .args .body .now) - c .before .before .before .before .before .before .before .before .before .before .before .before .before .before .before .before .before .before .loop .at) in omega (arith, c .before .before .before .before .before .before .before .before .before .before .before .before .before .piece-size .ensures, v, (c .before .before .before .before .before .before .before .before .before .before .before .before .before .before .before .before .before .before .loop .inv []) .inside, c .before .before .before .before .before .before .before .before .before .before .before .before .before .before .before .before .before .before .before .before .before .before .before .before .pre .1)
+add-at c = let v = size-rest (c .before .before .before .before .before .before .before .before .before .before .before .before .before .before .before .before .before .loop .t .queue .mtu) (c .before .before .before .before .before .before .before .before .before .before .before .before .before .before .before .before .before .before .record-len .result) (c .before .before .before .before .before .before .before .before .before .before .before .before .before .before .last-len .result) (length (c .before .before .before .before .before .before .before .before .before .before .before .before .before .before .before .before .before .before .before .before .before .before .before .args .body .now) - c .before .before .before .before .before .before .before .before .before .before .before .before .before .before .before .before .before .loop .at) in omega (arith, c .before .before .before .before .before .before .before .before .before .before .before .before .before .piece-size .ensures, v, (c .before .before .before .before .before .before .before .before .before .before .before .before .before .before .before .before .before .loop .inv []) .inside, c .before .before .before .before .before .before .before .before .before .before .before .before .before .before .before .before .before .before .before .before .before .before .before .pre .1)
 
 add-n : tie.Need-add-n Inv-loop μ-loop
-add-n c = omega (arith, c .before .before .before .before .before .before .before .before .before .before .before .before .before .before .before .before .before .loop-test .taken)
+add-n c = omega (arith, c .before .before .before .before .before .before .before .before .before .before .before .before .before .before .before .before .loop-test .taken)
 
 sub-if1 : tie.Need-sub-if1 Inv-loop μ-loop
-sub-if1 c = let v = size-rest (c .before .before .before .before .before .before .before .before .before .before .before .before .before .before .before .before .before .before .loop .t .queue .mtu) (c .before .before .before .before .before .before .before .before .before .before .before .before .before .before .before .before .before .before .before .record-len .result) (c .before .before .before .before .before .before .before .before .before .before .before .before .before .before .last-len .result) (length (c .before .before .before .before .before .before .before .before .before .before .before .before .before .before .before .before .before .before .before .before .before .before .before .before .args .body .now) - c .before .before .before .before .before .before .before .before .before .before .before .before .before .before .before .before .before .before .loop .at) in omega (arith, c .before .before .before .before .before .before .before .before .before .before .before .before .before .piece-size .ensures, v, (c .before .before .before .before .before .before .before .before .before .before .before .before .before .before .before .before .before .before .loop .inv []) .inside)
+sub-if1 c = let v = size-rest (c .before .before .before .before .before .before .before .before .before .before .before .before .before .before .before .before .before .loop .t .queue .mtu) (c .before .before .before .before .before .before .before .before .before .before .before .before .before .before .before .before .before .before .record-len .result) (c .before .before .before .before .before .before .before .before .before .before .before .before .before .before .last-len .result) (length (c .before .before .before .before .before .before .before .before .before .before .before .before .before .before .before .before .before .before .before .before .before .before .before .args .body .now) - c .before .before .before .before .before .before .before .before .before .before .before .before .before .before .before .before .before .loop .at) in omega (arith, c .before .before .before .before .before .before .before .before .before .before .before .before .before .piece-size .ensures, v, (c .before .before .before .before .before .before .before .before .before .before .before .before .before .before .before .before .before .loop .inv []) .inside)
 
 loop-less : tie.Need-loop-less Inv-loop μ-loop
-loop-less c = omega (arith, c .before .before .before .before .before .before .before .before .before .before .before .before .before .before .before .before .before .before .loop-test .taken)
+loop-less c = omega (arith, c .before .before .before .before .before .before .before .before .before .before .before .before .before .before .before .before .before .loop-test .taken)
 
 loop-again : tie.Need-loop-again Inv-loop μ-loop
 loop-again c l =
-    let v = size-rest (c .before .before .before .before .before .before .before .before .before .before .before .before .before .before .before .before .before .before .before .loop .t .queue .mtu) (c .before .before .before .before .before .before .before .before .before .before .before .before .before .before .before .before .before .before .before .before .record-len .result) (c .before .before .before .before .before .before .before .before .before .before .before .before .before .before .before .last-len .result) (length (c .before .before .before .before .before .before .before .before .before .before .before .before .before .before .before .before .before .before .before .before .before .before .before .before .before .args .body .now) - c .before .before .before .before .before .before .before .before .before .before .before .before .before .before .before .before .before .before .before .loop .at) in
-    going-more (c .before .before .before .before .before .before .before .before .before .before .before .before .before .before .before .before .before .before .before .loop .inv l) (c .before .before .before .before .before .before .before .before .before .before .before .before .before .before .before .before .before .before .loop-test .taken) (rw (c .before .before .before .before .before .before .before .before .before .before .before .before .before .before .before .last-len .ensures .0, c .before .before .before .before .before .before .before .before .before .before .before .before .before .before .before .before .before .before .before .before .record-len .ensures, c .before .before .before .before .before .before .before .before .before .before .before .before .before .before .before .before .before .before .before .before .before .epoch-of .ensures) at (c .before .before .before .before .before .before .before .before .before .before .before .before .before .before .piece-size .ensures))
-    (piece-counted (c .before .before .before .before .before .before .before .before .before .before .before .before .before .before .before .before .before .before .before .before .before .before .before .before .before .args .kind) (c .before .before .before .before .before .before .before .before .before .before .before .before .before .before .before .before .before .before .before .before .before .before .before .before .before .args .body .now) (c .before .before .before .before .before .before .before .before .before .before .before .before .before .before .before .before .before .before .before .loop .at) (c .before .before .before .before .before .before .before .before .before .before .before .before .before .before .piece-size .result) (c .before .before .before .before .before .before .before .before .before .before .before .before .before .before .before .before .before .before .before .loop .t) (whole (c .before .before .before .before .before .before .before .before .before .before .before .before .before .before .before .before .before .before .before .loop .h) l) (c .before .before .before .before .before .before .before .before .before .before .before .before .before .before .before .before .before .before .before .loop .memory) (c .before .before .before .before .before .before .before .before .before .before .before .before .before .before .before .before .before .before .before .loop .kept) {g = record { entries = set (c .before .before .before .before .before .before .before .before .before .before .before .before .before .before .before .before .before .before .before .loop .h .entries) (c .before .before .before .before .slot-behind .result) (c .before .before .entry-behind .result); saved = c .before .count-behind .result; numbers = l }} (c .before .before .before .before .before .before .before .before .before .before .send-piece .ensures .0 .0) (c .before .before .before .before .before .before .before .before .before .before .send-piece .ensures .0 .1) (rw (c .before .before .entry-behind .ensures, c .before .count-behind .ensures, c .before .before .before .before .before .before .before .before .before .before .before .before .before .next-of .ensures, c .before .before .before .before .before .before .before .before .before .before .before .before .before .before .before .before .before .before .before .before .before .epoch-of .ensures) (saved-behind (whole (c .before .before .before .before .before .before .before .before .before .before .before .before .before .before .before .before .before .before .before .loop .h) l) (isDone (c .before .before .before .before .before .before .before .before .before .before .send-piece .result .answer)) (c .before .before .before .before .slot-behind .result) 22 (epochOf (c .before .before .before .before .before .before .before .before .before .before .before .before .before .before .before .before .before .before .before .before .before .before .before .before .before .args .kind)) (nextOf (c .before .before .before .before .before .before .before .before .before .before .before .before .before .before .before .before .before .before .before .loop .t .keys) (epochOf (c .before .before .before .before .before .before .before .before .before .before .before .before .before .before .before .before .before .before .before .before .before .before .before .before .before .args .kind))) (12 + c .before .before .before .before .before .before .before .before .before .before .before .before .before .before .piece-size .result) (λ d. c .before .before .before .before .slot-behind .ensures .1 (c .before .before .before .before .before .before .before .before .before .before .send-piece .ensures .0 .2 d)))) (c .before .before .before .before .before .before .before .before .before .before .send-piece .ensures .1 .0) (c .before .before .before .before .before .before .before .before .before .before .send-piece .ensures .1 .1))
-    (c .before .before .before .before .before .before .before .before .before .before .send-piece .kept .1 .1 .1 .1 .1 .1 .0) (c .before .before .before .before .before .before .before .before .before .before .send-piece .kept .1 .1 .1 .1 .1 .1 .1 .0) (c .if1 .left) (omega (arith, c .before .before .before .before .before .before .before .before .before .before .before .before .before .before .piece-size .ensures, v, (c .before .before .before .before .before .before .before .before .before .before .before .before .before .before .before .before .before .before .before .loop .inv []) .inside))
+    let v = size-rest (c .before .before .before .before .before .before .before .before .before .before .before .before .before .before .before .before .before .before .loop .t .queue .mtu) (c .before .before .before .before .before .before .before .before .before .before .before .before .before .before .before .before .before .before .before .record-len .result) (c .before .before .before .before .before .before .before .before .before .before .before .before .before .before .before .last-len .result) (length (c .before .before .before .before .before .before .before .before .before .before .before .before .before .before .before .before .before .before .before .before .before .before .before .before .args .body .now) - c .before .before .before .before .before .before .before .before .before .before .before .before .before .before .before .before .before .before .loop .at) in
+    going-more (c .before .before .before .before .before .before .before .before .before .before .before .before .before .before .before .before .before .before .loop .inv l) (c .before .before .before .before .before .before .before .before .before .before .before .before .before .before .before .before .before .loop-test .taken) (rw (c .before .before .before .before .before .before .before .before .before .before .before .before .before .before .before .last-len .ensures .0, c .before .before .before .before .before .before .before .before .before .before .before .before .before .before .before .before .before .before .before .record-len .ensures, c .before .before .before .before .before .before .before .before .before .before .before .before .before .before .before .before .before .before .before .before .epoch-of .ensures) at (c .before .before .before .before .before .before .before .before .before .before .before .before .before .before .piece-size .ensures))
+    (piece-counted (c .before .before .before .before .before .before .before .before .before .before .before .before .before .before .before .before .before .before .before .before .before .before .before .before .args .kind) (c .before .before .before .before .before .before .before .before .before .before .before .before .before .before .before .before .before .before .before .before .before .before .before .before .args .body .now) (c .before .before .before .before .before .before .before .before .before .before .before .before .before .before .before .before .before .before .loop .at) (c .before .before .before .before .before .before .before .before .before .before .before .before .before .before .piece-size .result) (c .before .before .before .before .before .before .before .before .before .before .before .before .before .before .before .before .before .before .loop .t) (whole (c .before .before .before .before .before .before .before .before .before .before .before .before .before .before .before .before .before .before .loop .h) l) (c .before .before .before .before .before .before .before .before .before .before .before .before .before .before .before .before .before .before .loop .memory) (c .before .before .before .before .before .before .before .before .before .before .before .before .before .before .before .before .before .before .loop .kept) {g = record { entries = set (c .before .before .before .before .before .before .before .before .before .before .before .before .before .before .before .before .before .before .loop .h .entries) (c .before .before .before .before .slot-behind .result) (c .before .before .entry-behind .result); saved = c .before .count-behind .result; numbers = l }} (c .before .before .before .before .before .before .before .before .before .before .send-piece .ensures .0 .0) (c .before .before .before .before .before .before .before .before .before .before .send-piece .ensures .0 .1) (c .before .before .before .before .before .before .before .before .before .before .send-piece .ensures .0 .2) (rw (c .before .before .before .before .before .before .before .before .before .before .before .before .before .before .before .before .before .before .before .before .epoch-of .ensures) at (c .before .before .before .before .before .state-behind .ensures)) (rw (c .before .before .entry-behind .ensures, c .before .count-behind .ensures, c .before .before .before .before .before .before .before .before .before .before .before .before .before .next-of .ensures, c .before .before .before .before .before .before .before .before .before .before .before .before .before .before .before .before .before .before .before .before .epoch-of .ensures) (saved-behind (whole (c .before .before .before .before .before .before .before .before .before .before .before .before .before .before .before .before .before .before .loop .h) l) (isDone (c .before .before .before .before .before .before .before .before .before .before .send-piece .result .answer)) (c .before .before .before .before .slot-behind .result) 22 (epochOf (c .before .before .before .before .before .before .before .before .before .before .before .before .before .before .before .before .before .before .before .before .before .before .before .before .args .kind)) (nextOf (c .before .before .before .before .before .before .before .before .before .before .before .before .before .before .before .before .before .before .loop .t .keys) (epochOf (c .before .before .before .before .before .before .before .before .before .before .before .before .before .before .before .before .before .before .before .before .before .before .before .before .args .kind))) (12 + c .before .before .before .before .before .before .before .before .before .before .before .before .before .before .piece-size .result) (λ d. c .before .before .before .before .slot-behind .ensures .1 (c .before .before .before .before .before .before .before .before .before .before .send-piece .ensures .0 .3 d .0)))) (c .before .before .before .before .before .before .before .before .before .before .send-piece .ensures .1 .0) (c .before .before .before .before .before .before .before .before .before .before .send-piece .ensures .1 .1))
+    (c .before .before .before .before .before .before .before .before .before .before .send-piece .kept .1 .1 .1 .1 .1 .1 .0) (c .before .before .before .before .before .before .before .before .before .before .send-piece .kept .1 .1 .1 .1 .1 .1 .1 .0) (c .if1 .left) (omega (arith, c .before .before .before .before .before .before .before .before .before .before .before .before .before .before .piece-size .ensures, v, (c .before .before .before .before .before .before .before .before .before .before .before .before .before .before .before .before .before .before .loop .inv []) .inside))
 
 same-length : tie.Need-same-length Inv-loop μ-loop
 same-length c = (c .before .loop .inv []) .queue
@@ -100,15 +103,15 @@ returns : tie.Need-returns Inv-loop μ-loop
 returns c l = let y = going-end (c .before .loop .inv l) (c .loop-test .left) in (ap (λ (x : Laid). x .saved) y, ap (λ (x : Laid). x .queue) y, ap (λ (x : Laid). x .kept) y)
 
 same-length-3 : tie.Need-same-length-3 Inv-loop μ-loop
-same-length-3 c = c .before .before .before .before .before .before .before .before .before .before .send-piece .kept .1 .1 .1 .1 .1 .1 .0 ∙ (c .before .before .before .before .before .before .before .before .before .before .before .before .before .before .before .before .before .before .before .loop .inv []) .queue
+same-length-3 c = c .before .before .before .before .before .before .before .before .before .before .send-piece .kept .1 .1 .1 .1 .1 .1 .0 ∙ (c .before .before .before .before .before .before .before .before .before .before .before .before .before .before .before .before .before .before .loop .inv []) .queue
 
 same-length-4 : tie.Need-same-length-4 Inv-loop μ-loop
-same-length-4 c = c .before .before .before .before .before .before .before .before .before .before .send-piece .kept .1 .1 .1 .1 .1 .1 .1 .0 ∙ (c .before .before .before .before .before .before .before .before .before .before .before .before .before .before .before .before .before .before .before .loop .inv []) .kept
+same-length-4 c = c .before .before .before .before .before .before .before .before .before .before .send-piece .kept .1 .1 .1 .1 .1 .1 .1 .0 ∙ (c .before .before .before .before .before .before .before .before .before .before .before .before .before .before .before .before .before .before .loop .inv []) .kept
 
 returns-2 : tie.Need-returns-2 Inv-loop μ-loop
 returns-2 c l =
-    let y = going-last (c .before .before .before .before .before .before .before .before .before .before .before .before .before .before .before .before .before .before .before .loop .inv l) (c .before .before .before .before .before .before .before .before .before .before .before .before .before .before .before .before .before .before .loop-test .taken) (rw (c .before .before .before .before .before .before .before .before .before .before .before .before .before .before .before .last-len .ensures .0, c .before .before .before .before .before .before .before .before .before .before .before .before .before .before .before .before .before .before .before .before .record-len .ensures, c .before .before .before .before .before .before .before .before .before .before .before .before .before .before .before .before .before .before .before .before .before .epoch-of .ensures) at (c .before .before .before .before .before .before .before .before .before .before .before .before .before .before .piece-size .ensures))
-    (piece-counted (c .before .before .before .before .before .before .before .before .before .before .before .before .before .before .before .before .before .before .before .before .before .before .before .before .before .args .kind) (c .before .before .before .before .before .before .before .before .before .before .before .before .before .before .before .before .before .before .before .before .before .before .before .before .before .args .body .now) (c .before .before .before .before .before .before .before .before .before .before .before .before .before .before .before .before .before .before .before .loop .at) (c .before .before .before .before .before .before .before .before .before .before .before .before .before .before .piece-size .result) (c .before .before .before .before .before .before .before .before .before .before .before .before .before .before .before .before .before .before .before .loop .t) (whole (c .before .before .before .before .before .before .before .before .before .before .before .before .before .before .before .before .before .before .before .loop .h) l) (c .before .before .before .before .before .before .before .before .before .before .before .before .before .before .before .before .before .before .before .loop .memory) (c .before .before .before .before .before .before .before .before .before .before .before .before .before .before .before .before .before .before .before .loop .kept) {g = record { entries = set (c .before .before .before .before .before .before .before .before .before .before .before .before .before .before .before .before .before .before .before .loop .h .entries) (c .before .before .before .before .slot-behind .result) (c .before .before .entry-behind .result); saved = c .before .count-behind .result; numbers = l }} (c .before .before .before .before .before .before .before .before .before .before .send-piece .ensures .0 .0) (c .before .before .before .before .before .before .before .before .before .before .send-piece .ensures .0 .1) (rw (c .before .before .entry-behind .ensures, c .before .count-behind .ensures, c .before .before .before .before .before .before .before .before .before .before .before .before .before .next-of .ensures, c .before .before .before .before .before .before .before .before .before .before .before .before .before .before .before .before .before .before .before .before .before .epoch-of .ensures) (saved-behind (whole (c .before .before .before .before .before .before .before .before .before .before .before .before .before .before .before .before .before .before .before .loop .h) l) (isDone (c .before .before .before .before .before .before .before .before .before .before .send-piece .result .answer)) (c .before .before .before .before .slot-behind .result) 22 (epochOf (c .before .before .before .before .before .before .before .before .before .before .before .before .before .before .before .before .before .before .before .before .before .before .before .before .before .args .kind)) (nextOf (c .before .before .before .before .before .before .before .before .before .before .before .before .before .before .before .before .before .before .before .loop .t .keys) (epochOf (c .before .before .before .before .before .before .before .before .before .before .before .before .before .before .before .before .before .before .before .before .before .before .before .before .before .args .kind))) (12 + c .before .before .before .before .before .before .before .before .before .before .before .before .before .before .piece-size .result) (λ d. c .before .before .before .before .slot-behind .ensures .1 (c .before .before .before .before .before .before .before .before .before .before .send-piece .ensures .0 .2 d)))) (c .before .before .before .before .before .before .before .before .before .before .send-piece .ensures .1 .0) (c .before .before .before .before .before .before .before .before .before .before .send-piece .ensures .1 .1))
+    let y = going-last (c .before .before .before .before .before .before .before .before .before .before .before .before .before .before .before .before .before .before .loop .inv l) (c .before .before .before .before .before .before .before .before .before .before .before .before .before .before .before .before .before .loop-test .taken) (rw (c .before .before .before .before .before .before .before .before .before .before .before .before .before .before .before .last-len .ensures .0, c .before .before .before .before .before .before .before .before .before .before .before .before .before .before .before .before .before .before .before .record-len .ensures, c .before .before .before .before .before .before .before .before .before .before .before .before .before .before .before .before .before .before .before .before .epoch-of .ensures) at (c .before .before .before .before .before .before .before .before .before .before .before .before .before .before .piece-size .ensures))
+    (piece-counted (c .before .before .before .before .before .before .before .before .before .before .before .before .before .before .before .before .before .before .before .before .before .before .before .before .args .kind) (c .before .before .before .before .before .before .before .before .before .before .before .before .before .before .before .before .before .before .before .before .before .before .before .before .args .body .now) (c .before .before .before .before .before .before .before .before .before .before .before .before .before .before .before .before .before .before .loop .at) (c .before .before .before .before .before .before .before .before .before .before .before .before .before .before .piece-size .result) (c .before .before .before .before .before .before .before .before .before .before .before .before .before .before .before .before .before .before .loop .t) (whole (c .before .before .before .before .before .before .before .before .before .before .before .before .before .before .before .before .before .before .loop .h) l) (c .before .before .before .before .before .before .before .before .before .before .before .before .before .before .before .before .before .before .loop .memory) (c .before .before .before .before .before .before .before .before .before .before .before .before .before .before .before .before .before .before .loop .kept) {g = record { entries = set (c .before .before .before .before .before .before .before .before .before .before .before .before .before .before .before .before .before .before .loop .h .entries) (c .before .before .before .before .slot-behind .result) (c .before .before .entry-behind .result); saved = c .before .count-behind .result; numbers = l }} (c .before .before .before .before .before .before .before .before .before .before .send-piece .ensures .0 .0) (c .before .before .before .before .before .before .before .before .before .before .send-piece .ensures .0 .1) (c .before .before .before .before .before .before .before .before .before .before .send-piece .ensures .0 .2) (rw (c .before .before .before .before .before .before .before .before .before .before .before .before .before .before .before .before .before .before .before .before .epoch-of .ensures) at (c .before .before .before .before .before .state-behind .ensures)) (rw (c .before .before .entry-behind .ensures, c .before .count-behind .ensures, c .before .before .before .before .before .before .before .before .before .before .before .before .before .next-of .ensures, c .before .before .before .before .before .before .before .before .before .before .before .before .before .before .before .before .before .before .before .before .epoch-of .ensures) (saved-behind (whole (c .before .before .before .before .before .before .before .before .before .before .before .before .before .before .before .before .before .before .loop .h) l) (isDone (c .before .before .before .before .before .before .before .before .before .before .send-piece .result .answer)) (c .before .before .before .before .slot-behind .result) 22 (epochOf (c .before .before .before .before .before .before .before .before .before .before .before .before .before .before .before .before .before .before .before .before .before .before .before .before .args .kind)) (nextOf (c .before .before .before .before .before .before .before .before .before .before .before .before .before .before .before .before .before .before .loop .t .keys) (epochOf (c .before .before .before .before .before .before .before .before .before .before .before .before .before .before .before .before .before .before .before .before .before .before .before .before .args .kind))) (12 + c .before .before .before .before .before .before .before .before .before .before .before .before .before .before .piece-size .result) (λ d. c .before .before .before .before .slot-behind .ensures .1 (c .before .before .before .before .before .before .before .before .before .before .send-piece .ensures .0 .3 d .0)))) (c .before .before .before .before .before .before .before .before .before .before .send-piece .ensures .1 .0) (c .before .before .before .before .before .before .before .before .before .before .send-piece .ensures .1 .1))
     (c .before .before .before .before .before .before .before .before .before .before .send-piece .kept .1 .1 .1 .1 .1 .1 .0) (c .before .before .before .before .before .before .before .before .before .before .send-piece .kept .1 .1 .1 .1 .1 .1 .1 .0) (c .if1 .taken) in
     (ap (λ (x : Laid). x .saved) y, ap (λ (x : Laid). x .queue) y, ap (λ (x : Laid). x .kept) y)
 
@@ -126,12 +129,13 @@ send-all-spec =
     piece-size-requires
     next-of-requires
     send-piece-requires
+    state-behind-requires
     slot-behind-requires
     mul-entry-behind
     element-copy-out-entry-behind
     add-entry-behind
     entry-behind-requires
-    mul-t23
+    mul-t22
     element-set-from-h
     count-behind-requires
     add-at
