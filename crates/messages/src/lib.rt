@@ -17,7 +17,7 @@ ghost use Rattle.send_keys.specs.Keys.{nextOf, used};
 ghost use Rattle.outgoing.specs.State.{isDone};
 ghost use Rattle.outgoing.specs.Send.{sendingOf};
 ghost use Rattle.flight.specs.Flight.{whole, counted};
-ghost use Rattle.flight.specs.Save.{savedAs};
+ghost use Rattle.flight.specs.Save.{saveAnswer, savedAs};
 ghost use Rattle.messages.specs.Message.{contentOf, pieceOf, beginning, sendAll, planAnswer, messageAnswer, messageState, messageQueue, messageKept};
 use outgoing::SendAnswer;
 use outgoing::Sending;
@@ -153,6 +153,24 @@ fn write_content(d: &mut [u8], kind: u8, seq: u16, body: &[u8], at: usize, size:
     queue::copy(&body[at..to], &mut d[inner..end]);
 }
 
+// Whether a piece's record can be sent and saved behind so many, or why not.
+fn piece_answer(
+    q: Queue,
+    k: SendKeys,
+    saved: usize,
+    room: usize,
+    kept: usize,
+    epoch: u16,
+    n: usize,
+) -> SendAnswer
+    ensures { λ r. ⌜ ((w : Waiting) (m : ℕ) → r ≡ saveAnswer (sendingOf q w k m) (counted saved) room kept epoch 22 n) ⌝ }
+{
+    let usable = send_keys::is_usable(k, epoch);
+    let keyed = send_keys::is_keyed(k, epoch);
+    let next = send_keys::next_of(k, epoch);
+    flight::save_answer(q, usable, keyed, next, saved, room, kept, epoch, 22, n)
+}
+
 // A piece sent, behind so many saved records. Its content is put together in its slot and sent from there.
 fn send_piece(
     s: Sending,
@@ -173,22 +191,9 @@ fn send_piece(
     let w = s.waiting;
     let k = s.keys;
     let n = 12 + size;
-    let number = send_keys::next_of(k, epoch);
-    let usable = send_keys::is_usable(k, epoch);
-    let keyed = send_keys::is_keyed(k, epoch);
-    let a = flight::save_answer(
-        q,
-        usable,
-        keyed,
-        number,
-        saved,
-        memory.len(),
-        kept.len(),
-        epoch,
-        22,
-        n,
-    );
+    let a = piece_answer(q, k, saved, memory.len(), kept.len(), epoch, n);
     if outgoing::is_done(a) {
+        let number = send_keys::next_of(k, epoch);
         let from = saved * q.mtu;
         let end = from + n;
         write_content(&mut kept[from..end], kind, s.message_seq, body, at, size);
