@@ -123,12 +123,7 @@ after-moved v w x s f p e q = (p .0 ∙ ap (movedFrom (stateOf w)) e ∙ q ∙ s
 pub after-sent : (v w : List ℕ) (x s : Sending) → isFlat w ≡ true → Partly (sentFrom (stateOf w) x) w v → x ≡ s → sentFrom (stateOf w) s ≡ s → After v w s
 after-sent v w x s f p e q = (p .0 ∙ ap (sentFrom (stateOf w)) e ∙ q ∙ sym (if-true _ _ f), p .1 f ∙ sym f)
 
--- a take changes nothing else
-pub take-moves : (a : TakeAnswer) (s : Sending) → movedFrom s (takes.takeState a s .state) ≡ takes.takeState a s .state
-unfolding takes.takeState
-take-moves a s = by-test (λ (t : Sending). movedFrom s t ≡ t) (λ e. refl) (λ e. refl)
-
--- nor does a sealing
+-- a sealing changes nothing else
 pub sealed-moves : (a : SealAnswer) (s : Sending) (q : List ℕ) → movedFrom s (sealings.sealedState a s q .state) ≡ sealings.sealedState a s q .state
 unfolding sealings.sealedState keying.sealedUpTo
 sealed-moves a s q =

@@ -219,10 +219,7 @@ pub fn take(w: &mut [u64; 59], buffer: &mut [u8], queue: &[u8]) -> LinkTake
     ensures { λ r. ⌜ TakeCall r (now (w .exit)) (now (w .entry)) (now (buffer .exit)) (now (buffer .entry)) (now (queue .entry)) ⌝ }
 {
     if send_words::is_flat(w) {
-        let k = taking::poll_packet_tx(send_words::load(w), buffer, queue);
-        let a = k.answer;
-        send_words::save_moved(w, k.state);
-        return flat_take(a);
+        return flat_take(take_steps::take(w, buffer, queue));
     }
     no_take(0, 12, 0)
 }
