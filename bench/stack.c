@@ -8,7 +8,7 @@
 
 #include "huskelapse.h"
 
-enum { SHALLOW = 65536, DEEP = 1 << 20, WORD = sizeof(uint64_t), CALLS = 24 };
+enum { SHALLOW = 65536, DEEP = 1 << 20, WORD = sizeof(uint64_t), CALLS = 25 };
 
 static const uint64_t paint = 0xA5C35A3C96E1781E;
 
@@ -84,6 +84,7 @@ MEASURED(11, uint8_t, link_send, (LinkSending *s, uint16_t epoch, uint8_t type, 
 MEASURED(12, LinkSealing, link_sealing, (const LinkSending *s), (s))
 MEASURED(13, uint8_t, link_sealed, (LinkSending *s, size_t len, uint8_t m0, uint8_t m1, uint8_t *q, size_t qn), (s, len, m0, m1, q, qn))
 MEASURED(14, LinkTake, link_take, (LinkSending *s, uint8_t *b, size_t bn, const uint8_t *q, size_t qn), (s, b, bn, q, qn))
+MEASURED(24, LinkPart, link_take_in_place, (LinkSending *s, const uint8_t *q, size_t qn), (s, q, qn))
 MEASURED(15, uint8_t, link_begin_flight, (uint64_t *f), (f))
 MEASURED(16, uint8_t, link_send_saved,
     (LinkSending *s, uint64_t *f, uint64_t *m, uint16_t epoch, uint8_t type, const uint8_t *c, size_t cn, uint8_t *q, size_t qn,

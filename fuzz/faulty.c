@@ -13,6 +13,7 @@ uint8_t __real_link_key_send(LinkSending *s, uint16_t epoch, const uint8_t *iv);
 uint8_t __real_link_send(LinkSending *s, uint16_t epoch, uint8_t type, const uint8_t *c, size_t cn, uint8_t *q, size_t qn);
 uint8_t __real_link_sealed(LinkSending *s, size_t length, uint8_t m0, uint8_t m1, uint8_t *q, size_t qn);
 LinkTake __real_link_take(LinkSending *s, uint8_t *b, size_t bn, const uint8_t *q, size_t qn);
+LinkPart __real_link_take_in_place(LinkSending *s, const uint8_t *q, size_t qn);
 uint8_t __real_link_send_saved(LinkSending *s, uint64_t *f, uint64_t *m, uint16_t epoch, uint8_t type, const uint8_t *c,
     size_t cn, uint8_t *q, size_t qn, uint8_t *k, size_t kn);
 uint8_t __real_link_create_handshake(LinkSending *s, uint64_t *f, uint64_t *m, uint8_t type, const uint8_t *c, size_t cn,
@@ -31,6 +32,7 @@ uint8_t __wrap_link_key_send(LinkSending *s, uint16_t epoch, const uint8_t *iv);
 uint8_t __wrap_link_send(LinkSending *s, uint16_t epoch, uint8_t type, const uint8_t *c, size_t cn, uint8_t *q, size_t qn);
 uint8_t __wrap_link_sealed(LinkSending *s, size_t length, uint8_t m0, uint8_t m1, uint8_t *q, size_t qn);
 LinkTake __wrap_link_take(LinkSending *s, uint8_t *b, size_t bn, const uint8_t *q, size_t qn);
+LinkPart __wrap_link_take_in_place(LinkSending *s, const uint8_t *q, size_t qn);
 uint8_t __wrap_link_send_saved(LinkSending *s, uint64_t *f, uint64_t *m, uint16_t epoch, uint8_t type, const uint8_t *c,
     size_t cn, uint8_t *q, size_t qn, uint8_t *k, size_t kn);
 uint8_t __wrap_link_create_handshake(LinkSending *s, uint64_t *f, uint64_t *m, uint8_t type, const uint8_t *c, size_t cn,
@@ -127,6 +129,14 @@ LinkTake __wrap_link_take(LinkSending *s, uint8_t *b, size_t bn, const uint8_t *
     if (t.kind == LINK_TAKEN && t.length < bn && planted(12))
         b[t.length] ^= 1;
     return t;
+}
+
+LinkPart __wrap_link_take_in_place(LinkSending *s, const uint8_t *q, size_t qn)
+{
+    LinkPart p = __real_link_take_in_place(s, q, qn);
+    if (p.kind == LINK_TAKEN && p.start > 0 && planted(28))
+        p.start--;
+    return p;
 }
 
 uint8_t __wrap_link_send_saved(LinkSending *s, uint64_t *f, uint64_t *m, uint16_t epoch, uint8_t type, const uint8_t *c,

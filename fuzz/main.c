@@ -49,6 +49,7 @@ static const struct {
     [SEALING] = {"link_sealing", {R(12), R(0), R(0)}},
     [SEALED] = {"link_sealed", {R(0) | R(12) | R(15)}},
     [TAKE] = {"link_take", {R(12) | R(16) | R(23), R(0), R(0)}},
+    [TAKE_IN_PLACE] = {"link_take_in_place", {R(12) | R(23), R(0), R(0)}},
     [FLIGHT] = {"link_flight", {R(0)}},
     [BEGIN_FLIGHT] = {"link_begin_flight", {R(0) | R(12)}},
     [SEND_SAVED] = {"link_send_saved", {R(0) | R(12) | R(13) | R(14) | R(17) | R(18) | R(19) | R(20)}},

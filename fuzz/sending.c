@@ -209,6 +209,17 @@ static void call_sealed(void)
         check_queue(0, 0);
 }
 
+/* A take writes the ring's front, and a refused one nothing. */
+static void check_front(int taken)
+{
+    LinkSending a = before;
+    if (taken) {
+        a.word[W_FIRST] = s->word[W_FIRST];
+        a.word[W_COUNT] = before.word[W_COUNT] - 1;
+    }
+    require(memcmp(&a, s, sizeof a) == 0, "a take has changed other words than the front's");
+}
+
 static void call_take(void)
 {
     size_t n = one_in(8) ? below(BUFFER) : one_in(8) ? 0 : LONGEST_MTU, from = 0;
@@ -223,6 +234,7 @@ static void call_take(void)
     calling(TAKE);
     LinkTake t = link_take(s, b, n, queue.fixed, queue.n);
     sending_done(TAKE, t.kind, t.refusal, t.kind != LINK_TAKEN, 0);
+    check_front(t.kind == LINK_TAKEN);
     require(t.refusal != 16 || (t.length > n && t.length <= before.word[W_MTU]), "a needed length made up");
     require(t.kind == LINK_TAKEN || t.refusal == 16 || t.length == 0, "a field not used is not zero");
     if (t.kind == LINK_TAKEN) {
@@ -232,6 +244,25 @@ static void call_take(void)
         from = t.length;
     }
     require(memcmp(buffer.bytes + from, buffer_before + from, n - from) == 0, "bytes behind the datagram have changed");
+}
+
+/* Beside link_take on a copy of the state, with room for every datagram. */
+static void call_take_in_place(void)
+{
+    static uint8_t whole[65535];
+    LinkSending copy = *s;
+    LinkTake t = link_take(&copy, whole, sizeof whole, queue.fixed, queue.n);
+    keep_queue();
+    calling(TAKE_IN_PLACE);
+    LinkPart p = link_take_in_place(s, queue.fixed, queue.n);
+    sending_done(TAKE_IN_PLACE, p.kind, p.refusal, p.kind != LINK_TAKEN, 0);
+    check_front(p.kind == LINK_TAKEN);
+    check_queue(0, 0);
+    require(p.kind == t.kind && p.refusal == t.refusal && p.length == t.length, "another answer than link_take's");
+    require(memcmp(&copy, s, sizeof copy) == 0, "another state than link_take's");
+    require(p.kind == LINK_TAKEN || (p.start == 0 && p.length == 0), "a field not used is not zero");
+    require(p.start <= queue.n && p.length <= queue.n - p.start, "a datagram outside the queue");
+    require(memcmp(queue.bytes + p.start, whole, p.length) == 0, "another datagram than link_take's");
 }
 
 /* ---- states */
@@ -303,7 +334,8 @@ static void step(void)
     }
     switch (below(12)) {
     case 0: call_key(); break;
-    case 1: case 2: call_take(); break;
+    case 1: call_take(); break;
+    case 2: call_take_in_place(); break;
     case 3: case 4: case 5: call_sealed(); break;
     case 6: ask(); break;
     default: call_send(); break;

@@ -120,7 +120,7 @@ typedef struct {
 
 enum {
     LINK_EMPTY = 1, /* the queue is empty */
-    LINK_TAKEN = 2  /* a datagram of length bytes is at the start of the buffer */
+    LINK_TAKEN = 2  /* a datagram of length bytes is at the start of the buffer, or at start in the queue */
 };
 
 /* Kind 0 is refused; by 16, length bytes are needed. */
@@ -128,6 +128,12 @@ typedef struct {
     uint8_t kind, refusal;
     size_t length;
 } LinkTake;
+
+/* Kind 0 is refused. */
+typedef struct {
+    uint8_t kind, refusal;
+    size_t start, length;
+} LinkPart;
 
 /* Nothing keyed, nothing queued, whatever stood in the words: MTU 576 to 1,500, at most limit datagrams, 1 to 16. The queue is a buffer
  * of the host with at least limit times mtu bytes, the same in every call. Refused by 12, and then so is every call on it. */
@@ -144,6 +150,9 @@ LinkSealing link_sealing(const LinkSending *s);
 uint8_t link_sealed(LinkSending *s, size_t length, uint8_t mask_0, uint8_t mask_1, uint8_t *queue, size_t queue_len);
 /* The front datagram, copied to the start of a buffer. Refused by 12, 16, 23. */
 LinkTake link_take(LinkSending *s, uint8_t *buffer, size_t buffer_len, const uint8_t *queue, size_t queue_len);
+/* The front datagram taken without a copy: it is the length bytes of the queue from start on, and stays there until the next call that
+ * is lent the queue to write to. Refused by 12, 23. */
+LinkPart link_take_in_place(LinkSending *s, const uint8_t *queue, size_t queue_len);
 
 /* ---- saved records and handshake messages */
 

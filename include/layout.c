@@ -46,6 +46,12 @@ PLACED(LinkTake, kind, 0, 1);
 PLACED(LinkTake, refusal, 1, 1);
 PLACED(LinkTake, length, 8, 8);
 
+SIZED(LinkPart, 24, 8);
+PLACED(LinkPart, kind, 0, 1);
+PLACED(LinkPart, refusal, 1, 1);
+PLACED(LinkPart, start, 8, 8);
+PLACED(LinkPart, length, 16, 8);
+
 SIZED(LinkFlight, (73 + 384) * 8, 8);
 PLACED(LinkFlight, word, 0, 73 * 8);
 PLACED(LinkFlight, numbers, 73 * 8, 384 * 8);

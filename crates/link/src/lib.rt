@@ -5,6 +5,7 @@ ghost use Rattle.link_sending.specs.Calls as sends;
 ghost use Rattle.link_flight.specs.Calls as flights;
 ghost use Rattle.link_acks.specs.Calls as acks;
 use link_receiving::LinkReading;
+use link_sending::LinkPart;
 use link_sending::LinkSealing;
 use link_sending::LinkTake;
 
@@ -134,6 +135,13 @@ pub extern "C" fn link_take(w: &mut [u64; 59], buffer: &mut [u8], queue: &[u8]) 
     ensures { λ r. ⌜ sends.TakeCall r (now (w .exit)) (now (w .entry)) (now (buffer .exit)) (now (buffer .entry)) (now (queue .entry)) ⌝ }
 {
     link_sending::take(w, buffer, queue)
+}
+
+#[no_mangle]
+pub extern "C" fn link_take_in_place(w: &mut [u64; 59], queue: &[u8]) -> LinkPart
+    ensures { λ r. ⌜ sends.TakeInPlaceCall r (now (w .exit)) (now (w .entry)) (now (queue .entry)) ⌝ }
+{
+    link_sending::take_in_place(w, queue)
 }
 
 // ---- saved records and handshake messages

@@ -3,9 +3,12 @@
 use mathlib.Core.Bool.{true, false}
 use mathlib.Core.List.{List, [], _∷_}
 use mathlib.Core.Path.{_≡_, refl, sym, ap, _∙_}
-use Prim.Native.Nat.{ℕ}
+use Prim.Native.Nat.{ℕ, _*_, _≤_, _<_, _%_}
+use native.Mathlib.Omega.{arith}
+use borrow.Author.Tests.{ltb-true}
 use lib.ListN.{replicate, length}
-use Rattle.base.specs.Choose.{choose, if-true, if-false, by-test}
+use Rattle.base.specs.Choose.{choose, if-true, if-false, by-test, test-cases}
+use Rattle.base.specs.Parts.{part, splice}
 use Rattle.send_keys.specs.Keys as keying
 use Rattle.outgoing.specs.State.{refusal, started, keyingState, isDone}
 use Rattle.outgoing.specs.declared.Sending.{Sending}
@@ -22,6 +25,8 @@ use Rattle.taking.specs.declared.TakeAnswer.the-variants as take
 use Rattle.send_words.specs.Words.{stateOf, isFlat}
 use Rattle.send_words.specs.Laws.{Kept}
 use Rattle.send_words.specs.Partly.{Partly, movedFrom}
+use Rattle.queue.specs.Queue.{ready}
+use Rattle.take_steps.specs.Front.{frontStart, length-at}
 use Rattle.send_keys.specs.declared.SendKeys.{SendKeys}
 use Rattle.outgoing.specs.declared.SendAnswer.{SendAnswer}
 use Rattle.outgoing.specs.Send.{sendAnswer, sendState, sendMemory, laidState, laidMemory}
@@ -29,6 +34,7 @@ use Rattle.taking.specs.Take as takes
 use Rattle.sealing.specs.declared.SealAnswer.{SealAnswer}
 use Rattle.link_sending.specs.declared.LinkSealing.{LinkSealing}
 use Rattle.link_sending.specs.declared.LinkTake.{LinkTake}
+use Rattle.link_sending.specs.declared.LinkPart.{LinkPart}
 
 abbrev pub masks : ℕ → ℕ → List ℕ
 masks m n = m ∷ n ∷ []
@@ -56,6 +62,17 @@ flatTake take.OutOfRange = noTake 0 12 0
 flatTake take.Nothing = noTake 1 0 0
 flatTake take.Unsealed = noTake 0 23 0
 flatTake (take.Short n) = noTake 0 16 n
+
+abbrev pub noPart : ℕ → ℕ → LinkPart
+noPart kind n = record { kind = kind; refusal = n; start = 0; length = 0 }
+
+-- a datagram that is taken begins at start
+abbrev pub flatPart : TakeAnswer → ℕ → LinkPart
+flatPart (take.Taken n) start = record { kind = 2; refusal = 0; start = start; length = n }
+flatPart take.OutOfRange start = noPart 0 12
+flatPart take.Nothing start = noPart 1 0
+flatPart take.Unsealed start = noPart 0 23
+flatPart (take.Short n) start = noPart 0 16
 
 -- ---- w before a call, v behind it, k what the definition makes of the state
 
@@ -106,6 +123,18 @@ TakeCall r v w c b q =
     Taken r v w (takes.takeState (takes.takeAnswer (stateOf w) (length q) (length b)) (stateOf w))
     × (c ≡ either w (takes.takeBuffer (takes.takeAnswer (stateOf w) (length q) (length b)) (stateOf w) q b) b)
 
+-- the answer for a buffer that holds every length
+abbrev pub placeAnswer : List ℕ → ℕ → TakeAnswer
+placeAnswer w room = takes.takeAnswer (stateOf w) room 65535
+
+-- the part of the queue told is what TakeCall puts at the start of such a buffer b, whatever stands in it
+abbrev pub TakeInPlaceCall : LinkPart → List ℕ → List ℕ → List ℕ → Type 0
+TakeInPlaceCall r v w q =
+    (r ≡ choose (isFlat w) (flatPart (placeAnswer w (length q)) (stateOf w .queue .first * stateOf w .queue .mtu)) (noPart 0 12))
+    × After v w (takes.takeState (placeAnswer w (length q)) (stateOf w) .state)
+    × ((b : List ℕ) → length b ≡ 65535
+    → splice 0 (part (r .start) (r .length) q) b ≡ either w (takes.takeBuffer (takes.takeAnswer (stateOf w) (length q) (length b)) (stateOf w) q b) b)
+
 -- ---- from the parts to the whole
 
 -- a state written is the state behind the call
@@ -117,12 +146,7 @@ after v w x s f k e = (k .0 ∙ e ∙ sym (if-true _ _ f), k .1 ∙ sym f)
 pub after-moved : (v w : List ℕ) (x s : Sending) → isFlat w ≡ true → Partly (movedFrom (stateOf w) x) w v → x ≡ s → movedFrom (stateOf w) s ≡ s → After v w s
 after-moved v w x s f p e q = (p .0 ∙ ap (movedFrom (stateOf w)) e ∙ q ∙ sym (if-true _ _ f), p .1 f ∙ sym f)
 
--- a take changes nothing else
-pub take-moves : (a : TakeAnswer) (s : Sending) → movedFrom s (takes.takeState a s .state) ≡ takes.takeState a s .state
-unfolding takes.takeState
-take-moves a s = by-test (λ (t : Sending). movedFrom s t ≡ t) (λ e. refl) (λ e. refl)
-
--- nor does a sealing
+-- a sealing changes nothing else
 pub sealed-moves : (a : SealAnswer) (s : Sending) (q : List ℕ) → movedFrom s (sealings.sealedState a s q .state) ≡ sealings.sealedState a s q .state
 unfolding sealings.sealedState keying.sealedUpTo
 sealed-moves a s q =
@@ -143,3 +167,58 @@ module _ {r : ℕ} (w : List ℕ) (a : SendAnswer) (e t : ℕ) (c q : List ℕ) 
   unfolding sendState sendMemory
   sends-nothing d =
       ((g ∙ sym (if-true _ _ f), (sym (if-false _ _ d) ∙ sym (if-true _ _ f), refl)), sym (if-false _ _ d) ∙ sym (if-true _ _ f))
+
+-- ---- a datagram taken in place
+
+pub part-at : (a : TakeAnswer) (s : Sending) → flatPart a (frontStart a s) ≡ flatPart a (s .queue .first * s .queue .mtu)
+part-at (take.Taken n) s = ap (flatPart (take.Taken n)) (if-true _ _ refl)
+part-at take.OutOfRange s = refl
+part-at take.Nothing s = refl
+part-at take.Unsealed s = refl
+part-at (take.Short n) s = refl
+
+abbrev InBuffer : Sending → List ℕ → List ℕ → TakeAnswer → Type 0
+InBuffer s q b a =
+    splice 0 (part (flatPart a (s .queue .first * s .queue .mtu) .start) (flatPart a (s .queue .first * s .queue .mtu) .length) q) b ≡ takes.takeBuffer a s q b
+
+nowhere : (q b : List ℕ) → splice 0 (part 0 0 q) b ≡ b
+unfolding splice
+nowhere q b = refl
+
+in-buffer : (s : Sending) (q b : List ℕ) (room have : ℕ) → InBuffer s q b (takes.takeAnswer s room have)
+unfolding takes.takeAnswer takes.takeBuffer
+in-buffer s q b room have =
+    by-test (InBuffer s q b)
+    (λ r. by-test (InBuffer s q b) (λ n. nowhere q b ∙ sym (if-false _ _ refl))
+    (λ n. by-test (InBuffer s q b)
+    (λ l. by-test (InBuffer s q b) (λ x. nowhere q b ∙ sym (if-false _ _ refl))
+    (λ x. by-test (InBuffer s q b) (λ f. nowhere q b ∙ sym (if-false _ _ refl)) (λ f. sym (if-true _ _ refl))))
+    (λ l. nowhere q b ∙ sym (if-false _ _ refl))))
+    (λ r. nowhere q b ∙ sym (if-false _ _ refl))
+
+pub taken-part : (r : LinkPart) (w q b : List ℕ) → isFlat w ≡ true → r ≡ flatPart (placeAnswer w (length q)) (stateOf w .queue .first * stateOf w .queue .mtu)
+    → length b ≡ 65535 → splice 0 (part (r .start) (r .length) q) b ≡ either w (takes.takeBuffer (takes.takeAnswer (stateOf w) (length q) (length b)) (stateOf w) q b) b
+taken-part r w q b f e h =
+    ap (λ (x : LinkPart). splice 0 (part (x .start) (x .length) q) b) e
+    ∙ in-buffer (stateOf w) q b (length q) 65535
+    ∙ ap (λ (n : ℕ). takes.takeBuffer (takes.takeAnswer (stateOf w) (length q) n) (stateOf w) q b) (sym h)
+    ∙ sym (if-true _ _ f)
+
+pub no-part : (r : LinkPart) (w q b : List ℕ) (x : List ℕ) → isFlat w ≡ false → r ≡ noPart 0 12 → splice 0 (part (r .start) (r .length) q) b ≡ either w x b
+no-part r w q b x f e = ap (λ (y : LinkPart). splice 0 (part (y .start) (y .length) q) b) e ∙ nowhere q b ∙ sym (if-false _ _ f)
+
+-- 16 is not answered: no length is beyond 65,535
+pub never-short : (w : List ℕ) (room : ℕ) → takes.refusal (placeAnswer w room) ≡ 16 → ⊥
+unfolding takes.takeAnswer
+never-short w room =
+    by-test (λ (a : TakeAnswer). takes.refusal a ≡ 16 → ⊥)
+    (λ r. by-test (λ (a : TakeAnswer). takes.refusal a ≡ 16 → ⊥) (λ n z. omega arith)
+    (λ n. by-test (λ (a : TakeAnswer). takes.refusal a ≡ 16 → ⊥)
+    (λ l. by-test (λ (a : TakeAnswer). takes.refusal a ≡ 16 → ⊥) (λ x z. omega arith)
+    (λ x. by-test (λ (a : TakeAnswer). takes.refusal a ≡ 16 → ⊥)
+    (λ f z.
+    let i = ready {q = stateOf w .queue} r .range in
+    omega (arith, ltb-true 65535 (takes.frontLen (stateOf w)) f, length-at w (stateOf w .queue .first) (omega (arith, i .first, i .limit))))
+    (λ f z. omega arith)))
+    (λ l z. omega arith)))
+    (λ r z. omega arith)

@@ -9,12 +9,15 @@ ghost use Rattle.link_sending.specs.Calls.{
   noSealing,
   flatTake,
   noTake,
+  flatPart,
+  noPart,
   FreshCall,
   KeySendCall,
   SendCall,
   SealingCall,
   SealedCall,
   TakeCall,
+  TakeInPlaceCall,
 };
 use outgoing::SendAnswer;
 use outgoing::Sending;
@@ -43,6 +46,16 @@ pub struct LinkSealing {
 pub struct LinkTake {
     pub kind: u8,
     pub refusal: u8,
+    pub length: usize,
+}
+
+// A datagram taken where it lies in the queue, by kind: 0 refused by 12 or 23, 1 the queue is empty, 2 a datagram of so many bytes from a
+// place of the queue on.
+#[repr(C)]
+pub struct LinkPart {
+    pub kind: u8,
+    pub refusal: u8,
+    pub start: usize,
     pub length: usize,
 }
 
@@ -146,6 +159,34 @@ fn flat_take(a: TakeAnswer) -> LinkTake
     }
 }
 
+fn no_part(kind: u8, refusal: u8) -> LinkPart
+    ensures { λ r. ⌜ r ≡ noPart kind refusal ⌝ }
+{
+    LinkPart {
+        kind: kind,
+        refusal: refusal,
+        start: 0,
+        length: 0,
+    }
+}
+
+fn flat_part(a: TakeAnswer, start: usize) -> LinkPart
+    ensures { λ r. ⌜ r ≡ flatPart a start ⌝ }
+{
+    match a {
+        TakeAnswer::Taken(n) => LinkPart {
+            kind: 2,
+            refusal: 0,
+            start: start,
+            length: n,
+        },
+        TakeAnswer::OutOfRange => no_part(0, 12),
+        TakeAnswer::Nothing => no_part(1, 0),
+        TakeAnswer::Unsealed => no_part(0, 23),
+        TakeAnswer::Short(_) => no_part(0, 16),
+    }
+}
+
 // ---- the calls
 
 // Nothing keyed, nothing queued, whatever stood in the words. MTU 576 to 1,500, at most 1 to 16 datagrams.
@@ -222,10 +263,19 @@ pub fn take(w: &mut [u64; 59], buffer: &mut [u8], queue: &[u8]) -> LinkTake
     ensures { λ r. ⌜ TakeCall r (now (w .exit)) (now (w .entry)) (now (buffer .exit)) (now (buffer .entry)) (now (queue .entry)) ⌝ }
 {
     if send_words::is_flat(w) {
-        let k = taking::poll_packet_tx(send_words::load(w), buffer, queue);
-        let a = k.answer;
-        send_words::save_moved(w, k.state);
-        return flat_take(a);
+        return flat_take(take_steps::take(w, buffer, queue));
     }
     no_take(0, 12, 0)
+}
+
+// The front datagram, if it is wholly sealed, taken where it lies in the queue. A length of 16 bits fits a buffer of 65,535.
+pub fn take_in_place(w: &mut [u64; 59], queue: &[u8]) -> LinkPart
+    ensures { λ r. ⌜ TakeInPlaceCall r (now (w .exit)) (now (w .entry)) (now (queue .entry)) ⌝ }
+{
+    if send_words::is_flat(w) {
+        let f = take_steps::take_front(w, queue.len(), 65535);
+        let a = f.answer;
+        return flat_part(a, f.start);
+    }
+    no_part(0, 12)
 }

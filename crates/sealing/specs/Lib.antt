@@ -1,3 +1,4 @@
 pub mod Seek
+pub mod Heads
 pub mod Sealing
 pub mod Laws

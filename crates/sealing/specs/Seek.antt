@@ -3,17 +3,17 @@
 use mathlib.Core.Bool.{true, false}
 use mathlib.Core.List.{List}
 use mathlib.Core.Path.{_≡_, ap}
-use Prim.Native.Nat.{ℕ, zero, suc, _+_, _-_, _*_, _≤_}
+use Prim.Native.Nat.{ℕ, zero, suc, _+_, _-_, _*_}
 use native.Mathlib.Omega.{arith}
 use lib.Dec.{leb, eqb}
-use lib.ListN.{length, getD}
+use lib.ListN.{getD}
 use Rattle.base.specs.Bytes.{beAt}
-use Rattle.base.specs.Choose.{choose, both, by-test, by-less, if-true, if-false}
+use Rattle.base.specs.Choose.{choose, both, if-true, if-false}
 use Rattle.base.specs.Parts.{part}
 use Rattle.record.specs.declared.Parsed.{Parsed}
 use Rattle.record.specs.declared.Parsed.the-variants as read
 use Rattle.record.specs.declared.Ciphertext.{Ciphertext}
-use Rattle.record.specs.Record.{parsed, parseCiphertext, parsePlaintext, headOf, sizeOf, headerLen, fragmentLen}
+use Rattle.record.specs.Record.{parsed}
 use Rattle.queue.specs.declared.Queue.{Queue}
 use Rattle.queue.specs.Queue.{slotOf}
 use Rattle.outgoing.specs.declared.Waiting.{Waiting}
@@ -77,19 +77,6 @@ seek zero q d c = noWaiting
 seek (suc k) q d c = choose (c .done) (c .found) (seek k q d (seekStep q d c))
 
 -- ---- laws
-
--- a record that is read lies in its slice
-pub parsed-fits : (d : List ℕ) → headOf (parsed d) + sizeOf (parsed d) ≤ length d
-unfolding parsed parseCiphertext parsePlaintext
-parsed-fits d =
-    by-test (λ (p : Parsed). headOf p + sizeOf p ≤ length d) (λ e. omega arith)
-    (λ e. by-test (λ (p : Parsed). headOf p + sizeOf p ≤ length d)
-    (λ s. by-test (λ (p : Parsed). headOf p + sizeOf p ≤ length d) (λ g. omega arith)
-    (λ g. by-less (λ (p : Parsed). headOf p + sizeOf p ≤ length d) (length d) (headerLen (getD d 0 0)) (λ l. omega arith)
-    (λ l. by-less (λ (p : Parsed). headOf p + sizeOf p ≤ length d) (length d - headerLen (getD d 0 0)) (fragmentLen d (getD d 0 0)) (λ m. omega arith) (λ m. omega arith))))
-    (λ s. by-less (λ (p : Parsed). headOf p + sizeOf p ≤ length d) (length d) 13 (λ l. omega arith)
-    (λ l. by-less (λ (p : Parsed). headOf p + sizeOf p ≤ length d) (length d - 13) (beAt 2 d 11) (λ m. omega arith)
-    (λ m. by-test (λ (p : Parsed). headOf p + sizeOf p ≤ length d) (λ a. omega arith) (λ a. omega arith)))))
 
 -- six bytes are twice three
 pub beAt-six : (d : List ℕ) (i : ℕ) → beAt 6 d i ≡ beAt 3 d i * 16777216 + beAt 3 d (i + 3)

@@ -1,17 +1,15 @@
 // Sealings, asked of the host oldest first, after `create_ciphertext_record` of engine.rs.
 ghost use mathlib.Core.Path.{_≡_};
-ghost use Prim.Native.Nat.{_+_, _-_, _≤_, _<_};
+ghost use Prim.Native.Nat.{_+_, _-_, _/_, _≤_, _<_};
 ghost use lib.ListN.{length, getD};
 ghost use Rattle.base.specs.Bytes.{beAt};
 ghost use Rattle.queue.specs.Queue.{InRange, Ready};
 ghost use Rattle.record.specs.Record.{parsed};
-ghost use Rattle.sealing.specs.Seek.{nthOf, beyond, passed, foundAt, stepOf, recordAt, seekStep, seek};
+ghost use Rattle.sealing.specs.Seek.{nthOf, beyond, passed, stepOf, recordAt, seekStep, seek};
 ghost use Rattle.sealing.specs.Sealing.{isSpan, isHeld, isAsked, partStart, questionOf, nothingAsked, partOf, isPut, putMemory, maskedHeader, behindOldest, sealAnswer, isSealed, sealedState, sealedMemory, Held};
 use outgoing::Sending;
 use outgoing::Waiting;
 use queue::Queue;
-use record::Ciphertext;
-use record::Parsed;
 
 // A search for the next record that waits: whether it is over, the datagram and the offset that it has come to, what it found.
 pub struct Search {
@@ -89,33 +87,37 @@ fn be48(d: &[u8], i: usize) -> u64
     base::be24(d, i) * 0x100_0000 + base::be24(d, j)
 }
 
-// A sealed record is met: it waits, with its epoch and number in the tag's place.
-fn found_at(d: &[u8], r: Ciphertext, slot: usize, c: Search) -> Search
-    requires { ⌜ (r .«header_len» + r .length ≤ length (now d)) × (c .datagram ≤ 16) ⌝ }
-    ensures { λ t. ⌜ t ≡ foundAt (now (d .entry)) r slot c ⌝ }
+// A sealed record as it is laid is met: it waits, with its epoch and number in the tag's place.
+fn found_at(d: &[u8], slot: usize, c: Search) -> Search
+    requires { ⌜ (0 < length (now d)) × (getD (now d) 0 0 / 4 ≡ 11) × (c .datagram ≤ 16) ⌝ }
+    ensures { λ t. ⌜ t ≡ stepOf (parsed (now (d .entry))) (now (d .entry)) slot c ⌝ }
 {
-    let n = r.length;
-    if r.header_len == 5 {
-        if 17 <= n {
-            let epoch = base::be16(d, n - 11) as u16;
-            let number = be48(d, n - 9);
-            return Search {
-                done: true,
-                datagram: c.datagram,
-                offset: c.offset,
-                found: Waiting {
-                    any: true,
-                    slot: slot,
-                    start: c.offset,
-                    length: n,
-                    epoch: epoch,
-                    number: number,
-                },
-            };
-        }
+    let size = d.len();
+    if size < 5 {
         return go_beyond(c);
     }
-    go_beyond(c)
+    let n = base::be16(d, 3) as usize;
+    if size - 5 < n {
+        return go_beyond(c);
+    }
+    if n < 17 {
+        return go_beyond(c);
+    }
+    let epoch = base::be16(d, n - 11) as u16;
+    let number = be48(d, n - 9);
+    Search {
+        done: true,
+        datagram: c.datagram,
+        offset: c.offset,
+        found: Waiting {
+            any: true,
+            slot: slot,
+            start: c.offset,
+            length: n,
+            epoch: epoch,
+            number: number,
+        },
+    }
 }
 
 // The record at the search's offset is passed.
@@ -132,18 +134,39 @@ fn go_past(c: Search, n: usize) -> Search
     }
 }
 
-// What a parsed record means to the search.
-fn step_of(p: Parsed, d: &[u8], slot: usize, c: Search) -> Search
-    requires { ⌜ (p ≡ parsed (now d)) × (length (now d) ≤ 65535) × (c .offset ≤ 65535) × (c .datagram ≤ 16) ⌝ }
-    ensures { λ r. ⌜ r ≡ stepOf p (now (d .entry)) slot c ⌝ }
+// A record in plaintext is met.
+fn plain_at(d: &[u8], slot: usize, c: Search) -> Search
+    requires { ⌜ (0 < length (now d)) × (getD (now d) 0 0 / 32 ≡ 1 → ⊥) × (length (now d) ≤ 65535) × (c .offset ≤ 65535) × (c .datagram ≤ 16) ⌝ }
+    ensures { λ t. ⌜ t ≡ stepOf (parsed (now (d .entry))) (now (d .entry)) slot c ⌝ }
 {
-    match p {
-        Parsed::Plaintext(r) => go_past(c, r.length),
-        Parsed::Invalid(n) => go_past(c, n),
-        Parsed::Ciphertext(r) => found_at(d, r, slot, c),
-        Parsed::End => go_beyond(c),
-        Parsed::Incomplete => go_beyond(c),
+    let size = d.len();
+    if size < 13 {
+        return go_beyond(c);
     }
+    let n = base::be16(d, 11) as usize;
+    if size - 13 < n {
+        return go_beyond(c);
+    }
+    go_past(c, n)
+}
+
+// What lies at the search's place means to it. The record's first bytes tell: 0x2C to 0x2F begins a sealed record as it is laid, any
+// other from 0x20 to 0x3F none that waits.
+fn step_of(d: &[u8], slot: usize, c: Search) -> Search
+    requires { ⌜ (length (now d) ≤ 65535) × (c .offset ≤ 65535) × (c .datagram ≤ 16) ⌝ }
+    ensures { λ r. ⌜ r ≡ stepOf (parsed (now (d .entry))) (now (d .entry)) slot c ⌝ }
+{
+    if d.len() == 0 {
+        return go_beyond(c);
+    }
+    let flags = d[0];
+    if flags / 4 == 11 {
+        return found_at(d, slot, c);
+    }
+    if flags / 32 == 1 {
+        return go_beyond(c);
+    }
+    plain_at(d, slot, c)
 }
 
 // One step of the search.
@@ -167,7 +190,7 @@ fn seek_step(q: Queue, d: &[u8], c: Search) -> Search
         return go_beyond(c);
     }
     let x = base::fragment(d, slot * q.mtu + offset, len - offset);
-    step_of(record::parse(x), x, slot, c)
+    step_of(x, slot, c)
 }
 
 // The first record that waits from where the search is on. 2,000 steps pass every record that 16 datagrams can hold.

@@ -24,7 +24,8 @@ pub struct Take {
     pub state: Sending,
 }
 
-fn next_slot(first: usize, limit: usize) -> usize
+// The slot behind one.
+pub fn next_slot(first: usize, limit: usize) -> usize
     requires { ⌜ first ≤ 16 ⌝ }
     ensures { λ r. ⌜ r ≡ nextSlot first limit ⌝ }
 {
@@ -76,7 +77,7 @@ fn take_answer(s: Sending, room: usize, have: usize) -> TakeAnswer
     TakeAnswer::Taken(n)
 }
 
-fn is_taken(a: TakeAnswer) -> bool
+pub fn is_taken(a: TakeAnswer) -> bool
     ensures { λ r. ⌜ r ≡ isTaken a ⌝ }
 {
     match a {

@@ -37,6 +37,14 @@ pub struct LinkTake {
     pub length: usize,
 }
 
+#[repr(C)]
+pub struct LinkPart {
+    pub kind: u8,
+    pub refusal: u8,
+    pub start: usize,
+    pub length: usize,
+}
+
 unsafe extern "C" {
     pub safe fn link_receiving(s: &mut LinkReceiving, min_protected: usize) -> u8;
     pub safe fn link_key_receive(s: &mut LinkReceiving, epoch: u16, iv: &[u8; 12]) -> u8;
@@ -78,6 +86,7 @@ unsafe extern "C" {
         queue: *const u8,
         queue_len: usize,
     ) -> LinkTake;
+    pub fn link_take_in_place(s: &mut LinkSending, queue: *const u8, queue_len: usize) -> LinkPart;
     pub safe fn link_flight(f: &mut LinkFlight, numbers: &mut LinkNumbers);
     pub safe fn link_begin_flight(f: &mut LinkFlight) -> u8;
     pub fn link_create_handshake(

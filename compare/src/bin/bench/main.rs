@@ -42,14 +42,16 @@ fn row(
 type OfSize = fn(usize, u32) -> f64;
 
 fn record_of(n: usize, what: &str, rust: OfSize, rattle: OfSize) -> Row {
-    let name = format!("{what} a record of {n}");
+    let name = format!("{what} of {n}");
     row(name, 100_000, move |k| rust(n, k), move |k| rattle(n, k))
 }
 
 fn rows() -> Vec<Row> {
     let sizes = [16, 200, 1200];
-    let read = sizes.map(|n| record_of(n, "read", rust::read, rattle::read));
-    let send = sizes.map(|n| record_of(n, "send", rust::send, rattle::send));
+    let read = sizes.map(|n| record_of(n, "read a record", rust::read, rattle::read));
+    let send = sizes.map(|n| record_of(n, "send a record", rust::send, rattle::send));
+    let in_place =
+        sizes.map(|n| record_of(n, "send, taken in place", rust::send, rattle::send_in_place));
     let message = row(
         "send a message of 16384".into(),
         5_000,
@@ -68,7 +70,7 @@ fn rows() -> Vec<Row> {
         rust::act_on_ack,
         rattle::act_on_ack,
     );
-    let mut rows = Vec::from_iter(read.into_iter().chain(send));
+    let mut rows = Vec::from_iter(read.into_iter().chain(send).chain(in_place));
     rows.extend([message, resend, ack]);
     rows
 }
@@ -96,7 +98,7 @@ fn compare(row: &Row, runs: u32) {
     times.sort_by(|a, b| a.0.total_cmp(&b.0));
     let least = |f: fn(&(f64, f64, f64)) -> f64| times.iter().map(f).fold(f64::MAX, f64::min);
     println!(
-        "{:24} Rust {:8.1} ns   Rattle {:8.1} ns   ratio {:.2} ({:.2} to {:.2})",
+        "{:28} Rust {:8.1} ns   Rattle {:8.1} ns   ratio {:.2} ({:.2} to {:.2})",
         row.name,
         least(|r| r.1),
         least(|r| r.2),

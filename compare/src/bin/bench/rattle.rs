@@ -139,6 +139,12 @@ impl Host {
         unsafe { link_take(&mut self.s, out.as_mut_ptr(), out.len(), q, room) }
     }
 
+    #[inline]
+    fn take_in_place(&mut self) -> LinkPart {
+        let (q, room) = (self.queue.as_ptr(), self.queue.len());
+        unsafe { link_take_in_place(&mut self.s, q, room) }
+    }
+
     /// Seals and takes all that is queued; how many datagrams there were.
     fn take_all(&mut self) -> usize {
         self.seal_all();
@@ -181,6 +187,19 @@ pub fn send(n: usize, count: u32) -> f64 {
         let taken = host.take(&mut out);
         assert!(sent == 0 && sealed == 0 && taken.kind == 2 && taken.length == n + 22);
         black_box(&out[..taken.length]);
+    })
+}
+
+pub fn send_in_place(n: usize, count: u32) -> f64 {
+    let mut host = Host::new();
+    let content = vec![0x55; n];
+    time(count, |_| {
+        let sent = host.send_record(black_box(&content));
+        let ask = link_sealing(&host.s);
+        let sealed = host.sealed(&ask);
+        let taken = host.take_in_place();
+        assert!(sent == 0 && sealed == 0 && taken.kind == 2 && taken.length == n + 22);
+        black_box(&host.queue[taken.start..taken.start + taken.length]);
     })
 }
 

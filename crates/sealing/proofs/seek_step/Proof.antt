@@ -43,15 +43,12 @@ sub-fragment c = search needs
 fragment-requires : tie.Need-fragment-requires
 fragment-requires c κs = search needs
 
-parse-requires : tie.Need-parse-requires
-parse-requires c κs = search needs
-
 step-of-requires : tie.Need-step-of-requires
-step-of-requires c κs = (c .parse .ensures, omega (arith, simp length-take at (ap length (c .before .fragment .ensures)), c .before .before .before .before .len-at .ensures .1), omega (arith, c .before .before .before .before .len-at .ensures .1, c .before .before .before .if2 .left), omega (arith, c .before .before .before .before .before .before .if1 .left, c .before .before .before .before .before .before .before .before .before .pre .count, c .before .before .before .before .before .before .before .before .before .pre .limit))
+step-of-requires c κs = (omega (arith, simp length-take at (ap length (c .fragment .ensures)), c .before .before .before .len-at .ensures .1), omega (arith, c .before .before .before .len-at .ensures .1, c .before .before .if2 .left), omega (arith, c .before .before .before .before .before .if1 .left, c .before .before .before .before .before .before .before .before .pre .count, c .before .before .before .before .before .before .before .before .pre .limit))
 
 returns-3 : tie.Need-returns-3
 unfolding seekStep
-returns-3 c = rw (c .before .parse .ensures, c .before .before .fragment .ensures, c .before .before .before .before .before .len-at .ensures .0, c .before .before .before .before .before .before .slot-of .ensures .0) at (c .step-of .ensures) ∙ sym (if-false _ _ (lt-leb _ _ (c .before .before .before .before .before .before .before .if1 .left)) ∙ if-false _ _ (rw (c .before .before .before .before .before .len-at .ensures .0, c .before .before .before .before .before .before .slot-of .ensures .0) at (lt-leb _ _ (c .before .before .before .before .if2 .left))))
+returns-3 c = rw (c .before .fragment .ensures, c .before .before .before .before .len-at .ensures .0, c .before .before .before .before .before .slot-of .ensures .0) at (c .step-of .ensures) ∙ sym (if-false _ _ (lt-leb _ _ (c .before .before .before .before .before .before .if1 .left)) ∙ if-false _ _ (rw (c .before .before .before .before .len-at .ensures .0, c .before .before .before .before .before .slot-of .ensures .0) at (lt-leb _ _ (c .before .before .before .if2 .left))))
 
 pub seek-step-spec : {M : Type 1} → statement M
 seek-step-spec =
@@ -67,6 +64,5 @@ seek-step-spec =
     add-fragment
     sub-fragment
     fragment-requires
-    parse-requires
     step-of-requires
     returns-3)

@@ -1,0 +1,60 @@
+-- The front datagram in the words: where it lies, and what they stand for once it is taken. Assumes nothing.
+use mathlib.Core.Bool.{true, false}
+use mathlib.Core.List.{List}
+use mathlib.Core.Path.{_≡_, refl, sym, ap, _∙_}
+use Prim.Native.Nat.{ℕ, zero, suc, _+_, _*_, _<_, _%_}
+use native.Mathlib.Omega.{arith}
+use lib.ListN.{length, getD, set}
+use Rattle.base.specs.Choose.{choose}
+use Rattle.link_words.specs.Laws.{firstOf}
+use Rattle.outgoing.specs.declared.Sending.{Sending}
+use Rattle.send_words.specs.Words.{lengthsOf, ivFrom, stateOf, isFlat}
+use Rattle.send_words.specs.Laws.{by-words}
+use Rattle.taking.specs.declared.TakeAnswer.{TakeAnswer}
+use Rattle.taking.specs.Take.{frontLen, isTaken}
+
+-- the first byte of the datagram that is taken, and its length; 0 and 0 where none is
+abbrev pub frontStart : TakeAnswer → Sending → ℕ
+frontStart a s = choose (isTaken a) (s .queue .first * s .queue .mtu) 0
+
+abbrev pub frontSize : TakeAnswer → Sending → ℕ
+frontSize a s = choose (isTaken a) (frontLen s) 0
+
+-- the words v stand for s, flat if w were
+abbrev pub Stands : Sending → List ℕ → List ℕ → Type 0
+Stands s w v = (stateOf v ≡ s) × (isFlat v ≡ isFlat w)
+
+-- the length of a slot's datagram
+pub length-at : (w : List ℕ) (i : ℕ) → i < 16 → getD w (19 + i) 0 % 65536 ≡ getD (lengthsOf w) i 0
+unfolding lengthsOf
+length-at w zero h = refl
+length-at w (suc zero) h = refl
+length-at w (suc (suc zero)) h = refl
+length-at w (suc (suc (suc zero))) h = refl
+length-at w (suc (suc (suc (suc zero)))) h = refl
+length-at w (suc (suc (suc (suc (suc zero))))) h = refl
+length-at w (suc (suc (suc (suc (suc (suc zero)))))) h = refl
+length-at w (suc (suc (suc (suc (suc (suc (suc zero))))))) h = refl
+length-at w (suc (suc (suc (suc (suc (suc (suc (suc zero)))))))) h = refl
+length-at w (suc (suc (suc (suc (suc (suc (suc (suc (suc zero))))))))) h = refl
+length-at w (suc (suc (suc (suc (suc (suc (suc (suc (suc (suc zero)))))))))) h = refl
+length-at w (suc (suc (suc (suc (suc (suc (suc (suc (suc (suc (suc zero))))))))))) h = refl
+length-at w (suc (suc (suc (suc (suc (suc (suc (suc (suc (suc (suc (suc zero)))))))))))) h = refl
+length-at w (suc (suc (suc (suc (suc (suc (suc (suc (suc (suc (suc (suc (suc zero))))))))))))) h = refl
+length-at w (suc (suc (suc (suc (suc (suc (suc (suc (suc (suc (suc (suc (suc (suc zero)))))))))))))) h = refl
+length-at w (suc (suc (suc (suc (suc (suc (suc (suc (suc (suc (suc (suc (suc (suc (suc zero))))))))))))))) h = refl
+length-at w (suc (suc (suc (suc (suc (suc (suc (suc (suc (suc (suc (suc (suc (suc (suc (suc i)))))))))))))))) h = absurd (omega arith)
+
+-- ---- the ring's front written
+
+abbrev fronted : Sending → ℕ → ℕ → Sending
+fronted s x y = record {
+  queue = record { mtu = s .queue .mtu; limit = s .queue .limit; first = x; count = y; closed = s .queue .closed; lengths = s .queue .lengths };
+  waiting = s .waiting;
+  keys = s .keys;
+  «message_seq» = s .«message_seq»;
+}
+
+pub fronts : (w : List ℕ) (x y : ℕ) → length w ≡ 59 → Stands (fronted (stateOf w) x y) w (set (set w 2 x) 3 y)
+unfolding firstOf lengthsOf ivFrom isFlat
+fronts w x y h = by-words (λ (v : List ℕ). Stands (fronted (stateOf v) x y) v (set (set v 2 x) 3 y)) w h (refl, refl)

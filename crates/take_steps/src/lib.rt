@@ -1,0 +1,155 @@
+// Taking the front datagram, over the words that hold the sending side's state.
+ghost use mathlib.Core.Path.{_≡_};
+ghost use Prim.Native.Nat.{_+_, _-_, _*_, _≤_, _<_};
+ghost use lib.ListN.{length, getD};
+ghost use Rattle.base.specs.Parts.{splice, part};
+ghost use Rattle.queue.specs.Queue.{isSound, isReady};
+ghost use Rattle.send_words.specs.Words.{stateOf};
+ghost use Rattle.taking.specs.Take.{frontLen, isFront, takeAnswer, isTaken, takeState, takeBuffer, afterTake};
+ghost use Rattle.take_steps.specs.Front.{frontStart, frontSize, Stands};
+use taking::TakeAnswer;
+
+// What is answered, and the place in the queue of the datagram that is taken.
+pub struct Front {
+    pub answer: TakeAnswer,
+    pub start: usize,
+    pub length: usize,
+}
+
+// How many words there are.
+fn count_of(w: &[u64]) -> usize
+    ensures { λ r. ⌜ r ≡ length (now (w .entry)) ⌝ }
+{
+    w.len()
+}
+
+fn sized(w: &[u64; 59]) -> usize
+    ensures { λ _. ⌜ length (now (w .entry)) ≡ 59 ⌝ }
+{
+    count_of(w)
+}
+
+// ---- the tests
+
+// Whether settings and ring are in range.
+fn is_sound(w: &[u64; 59]) -> bool
+    ensures { λ r. ⌜ r ≡ isSound (stateOf (now (w .entry)) .queue) ⌝ }
+{
+    let limit = w[1];
+    if queue::is_setting(w[0] as usize, limit as usize) {
+        if w[2] < limit {
+            return w[3] <= limit;
+        }
+    }
+    false
+}
+
+// Whether the buffer lent for the queue is long enough besides.
+fn is_ready(w: &[u64; 59], room: usize) -> bool
+    ensures { λ r. ⌜ r ≡ isReady (stateOf (now (w .entry)) .queue) room ⌝ }
+{
+    if is_sound(w) {
+        return w[1] as usize * w[0] as usize <= room;
+    }
+    false
+}
+
+// The front datagram's length.
+fn front_len(w: &[u64; 59]) -> usize
+    requires { ⌜ getD (now w) 2 0 < 16 ⌝ }
+    ensures { λ r. ⌜ r ≡ frontLen (stateOf (now (w .entry))) ⌝ }
+{
+    let at = 19 + w[2] as usize;
+    (w[at] % 65536) as usize
+}
+
+// Whether a record in the front datagram waits.
+fn front_waits(w: &[u64; 59]) -> bool
+    ensures { λ r. ⌜ r ≡ isFront (stateOf (now (w .entry)) .waiting) (stateOf (now (w .entry)) .queue .first) ⌝ }
+{
+    if w[5] == 1 {
+        return w[6] == w[2];
+    }
+    false
+}
+
+// Whether the front datagram can be taken, or why not.
+fn take_answer(w: &[u64; 59], room: usize, have: usize) -> TakeAnswer
+    ensures { λ r. ⌜ r ≡ takeAnswer (stateOf (now (w .entry))) room have ⌝ }
+{
+    if !is_ready(w, room) {
+        return TakeAnswer::OutOfRange;
+    }
+    if w[3] == 0 {
+        return TakeAnswer::Nothing;
+    }
+    let n = front_len(w);
+    if (w[0] as usize) < n {
+        return TakeAnswer::OutOfRange;
+    }
+    if front_waits(w) {
+        return TakeAnswer::Unsealed;
+    }
+    if have < n {
+        return TakeAnswer::Short(n);
+    }
+    TakeAnswer::Taken(n)
+}
+
+// ---- the front taken
+
+// The front moves on: the slot behind it, one datagram less.
+fn advance(w: &mut [u64; 59])
+    requires { ⌜ (getD (now w) 2 0 ≤ 16) × (0 < getD (now w) 3 0) ⌝ }
+    ensures { λ _. ⌜ Stands (afterTake (stateOf (now (w .entry)))) (now (w .entry)) (now (w .exit)) ⌝ }
+{
+    sized(w);
+    let next = taking::next_slot(w[2] as usize, w[1] as usize);
+    let count = w[3] - 1;
+    w[2] = next as u64;
+    w[3] = count;
+}
+
+// The front datagram, if it is wholly sealed, leaves the queue; its bytes stay.
+pub fn take_front(w: &mut [u64; 59], room: usize, have: usize) -> Front
+    ensures { λ r. ⌜ (r .answer ≡ takeAnswer (stateOf (now (w .entry))) room have) × (r .start ≡ frontStart (r .answer) (stateOf (now (w .entry)))) × (r .length ≡ frontSize (r .answer) (stateOf (now (w .entry)))) × Stands (takeState (r .answer) (stateOf (now (w .entry))) .state) (now (w .entry)) (now (w .exit)) ⌝ }
+{
+    let a = take_answer(w, room, have);
+    if taking::is_taken(a) {
+        let start = w[2] as usize * w[0] as usize;
+        let n = front_len(w);
+        advance(w);
+        return Front {
+            answer: a,
+            start: start,
+            length: n,
+        };
+    }
+    Front {
+        answer: a,
+        start: 0,
+        length: 0,
+    }
+}
+
+// A part of the queue copied to the start of a buffer.
+fn copy_out(memory: &[u8], from: usize, n: usize, buffer: &mut [u8])
+    requires { ⌜ (from + n ≤ length (now memory)) × (n ≤ length (now buffer)) × (from + n ≤ 24000) ⌝ }
+    ensures { λ _. ⌜ now (buffer .exit) ≡ splice 0 (part from n (now (memory .entry))) (now (buffer .entry)) ⌝ }
+{
+    let to = from + n;
+    let start = 0;
+    queue::copy(&memory[from..to], &mut buffer[start..n]);
+}
+
+// The front datagram, if it is wholly sealed, copied to the start of a lent buffer.
+pub fn take(w: &mut [u64; 59], buffer: &mut [u8], memory: &[u8]) -> TakeAnswer
+    ensures { λ r. ⌜ (r ≡ takeAnswer (stateOf (now (w .entry))) (length (now (memory .entry))) (length (now (buffer .entry)))) × Stands (takeState r (stateOf (now (w .entry))) .state) (now (w .entry)) (now (w .exit)) × (now (buffer .exit) ≡ takeBuffer r (stateOf (now (w .entry))) (now (memory .entry)) (now (buffer .entry))) ⌝ }
+{
+    let f = take_front(w, memory.len(), buffer.len());
+    let a = f.answer;
+    if taking::is_taken(a) {
+        copy_out(memory, f.start, f.length, buffer);
+    }
+    a
+}
