@@ -134,7 +134,7 @@ LinkTake __wrap_link_take(LinkSending *s, uint8_t *b, size_t bn, const uint8_t *
 LinkPart __wrap_link_take_in_place(LinkSending *s, const uint8_t *q, size_t qn)
 {
     LinkPart p = __real_link_take_in_place(s, q, qn);
-    if (p.kind == LINK_TAKEN && p.start > 0 && planted(28))
+    if (p.kind == LINK_TAKEN && p.start > 0 && planted(29))
         p.start--;
     return p;
 }
