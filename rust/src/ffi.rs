@@ -52,6 +52,14 @@ pub struct LinkTake {
     pub length: usize,
 }
 
+#[repr(C)]
+pub struct LinkPart {
+    pub kind: u8,
+    pub refusal: u8,
+    pub start: usize,
+    pub length: usize,
+}
+
 extern "C" {
     pub fn link_receiving(s: *mut [u64; RECEIVING_WORDS], min_protected: usize) -> u8;
     pub fn link_key_receive(s: *mut [u64; RECEIVING_WORDS], epoch: u16, iv: *const [u8; 12]) -> u8;
@@ -90,6 +98,7 @@ extern "C" {
         queue: *const u8,
         queue_len: usize,
     ) -> LinkTake;
+    pub fn link_take_in_place(s: *mut [u64; SENDING_WORDS], queue: *const u8, queue_len: usize) -> LinkPart;
 
     pub fn link_flight(f: *mut [u64; FLIGHT_WORDS], numbers: *mut [u64; FLIGHT_NUMBERS]);
     pub fn link_begin_flight(f: *mut [u64; FLIGHT_WORDS]) -> u8;

@@ -300,6 +300,39 @@ impl<M: AsRef<[u8]> + AsMut<[u8]>> Sender<M> {
             _ => Err(Refusal::of(t.refusal, t.length)),
         }
     }
+
+    /// Takes the front datagram where it lies in the queue, without a copy; none if the queue is empty. Refused by 23 before it is
+    /// wholly sealed. The sender is borrowed as long as the datagram, so nothing is queued over it.
+    ///
+    /// ```
+    /// # use huskelapse::test_cipher::Xor;
+    /// # use huskelapse::{content_type, Refusal, Sender};
+    /// let mut sender = Sender::new(1200, 4)?;
+    /// sender.key(3, &[7; 12])?;
+    /// sender.send(3, content_type::APPLICATION_DATA, b"14.2 kWh")?;
+    /// assert_eq!(sender.take_in_place(), Err(Refusal::Waiting)); // not sealed yet
+    /// sender.seal(&mut Xor(5));
+    /// assert_eq!(sender.take_in_place()?.map(|datagram| datagram.len()), Some(30));
+    /// assert_eq!(sender.take_in_place()?, None);
+    /// # Ok::<(), Refusal>(())
+    /// ```
+    ///
+    /// ```compile_fail,E0499
+    /// # use huskelapse::{content_type, Sender};
+    /// # let mut sender = Sender::new(1200, 4).unwrap();
+    /// let datagram = sender.take_in_place().unwrap();
+    /// sender.send(3, content_type::APPLICATION_DATA, b"over it").unwrap();
+    /// println!("{datagram:?}");
+    /// ```
+    pub fn take_in_place(&mut self) -> Result<Option<&[u8]>, Refusal> {
+        let queue = self.queue.as_ref();
+        let t = unsafe { ffi::link_take_in_place(&mut self.state, queue.as_ptr(), queue.len()) };
+        match t.kind {
+            ffi::TAKEN => Ok(Some(&queue[t.start..t.start + t.length])),
+            ffi::EMPTY => Ok(None),
+            _ => Err(Refusal::of(t.refusal, 0)),
+        }
+    }
 }
 
 impl<M> fmt::Debug for Sender<M> {
