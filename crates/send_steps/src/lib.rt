@@ -239,8 +239,8 @@ fn put_end(w: &mut [u64; 59], slot: usize, nth: usize, end: usize)
     ensures { λ _. ⌜ Partly (endAt (stateOf (now (w .entry))) slot (nth + 1) end) (now (w .entry)) (now (w .exit)) ⌝ }
 {
     send_words::sized(w);
-    let i = 19 + slot;
-    w[i] = end as u64;
+    let at = 19 + slot;
+    w[at] = end as u64;
     w[3] = (nth + 1) as u64;
     w[4] = 0;
 }

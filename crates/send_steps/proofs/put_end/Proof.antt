@@ -7,8 +7,8 @@ use Rattle.send_steps.proofs.put_end.Tie as tie
 sized-requires : tie.Need-sized-requires
 sized-requires c κs = search needs
 
-add-i : tie.Need-add-i
-add-i c = search needs
+add-at : tie.Need-add-at
+add-at c = search needs
 
 mul-w : tie.Need-mul-w
 mul-w c = search needs
@@ -33,7 +33,7 @@ put-end-spec =
     tie.close
     (tie.spec
     sized-requires
-    add-i
+    add-at
     mul-w
     element-write-w
     add-w
