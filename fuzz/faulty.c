@@ -5,6 +5,7 @@
 #include "huskelapse.h"
 
 LinkReading __real_link_read(LinkReceiving *s, const uint8_t *d, size_t n);
+LinkReading __real_link_begin_read(LinkReceiving *s, const uint8_t *d, size_t n);
 LinkReading __real_link_mask(LinkReceiving *s, uint8_t m0, uint8_t m1, uint8_t *d, size_t n);
 LinkReading __real_link_opened(LinkReceiving *s, uint8_t opened, size_t length, const uint8_t *d, size_t n);
 uint8_t __real_link_begin(LinkReceiving *s, size_t n);
@@ -23,6 +24,7 @@ uint8_t __real_link_note(uint64_t *count, uint64_t *epochs, uint64_t *numbers, u
 uint8_t __real_link_send_ack(LinkSending *s, uint64_t *count, uint64_t *epochs, uint64_t *numbers, uint8_t *q, size_t qn);
 
 LinkReading __wrap_link_read(LinkReceiving *s, const uint8_t *d, size_t n);
+LinkReading __wrap_link_begin_read(LinkReceiving *s, const uint8_t *d, size_t n);
 LinkReading __wrap_link_mask(LinkReceiving *s, uint8_t m0, uint8_t m1, uint8_t *d, size_t n);
 LinkReading __wrap_link_opened(LinkReceiving *s, uint8_t opened, size_t length, const uint8_t *d, size_t n);
 uint8_t __wrap_link_begin(LinkReceiving *s, size_t n);
@@ -63,6 +65,14 @@ LinkReading __wrap_link_read(LinkReceiving *s, const uint8_t *d, size_t n)
         r.length++;
     for (uint64_t i = 0; r.kind == LINK_DROPPED && planted(5); i++)
         sink = (uint8_t)i;
+    return r;
+}
+
+LinkReading __wrap_link_begin_read(LinkReceiving *s, const uint8_t *d, size_t n)
+{
+    LinkReading r = __real_link_begin_read(s, d, n);
+    if (r.kind == LINK_PLAINTEXT && planted(28))
+        s->word[22] = 0;
     return r;
 }
 
@@ -124,7 +134,7 @@ LinkTake __wrap_link_take(LinkSending *s, uint8_t *b, size_t bn, const uint8_t *
 LinkPart __wrap_link_take_in_place(LinkSending *s, const uint8_t *q, size_t qn)
 {
     LinkPart p = __real_link_take_in_place(s, q, qn);
-    if (p.kind == LINK_TAKEN && p.start > 0 && planted(28))
+    if (p.kind == LINK_TAKEN && p.start > 0 && planted(29))
         p.start--;
     return p;
 }

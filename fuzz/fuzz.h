@@ -42,7 +42,7 @@ void check_beside(const Lent *l);
 /* ---- answers and findings */
 
 enum {
-    RECEIVING, KEY_RECEIVE, REMOVE_RECEIVE, ENABLE, RELEASE, BEGIN, READ, MASK, OPENED, /* receiving */
+    RECEIVING, KEY_RECEIVE, REMOVE_RECEIVE, ENABLE, RELEASE, BEGIN, READ, BEGIN_READ, MASK, OPENED, /* receiving */
     SENDING, KEY_SEND, SEND, SEALING, SEALED, TAKE, TAKE_IN_PLACE, /* sending */
     FLIGHT, BEGIN_FLIGHT, SEND_SAVED, CREATE_HANDSHAKE, /* the flight */
     RESEND, PROCESS_ACK, NOTE, SEND_ACK, /* resends and ACKs */

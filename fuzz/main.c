@@ -39,6 +39,8 @@ static const struct {
     [RELEASE] = {"link_release_application_data", {R(0) | R(12)}},
     [BEGIN] = {"link_begin", {R(0) | R(1) | R(12)}},
     [READ] = {"link_read", {R(12) | R(15), R(0) | R(2) | R(3), R(4) | R(5) | R(6) | R(7), R(0), R(0), 0, R(0), R(0)}},
+    [BEGIN_READ] = {"link_begin_read",
+        {R(1) | R(12), R(0) | R(2), R(4) | R(5) | R(6) | R(7), R(0), R(0), 0, R(0)}},
     [MASK] = {"link_mask", {R(12) | R(15), 0, R(8) | R(9), 0, 0, 0, 0, R(0)}},
     [OPENED] = {"link_opened", {R(12) | R(15), R(3), R(10) | R(11), 0, 0, R(0)}},
     [SENDING] = {"link_sending", {R(0) | R(12)}},

@@ -177,15 +177,21 @@ static size_t build(uint8_t *p)
 
 /* ---- calls */
 
-static void call_begin(void)
+/* Mostly a new datagram, else the last one again. */
+static void bring_datagram(void)
 {
     static uint8_t built[LONGEST];
+    if (one_in(6))
+        return;
+    size_t n = build(built);
+    datagram = lend(&datagram_area, n, one_in(2));
+    memcpy(datagram.bytes, built, n);
+}
+
+static void call_begin(void)
+{
+    bring_datagram();
     size_t n = datagram.n;
-    if (!one_in(6)) {
-        n = build(built);
-        datagram = lend(&datagram_area, n, one_in(2));
-        memcpy(datagram.bytes, built, n);
-    }
     if (one_in(32))
         n = one_in(2) ? n + 1 : (size_t)edge_word(n);
     calling(BEGIN);
@@ -219,6 +225,37 @@ static void call_read(void)
     const uint8_t *d = fixed_lent(n);
     calling(READ);
     reading_answer(READ, link_read(s, d, n), n, 0);
+}
+
+static int same_reading(const LinkReading *a, const LinkReading *b)
+{
+    return a->kind == b->kind && a->refusal == b->refusal && a->content_type == b->content_type && a->epoch == b->epoch
+        && a->number == b->number && a->start == b->start && a->header_len == b->header_len && a->length == b->length
+        && memcmp(a->nonce, b->nonce, sizeof a->nonce) == 0;
+}
+
+/* What a beginning and a read of its first record answer, one after the other. */
+static LinkReading begin_then_read(LinkReceiving *copy, const uint8_t *d, size_t n)
+{
+    LinkReading r = {0};
+    r.refusal = link_begin(copy, n);
+    return r.refusal == 0 ? link_read(copy, d, n) : r;
+}
+
+static void call_begin_read(void)
+{
+    bring_datagram();
+    size_t n = length_lent();
+    const uint8_t *d = fixed_lent(n);
+    LinkReceiving copy = *s;
+    LinkReading two = begin_then_read(&copy, d, n);
+    calling(BEGIN_READ);
+    datagrams++;
+    LinkReading one = link_begin_read(s, d, n);
+    require(same_reading(&one, &two), "link_begin_read answers otherwise than link_begin and link_read");
+    require(memcmp(&copy, s, sizeof copy) == 0, "link_begin_read leaves another state than link_begin and link_read");
+    reading = one.kind != LINK_REFUSED && n == datagram.n;
+    reading_answer(BEGIN_READ, one, n, 0);
 }
 
 /* Only the number bytes are written, by the mask. */
@@ -388,9 +425,12 @@ static void step(void)
     case 3: call_opened(); break;
     case 4: call_flag(one_in(2) ? ENABLE : RELEASE); break;
     case 5: call_begin(); break;
+    case 6: call_begin_read(); break;
     default:
         if (reading)
             call_read();
+        else if (one_in(2))
+            call_begin_read();
         else
             call_begin();
     }

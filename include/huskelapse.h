@@ -49,7 +49,7 @@ typedef struct {
 } LinkReceiving;
 
 enum {
-    LINK_REFUSED = 0,   /* refusal 12 or 15: nothing has changed */
+    LINK_REFUSED = 0,   /* refusal 1, 12 or 15: nothing has changed */
     LINK_END = 1,       /* the datagram ends; refusal 0, 2 or 3 */
     LINK_DROPPED = 2,   /* one record is dropped; refusal 4 to 11 */
     LINK_PLAINTEXT = 3, /* content_type, number; content at start, length bytes */

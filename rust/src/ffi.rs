@@ -58,7 +58,7 @@ extern "C" {
     pub fn link_remove_receive(s: *mut [u64; RECEIVING_WORDS], epoch: u16) -> u8;
     pub fn link_enable_peer_encryption(s: *mut [u64; RECEIVING_WORDS]) -> u8;
     pub fn link_release_application_data(s: *mut [u64; RECEIVING_WORDS]) -> u8;
-    pub fn link_begin(s: *mut [u64; RECEIVING_WORDS], n: usize) -> u8;
+    pub fn link_begin_read(s: *mut [u64; RECEIVING_WORDS], d: *const u8, n: usize) -> LinkReading;
     pub fn link_read(s: *mut [u64; RECEIVING_WORDS], d: *const u8, n: usize) -> LinkReading;
     pub fn link_mask(s: *mut [u64; RECEIVING_WORDS], mask_0: u8, mask_1: u8, d: *mut u8, n: usize) -> LinkReading;
     pub fn link_opened(s: *mut [u64; RECEIVING_WORDS], opened: u8, length: usize, d: *const u8, n: usize) -> LinkReading;

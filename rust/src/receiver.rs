@@ -97,9 +97,13 @@ impl Receiver {
         datagram: &'d mut [u8],
         cipher: &'r mut C,
     ) -> Result<Readings<'r, 'd, C>, Refusal> {
-        Refusal::done(unsafe { ffi::link_begin(&mut self.state, datagram.len()) })?;
+        let first = unsafe { ffi::link_begin_read(&mut self.state, datagram.as_ptr(), datagram.len()) };
+        if first.kind == ffi::REFUSED {
+            Refusal::done(first.refusal)?;
+        }
         Ok(Readings {
             state: &mut self.state,
+            first: Some(first),
             start: datagram.as_mut_ptr(),
             length: datagram.len(),
             handed: 0,
@@ -157,6 +161,8 @@ pub enum Reading<'a> {
 /// The readings of one datagram, made by [`Receiver::read`]. Each asks the cipher for one mask and one opening at most.
 pub struct Readings<'r, 'd, C: Cipher + ?Sized> {
     state: &'r mut [u64; ffi::RECEIVING_WORDS],
+    // The link's word on the first record, until it is told.
+    first: Option<ffi::LinkReading>,
     // The datagram. Bytes before `handed` can be borrowed by readings and are not written any more.
     start: *mut u8,
     length: usize,
@@ -178,7 +184,10 @@ impl<'d, C: Cipher + ?Sized> Readings<'_, 'd, C> {
 
     /// The link's word on the next record, its questions answered.
     fn step(&mut self) -> ffi::LinkReading {
-        let mut r = unsafe { ffi::link_read(self.state, self.start, self.length) };
+        let mut r = match self.first.take() {
+            Some(first) => first,
+            None => unsafe { ffi::link_read(self.state, self.start, self.length) },
+        };
         if r.kind == ffi::MASK {
             // The record may be opened in place: the sample is copied and nothing is handed out.
             let sample = self.peek(r.start);

@@ -18,7 +18,7 @@ use Rattle.flight.specs.declared.Flight.{Flight}
 use Rattle.flight.specs.Flight.{noEntry, entryAt, withSaved}
 use Rattle.process_ack.specs.declared.Acked.{Acked}
 use Rattle.process_ack.specs.declared.Tally.{Tally}
-use Rattle.process_ack.specs.Ack.{isFormed, pairsIn, isPair, isNamed, isRemembered, isAcked, withMark, markAt, marksAfter, tallyWith, tallyAfter, emptied, acked, marks-saved}
+use Rattle.process_ack.specs.Ack.{isFormed, pairsIn, isPair, isNamed, isRemembered, isAcked, withMark, markAt, marksAfter, tallyWith, tallyAfter, emptied, acked, marks-saved, later-same}
 use Rattle.history.specs.Lists.{mem-by, either-cases}
 use Rattle.history.specs.Receiver.{Handed}
 use Rattle.ends.specs.Flights.{Saved, Arrived, Name, pairsOf, namesIn, FairAck, ofTwo, anyTwo}
@@ -58,13 +58,6 @@ module _ (d : List ℕ) (n : ℕ) (f : Flight) (long : length (f .entries) ≡ 1
   marks-long zero = long
   marks-long (suc k) = length-set (marksAfter d n f k .entries) k (withMark (entryAt (marksAfter d n f k) k) (marking k)) ∙ marks-long k
 
-  -- those from k on are as they were
-  later-same : (k i : ℕ) → k ≤ i → entryAt (marksAfter d n f k) i ≡ entryAt f i
-  unfolding marksAfter markAt
-  later-same zero i h = refl
-  later-same (suc k) i h =
-      getD-set-other (marksAfter d n f k .entries) k i (withMark (entryAt (marksAfter d n f k) k) (marking k)) noEntry (λ z. omega arith) ∙ later-same k i (omega arith)
-
   pub marks-at : (k i : ℕ) → k ≤ 12 → i < k → entryAt (marksAfter d n f k) i ≡ withMark (entryAt f i) (marking i)
   unfolding marksAfter markAt
   marks-at zero i l h = absurd (omega arith)
@@ -73,7 +66,7 @@ module _ (d : List ℕ) (n : ℕ) (f : Flight) (long : length (f .entries) ≡ 1
       (λ (z : i ≡ k).
       ap (λ (j : ℕ). getD (set (marksAfter d n f k .entries) k (withMark (entryAt (marksAfter d n f k) k) (marking k))) j noEntry) z
       ∙ getD-set-same (marksAfter d n f k .entries) k (withMark (entryAt (marksAfter d n f k) k) (marking k)) noEntry (omega (arith, marks-long k))
-      ∙ ap (λ (r : Entry). withMark r (marking k)) (later-same k k (omega arith)) ∙ ap (λ (j : ℕ). withMark (entryAt f j) (marking j)) (sym z))
+      ∙ ap (λ (r : Entry). withMark r (marking k)) (later-same d n f k k (omega arith)) ∙ ap (λ (j : ℕ). withMark (entryAt f j) (marking j)) (sym z))
       (λ z.
       getD-set-other (marksAfter d n f k .entries) k i (withMark (entryAt (marksAfter d n f k) k) (marking k)) noEntry z ∙ marks-at k i (omega arith) (omega arith))
       (eq-or-ne i k)

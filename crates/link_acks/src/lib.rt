@@ -74,15 +74,12 @@ pub fn resend(
     if send_words::is_flat(w) {
         if flight_words::is_flat(f) {
             let s = send_words::load(w);
-            let n = *numbers;
-            let g = flight_words::load(f, n);
-            let k = resend::flight_resend(s, g, kept, queue);
+            let g = flight_words::load_records(f);
+            let k = resend::resend_records(s, g, numbers, kept, queue);
             let a = k.answer;
-            let h = k.flight;
+            let h = k.records;
             send_words::save(w, k.state);
-            flight_words::save(f, h);
-            let m = h.numbers;
-            *numbers = m;
+            flight_words::save_records(f, h);
             return resent_of(a);
         }
         return 12;
@@ -95,14 +92,11 @@ pub fn process_ack(f: &mut [u64; 73], numbers: &mut [u64; 384], content: &[u8]) 
     ensures { λ r. ⌜ ProcessAckCall r (now (f .exit)) (now (f .entry)) (now (numbers .exit)) (now (numbers .entry)) (now (content .entry)) ⌝ }
 {
     if flight_words::is_flat(f) {
-        let n = *numbers;
-        let g = flight_words::load(f, n);
-        let k = process_ack::process_ack(g, content);
+        let g = flight_words::load_records(f);
+        let k = process_ack::ack_records(g, numbers, content);
         let a = k.answer;
-        let h = k.flight;
-        flight_words::save(f, h);
-        let m = h.numbers;
-        *numbers = m;
+        let h = k.records;
+        flight_words::save_records(f, h);
         return answer_of(a);
     }
     12

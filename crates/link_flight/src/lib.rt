@@ -60,15 +60,12 @@ pub fn send_saved(
     if send_words::is_flat(w) {
         if flight_words::is_flat(f) {
             let s = send_words::load(w);
-            let n = *numbers;
-            let g = flight_words::load(f, n);
-            let k = flight::send_saved(s, g, epoch, content_type, content, queue, kept);
+            let g = flight_words::load_records(f);
+            let k = flight::send_record(s, g, epoch, content_type, content, queue, kept);
             let a = k.answer;
-            let h = k.flight;
+            let h = k.records;
             send_words::save(w, k.state);
-            flight_words::save(f, h);
-            let m = h.numbers;
-            *numbers = m;
+            flight_words::save_records(f, h);
             return answer_of(a);
         }
         return 12;
@@ -91,15 +88,12 @@ pub fn create_handshake(
     if send_words::is_flat(w) {
         if flight_words::is_flat(f) {
             let s = send_words::load(w);
-            let n = *numbers;
-            let g = flight_words::load(f, n);
-            let k = messages::create_handshake(s, g, kind, body, queue, kept);
+            let g = flight_words::load_records(f);
+            let k = messages::create_records(s, g, kind, body, queue, kept);
             let a = k.answer;
-            let h = k.flight;
+            let h = k.records;
             send_words::save(w, k.state);
-            flight_words::save(f, h);
-            let m = h.numbers;
-            *numbers = m;
+            flight_words::save_records(f, h);
             return answer_of(a);
         }
         return 12;

@@ -32,7 +32,7 @@ use opening_reply::Opening;
 use receiving::Answer;
 
 // What a call says of the record at the cursor, by kind:
-//   0 refused by 12 or 15, and nothing has changed;
+//   0 refused by 1, 12 or 15, and nothing has changed;
 //   1 the datagram ends, without a fault or by 2 or 3;
 //   2 a record is dropped by 4 to 11;
 //   3 a plaintext record: type, number, and where its content is;

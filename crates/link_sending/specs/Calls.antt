@@ -3,14 +3,14 @@
 use mathlib.Core.Bool.{true, false}
 use mathlib.Core.List.{List, [], _∷_}
 use mathlib.Core.Path.{_≡_, refl, sym, ap, _∙_}
-use Prim.Native.Nat.{ℕ, _*_, _≤_, _<_, _%_}
+use Prim.Native.Nat.{ℕ, _*_}
 use native.Mathlib.Omega.{arith}
 use borrow.Author.Tests.{ltb-true}
 use lib.ListN.{replicate, length}
-use Rattle.base.specs.Choose.{choose, if-true, if-false, by-test, test-cases}
+use Rattle.base.specs.Choose.{choose, if-true, if-false, by-test}
 use Rattle.base.specs.Parts.{part, splice}
 use Rattle.send_keys.specs.Keys as keying
-use Rattle.outgoing.specs.State.{refusal, started, keyingState}
+use Rattle.outgoing.specs.State.{refusal, started, keyingState, isDone}
 use Rattle.outgoing.specs.declared.Sending.{Sending}
 use Rattle.outgoing.specs.declared.Sent.{Sent}
 use Rattle.outgoing.specs.declared.Keying.{Keying}
@@ -24,14 +24,13 @@ use Rattle.taking.specs.declared.TakeAnswer.{TakeAnswer}
 use Rattle.taking.specs.declared.TakeAnswer.the-variants as take
 use Rattle.send_words.specs.Words.{stateOf, isFlat}
 use Rattle.send_words.specs.Laws.{Kept}
-use Rattle.send_words.specs.Partly.{Partly, movedFrom, sentFrom}
-use Rattle.queue.specs.Queue.{laid, ready}
-use Rattle.take_steps.specs.Front.{frontStart, length-at}
-use Rattle.queue.specs.declared.Queue.{Queue}
+use Rattle.send_words.specs.Partly.{Partly, movedFrom}
+use Rattle.queue.specs.Queue.{ready}
+use Rattle.send_steps.specs.Steps.{length-at}
+use Rattle.take_steps.specs.Front.{frontStart}
 use Rattle.send_keys.specs.declared.SendKeys.{SendKeys}
-use Rattle.outgoing.specs.declared.Waiting.{Waiting}
 use Rattle.outgoing.specs.declared.SendAnswer.{SendAnswer}
-use Rattle.outgoing.specs.Send.{sendAnswer, sendState, sendMemory, laidState}
+use Rattle.outgoing.specs.Send.{sendAnswer, sendState, sendMemory, laidState, laidMemory}
 use Rattle.taking.specs.Take as takes
 use Rattle.sealing.specs.declared.SealAnswer.{SealAnswer}
 use Rattle.link_sending.specs.declared.LinkSealing.{LinkSealing}
@@ -148,9 +147,6 @@ after v w x s f k e = (k .0 ∙ e ∙ sym (if-true _ _ f), k .1 ∙ sym f)
 pub after-moved : (v w : List ℕ) (x s : Sending) → isFlat w ≡ true → Partly (movedFrom (stateOf w) x) w v → x ≡ s → movedFrom (stateOf w) s ≡ s → After v w s
 after-moved v w x s f p e q = (p .0 ∙ ap (movedFrom (stateOf w)) e ∙ q ∙ sym (if-true _ _ f), p .1 f ∙ sym f)
 
-pub after-sent : (v w : List ℕ) (x s : Sending) → isFlat w ≡ true → Partly (sentFrom (stateOf w) x) w v → x ≡ s → sentFrom (stateOf w) s ≡ s → After v w s
-after-sent v w x s f p e q = (p .0 ∙ ap (sentFrom (stateOf w)) e ∙ q ∙ sym (if-true _ _ f), p .1 f ∙ sym f)
-
 -- a sealing changes nothing else
 pub sealed-moves : (a : SealAnswer) (s : Sending) (q : List ℕ) → movedFrom s (sealings.sealedState a s q .state) ≡ sealings.sealedState a s q .state
 unfolding sealings.sealedState keying.sealedUpTo
@@ -159,14 +155,19 @@ sealed-moves a s q =
     (λ e. by-test (λ (k : SendKeys). movedFrom s (record { queue = s .queue; waiting = sealings.afterSealing s q .waiting; keys = k; «message_seq» = s .«message_seq» }) ≡ record { queue = s .queue; waiting = sealings.afterSealing s q .waiting; keys = k; «message_seq» = s .«message_seq» }) (λ f. refl) (λ f. refl))
     (λ e. refl)
 
--- nor does sending a record, beyond what it sends
-pub send-sents : (a : SendAnswer) (s : Sending) (e n : ℕ) → sentFrom s (sendState a s e n .state) ≡ sendState a s e n .state
-unfolding sendState laidState laid keying.used
-send-sents a s e n =
-    by-test (λ (t : Sending). sentFrom s t ≡ t)
-    (λ f. by-test (λ (k : SendKeys). sentFrom s (record { queue = laidState s e n .queue; waiting = laidState s e n .waiting; keys = k; «message_seq» = s .«message_seq» }) ≡ record { queue = laidState s e n .queue; waiting = laidState s e n .waiting; keys = k; «message_seq» = s .«message_seq» }) (λ g. refl)
-    (λ g. by-test (λ (k : SendKeys). sentFrom s (record { queue = laidState s e n .queue; waiting = laidState s e n .waiting; keys = k; «message_seq» = s .«message_seq» }) ≡ record { queue = laidState s e n .queue; waiting = laidState s e n .waiting; keys = k; «message_seq» = s .«message_seq» }) (λ h. refl) (λ h. refl)))
-    (λ f. refl)
+-- ---- a record laid, or refused
+
+module _ {r : ℕ} (w : List ℕ) (a : SendAnswer) (e t : ℕ) (c q : List ℕ) (f : isFlat w ≡ true) (g : r ≡ refusal a) where
+  pub sends-laid : (v p : List ℕ) → isDone a ≡ true → Partly (laidState (stateOf w) e (length c)) w v → p ≡ laidMemory (stateOf w) e t c q
+      → Sends r v w (sendState a (stateOf w) e (length c)) × (p ≡ either w (sendMemory a (stateOf w) e t c q) q)
+  unfolding sendState sendMemory
+  sends-laid v p d l m =
+      ((g ∙ sym (if-true _ _ f), (l .0 ∙ sym (if-true _ _ d) ∙ sym (if-true _ _ f), l .1 f ∙ sym f)), m ∙ sym (if-true _ _ d) ∙ sym (if-true _ _ f))
+
+  pub sends-nothing : isDone a ≡ false → Sends r w w (sendState a (stateOf w) e (length c)) × (q ≡ either w (sendMemory a (stateOf w) e t c q) q)
+  unfolding sendState sendMemory
+  sends-nothing d =
+      ((g ∙ sym (if-true _ _ f), (sym (if-false _ _ d) ∙ sym (if-true _ _ f), refl)), sym (if-false _ _ d) ∙ sym (if-true _ _ f))
 
 -- ---- a datagram taken in place
 

@@ -219,10 +219,13 @@ pub fn send(w: &mut [u64; 59], epoch: u16, content_type: u8, content: &[u8], que
     ensures { λ r. ⌜ SendCall r (now (w .exit)) (now (w .entry)) epoch «content_type» (now (content .entry)) (now (queue .exit)) (now (queue .entry)) ⌝ }
 {
     if send_words::is_flat(w) {
-        let s = send_words::load(w);
-        let k = s.send(epoch, content_type, content, queue);
-        let a = k.answer;
-        send_words::save_sent(w, k.state);
+        let v = send_steps::send_answer(w, queue.len(), epoch, content_type, content.len());
+        let a = v.answer;
+        let p = v.place;
+        if outgoing::is_done(a) {
+            send_steps::lay(w, p, epoch, content_type, content, queue);
+            return answer_of(a);
+        }
         return answer_of(a);
     }
     12

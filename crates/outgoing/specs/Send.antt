@@ -10,8 +10,10 @@ use borrow.Author.Tests.{leb-true, leb-false}
 use Rattle.base.specs.Choose.{choose, either, by-test, both-right}
 use Rattle.base.specs.Parts.{splice}
 use Rattle.queue.specs.declared.Place.{Place}
+use Rattle.queue.specs.declared.Queue.{Queue}
 use Rattle.queue.specs.Queue.{isReady, slotOf, tailOf, placeOf, laid, startOf, Ready, Fits, ready, placed}
 use Rattle.queue.specs.Laid.{recordLen, recordBytes, len-over}
+use Rattle.send_keys.specs.declared.SendKeys.{SendKeys}
 use Rattle.send_keys.specs.Keys.{isUsable, isKeyed, nextOf, used}
 use Rattle.outgoing.specs.declared.Waiting.{Waiting}
 use Rattle.outgoing.specs.declared.Sending.{Sending}
@@ -19,6 +21,9 @@ use Rattle.outgoing.specs.declared.SendAnswer.{SendAnswer}
 use Rattle.outgoing.specs.declared.SendAnswer.the-variants.{Done, OutOfRange, BadEpoch, BadRecord, KeysAbsent, QueueFull, NumbersSpent}
 use Rattle.outgoing.specs.declared.Sent.{Sent}
 use Rattle.outgoing.specs.State.{isDone, isAllowed}
+
+abbrev pub sendingOf : Queue → Waiting → SendKeys → ℕ → Sending
+sendingOf q w k m = record { queue = q; waiting = w; keys = k; «message_seq» = m }
 
 -- where a record with a content of n bytes goes
 abbrev pub spotOf : Sending → ℕ → ℕ → Place
@@ -79,6 +84,20 @@ sendMemory a s e t x q = choose (isDone a) (laidMemory s e t x q) q
 
 -- ---- what the tests tell
 
+-- the queue has a place for a record
+pub record Open (q : Queue) (room e n : ℕ) : Type 0 where
+  pub ready : Ready q room
+  pub fits : recordLen e n ≤ q .mtu
+  pub datagram : placeOf (q .mtu) (tailOf q) (recordLen e n) .datagram < q .limit
+
+module _ {q : Queue} {room e n : ℕ} (o : Open q room e n) where
+  pub open-short : n ≤ 1500
+  open-short = omega (arith, len-over e n, o .fits, o .ready .range .high)
+
+  -- the record then lies in a slot
+  pub open-fits : Fits q (placeOf (q .mtu) (tailOf q) (recordLen e n)) (recordLen e n)
+  open-fits = record { datagram = o .datagram; inside = placed (q .mtu) (tailOf q) (recordLen e n) (o .fits) .0 }
+
 -- a record can be laid
 pub record Clear (s : Sending) (room e n : ℕ) : Type 0 where
   pub ready : Ready (s .queue) room
@@ -112,10 +131,11 @@ send-clear s room e t n =
     (λ u z. absurd (false≢true z)))
     (λ r z. absurd (false≢true z))
 
-pub clear-short : {s : Sending} {room e n : ℕ} → Clear s room e n → n ≤ 1500
-clear-short {s} {room} {e} {n} c = omega (arith, len-over e n, c .fits, c .ready .range .high)
+pub clear-open : {s : Sending} {room e n : ℕ} → Clear s room e n → Open (s .queue) room e n
+clear-open c = record { ready = c .ready; fits = c .fits; datagram = c .datagram }
 
--- the record then lies in a slot
+pub clear-short : {s : Sending} {room e n : ℕ} → Clear s room e n → n ≤ 1500
+clear-short c = open-short (clear-open c)
+
 pub clear-fits : {s : Sending} {room e n : ℕ} → Clear s room e n → Fits (s .queue) (spotOf s e n) (recordLen e n)
-clear-fits {s} {room} {e} {n} c =
-    record { datagram = c .datagram; inside = placed (s .queue .mtu) (tailOf (s .queue)) (recordLen e n) (c .fits) .0 }
+clear-fits c = open-fits (clear-open c)

@@ -1,11 +1,15 @@
 // The sending side of an endpoint, after engine.rs: numbers, queue, packing; one record sent, wholly or not at all.
 ghost use mathlib.Core.Path.{_≡_};
-ghost use Prim.Native.Nat.{_≤_, _<_};
+ghost use Prim.Native.Nat.{ℕ, _≤_, _<_};
+ghost use lib.Dec.{leb};
 ghost use lib.ListN.{length};
-ghost use Rattle.queue.specs.Queue.{InRange, Ready};
+ghost use Rattle.queue.specs.Queue.{tailOf, placeOf, InRange, Ready};
+ghost use Rattle.queue.specs.Laid.{recordLen};
+ghost use Rattle.send_keys.specs.declared.SendKeys.{SendKeys};
+ghost use Rattle.send_keys.specs.Keys.{nextOf};
 ghost use Rattle.record.specs.Record.{isType};
 ghost use Rattle.outgoing.specs.State.{noWaiting, freshSending, started, isContentType, isAllowed, isDone, isKeyedNow, keyingState};
-ghost use Rattle.outgoing.specs.Send.{spotOf, isFull, isSpent, waitsBehind, laidState, laidMemory, sendAnswer, sendState, sendMemory, Clear};
+ghost use Rattle.outgoing.specs.Send.{sendingOf, waitsBehind, laidState, laidMemory, sendAnswer, sendState, sendMemory, Open, Clear};
 use queue::Place;
 use queue::Queue;
 use send_keys::KeyAnswer;
@@ -47,6 +51,12 @@ pub enum SendAnswer {
 pub struct Sent {
     pub answer: SendAnswer,
     pub state: Sending,
+}
+
+// What a record laid changes besides the numbers.
+pub struct Laying {
+    pub queue: Queue,
+    pub waiting: Waiting,
 }
 
 pub struct Keying {
@@ -139,22 +149,21 @@ pub fn is_allowed(mtu: usize, epoch: u16, t: u8, n: usize) -> bool
 }
 
 // Where a record with a content of n bytes goes.
-pub fn spot_of(s: Sending, epoch: u16, n: usize) -> Place
-    requires { ⌜ InRange (s .queue) × (n ≤ 16384) ⌝ }
-    ensures { λ r. ⌜ r ≡ spotOf s epoch n ⌝ }
+fn spot_of(q: Queue, epoch: u16, n: usize) -> Place
+    requires { ⌜ InRange q × (n ≤ 16384) ⌝ }
+    ensures { λ r. ⌜ r ≡ placeOf (q .mtu) (tailOf q) (recordLen epoch n) ⌝ }
 {
-    let q = s.queue;
     let t = queue::tail_of(q);
     let len = queue::record_len(epoch, n);
     queue::place_of(q.mtu, t, len)
 }
 
-pub fn is_full(s: Sending, epoch: u16, n: usize) -> bool
-    requires { ⌜ InRange (s .queue) × (n ≤ 16384) ⌝ }
-    ensures { λ r. ⌜ r ≡ isFull s epoch n ⌝ }
+// Whether a record with a content of n bytes needs a datagram beyond the limit.
+pub fn is_full(q: Queue, epoch: u16, n: usize) -> bool
+    requires { ⌜ InRange q × (n ≤ 16384) ⌝ }
+    ensures { λ r. ⌜ r ≡ leb (q .limit) (placeOf (q .mtu) (tailOf q) (recordLen epoch n) .datagram) ⌝ }
 {
-    let q = s.queue;
-    let p = spot_of(s, epoch, n);
+    let p = spot_of(q, epoch, n);
     q.limit <= p.datagram
 }
 
@@ -176,7 +185,7 @@ fn send_answer(s: Sending, room: usize, epoch: u16, t: u8, n: usize) -> SendAnsw
     if !send_keys::is_keyed(k, epoch) {
         return SendAnswer::KeysAbsent;
     }
-    if is_full(s, epoch, n) {
+    if is_full(q, epoch, n) {
         return SendAnswer::QueueFull;
     }
     if 281474976710655 <= send_keys::next_of(k, epoch) {
@@ -186,26 +195,46 @@ fn send_answer(s: Sending, room: usize, epoch: u16, t: u8, n: usize) -> SendAnsw
 }
 
 // The oldest sealing that waits behind a send.
-fn waits_behind(s: Sending, epoch: u16, n: usize, p: Place) -> Waiting
-    requires { ⌜ InRange (s .queue) × (p .datagram < s .queue .limit) × (n ≤ 1500) ⌝ }
-    ensures { λ r. ⌜ r ≡ waitsBehind s epoch n p ⌝ }
+fn waits_behind(q: Queue, w: Waiting, epoch: u16, number: u64, n: usize, p: Place) -> Waiting
+    requires { ⌜ InRange q × (p .datagram < q .limit) × (n ≤ 1500) ⌝ }
+    ensures { λ r. ⌜ ((k : SendKeys) (m : ℕ) → nextOf k epoch ≡ number → r ≡ waitsBehind (sendingOf q w k m) epoch n p) ⌝ }
 {
-    let w = s.waiting;
     if w.any {
         return w;
     }
     if epoch == 0 {
         return w;
     }
-    let q = s.queue;
-    let k = s.keys;
     Waiting {
         any: true,
         slot: queue::slot_of(q.first, q.limit, p.datagram),
         start: p.offset,
         length: n + 17,
         epoch: epoch,
-        number: send_keys::next_of(k, epoch),
+        number: number,
+    }
+}
+
+// A record laid under the next number of its epoch, to which no refusal applies: the queue and the oldest sealing behind it.
+pub fn lay_numbered(
+    q: Queue,
+    w: Waiting,
+    d: &mut [u8],
+    epoch: u16,
+    number: u64,
+    t: u8,
+    content: &[u8],
+) -> Laying
+    requires { ⌜ Open q (length (now d)) epoch (length (now content)) ⌝ }
+    ensures { λ r. ⌜ ((k : SendKeys) (m : ℕ) → nextOf k epoch ≡ number → (r .queue ≡ laidState (sendingOf q w k m) epoch (length (now (content .entry))) .queue) × (r .waiting ≡ laidState (sendingOf q w k m) epoch (length (now (content .entry))) .waiting) × (now (d .exit) ≡ laidMemory (sendingOf q w k m) epoch t (now (content .entry)) (now (d .entry)))) ⌝ }
+{
+    let n = content.len();
+    let p = spot_of(q, epoch, n);
+    let v = waits_behind(q, w, epoch, number, n, p);
+    let r = queue::lay(q, d, p, epoch, t, number, content);
+    Laying {
+        queue: r,
+        waiting: v,
     }
 }
 
@@ -214,19 +243,11 @@ pub fn lay(s: Sending, d: &mut [u8], epoch: u16, t: u8, content: &[u8]) -> Sendi
     requires { ⌜ Clear s (length (now d)) epoch (length (now content)) ⌝ }
     ensures { λ r. ⌜ (r ≡ laidState s epoch (length (now (content .entry)))) × (now (d .exit) ≡ laidMemory s epoch t (now (content .entry)) (now (d .entry))) ⌝ }
 {
-    let n = content.len();
     let k = s.keys;
-    let p = spot_of(s, epoch, n);
-    let q = queue::lay(
-        s.queue,
-        d,
-        p,
-        epoch,
-        t,
-        send_keys::next_of(k, epoch),
-        content,
-    );
-    let w = waits_behind(s, epoch, n, p);
+    let number = send_keys::next_of(k, epoch);
+    let r = lay_numbered(s.queue, s.waiting, d, epoch, number, t, content);
+    let q = r.queue;
+    let w = r.waiting;
     Sending {
         queue: q,
         waiting: w,

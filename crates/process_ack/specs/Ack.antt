@@ -1,20 +1,23 @@
 -- Acting on an ACK (01, "Flights acknowledged or sent again"): its form, the records that it names, and the flight that is done. Assumes nothing.
 use mathlib.Core.Bool.{Bool, true, false, false≢true}
 use mathlib.Core.List.{List}
-use mathlib.Core.Path.{_≡_, refl, ap, _∙_}
+use mathlib.Core.Logic.{⊎-elim}
+use mathlib.Core.Path.{_≡_, refl, sym, ap, _∙_}
 use Prim.Native.Nat.{ℕ, zero, suc, _+_, _-_, _*_, _/_, _%_, _≤_, _<_, min}
 use native.Mathlib.Numerals.{add-one}
 use native.Mathlib.Omega.{arith}
 use lib.Dec.{ltb, leb, eqb}
 use lib.ListN.{length, getD, set}
+use lib.Seq.{getD-set-other}
 use Rattle.base.specs.Bytes.{beAt}
-use Rattle.base.specs.Choose.{choose, both, by-less}
+use Rattle.base.specs.Choose.{choose, both, if-true, by-test, by-less, eq-or-ne}
 use Rattle.outgoing.specs.declared.SendAnswer.the-variants.{Done, OutOfRange}
 use Rattle.flight.specs.declared.Entry.{Entry}
 use Rattle.flight.specs.declared.Flight.{Flight}
-use Rattle.flight.specs.Flight.{entryAt, withSaved}
+use Rattle.flight.specs.Flight.{noEntry, entryAt, withSaved, whole}
 use Rattle.process_ack.specs.declared.Tally.{Tally}
 use Rattle.process_ack.specs.declared.Acked.{Acked}
+use Rattle.process_ack.specs.declared.AckedRecords.{AckedRecords}
 
 -- "under 2 bytes, a false length, or a length not a multiple of 16 marks nothing"
 unfoldable pub isFormed : List ℕ → Bool
@@ -74,12 +77,24 @@ acked f d =
     choose (ltb 12 (f .saved)) (record { answer = OutOfRange; flight = f })
     (record { answer = Done; flight = choose (isFormed d) (emptied (marksAfter d (pairsIn d) f (f .saved))) f })
 
+-- the records left, with their table of numbers
+abbrev pub ackedWhole : AckedRecords → List ℕ → Acked
+ackedWhole r n = record { answer = r .answer; flight = whole (r .records) n }
+
 -- ---- laws
 
 module _ (d : List ℕ) where
   pub named-next : (e number n : ℕ) → isNamed d e number (n + 1) ≡ choose (isPair d n e number) true (isNamed d e number n)
   unfolding isNamed
   named-next e number n = rw add-one
+
+  -- one of the pairs is enough
+  pub named-at : (e number i n : ℕ) → i < n → isPair d i e number ≡ true → isNamed d e number n ≡ true
+  unfolding isNamed
+  named-at e number i zero h p = absurd (omega arith)
+  named-at e number i (suc n) h p =
+      ⊎-elim (λ (z : i ≡ n). if-true _ _ (ap (λ (j : ℕ). isPair d j e number) (sym z) ∙ p))
+      (λ z. by-test (λ (b : Bool). b ≡ true) (λ q. refl) (λ q. named-at e number i n (omega arith) p)) (eq-or-ne i n)
 
   pub remembered-next : (n : ℕ) (numbers : List ℕ) (i e k : ℕ)
       → isRemembered d n numbers i e (k + 1) ≡ choose (isNamed d e (getD numbers (i * 32 + k) 0) n) true (isRemembered d n numbers i e k)
@@ -89,6 +104,14 @@ module _ (d : List ℕ) where
   pub marks-next : (n : ℕ) (f : Flight) (k : ℕ) → marksAfter d n f (k + 1) ≡ markAt (marksAfter d n f k) k (isAcked d n (f .numbers) k (entryAt f k))
   unfolding marksAfter
   marks-next n f k = rw add-one
+
+-- those from k on are as they were
+pub later-same : (d : List ℕ) (n : ℕ) (f : Flight) (k i : ℕ) → k ≤ i → entryAt (marksAfter d n f k) i ≡ entryAt f i
+unfolding marksAfter markAt
+later-same d n f zero i h = refl
+later-same d n f (suc k) i h =
+    getD-set-other (marksAfter d n f k .entries) k i (withMark (entryAt (marksAfter d n f k) k) (isAcked d n (f .numbers) k (entryAt f k))) noEntry (λ z. omega arith)
+    ∙ later-same d n f k i (omega arith)
 
 pub tally-next : (f : Flight) (k : ℕ) → tallyAfter f (k + 1) ≡ tallyWith (tallyAfter f k) (entryAt f k)
 unfolding tallyAfter

@@ -1,13 +1,14 @@
 // Acting on an ACK, after `process_ack` of engine.rs: which saved records it acknowledges, and whether the flight is then done.
 ghost use mathlib.Core.Path.{_≡_};
-ghost use mathlib.Core.Bool.{true};
-ghost use Prim.Native.Nat.{_+_, _*_, _≤_, _<_, min};
-ghost use lib.ListN.{length, getD};
+ghost use Prim.Native.Nat.{ℕ, _+_, _*_, _≤_, _<_, min};
+ghost use lib.ListN.{length};
+ghost use mathlib.Core.List.{List};
 ghost use Rattle.base.specs.Bytes.{beAt};
-ghost use Rattle.base.specs.Choose.{choose};
-ghost use Rattle.process_ack.specs.Ack.{isFormed, pairsIn, isPair, isNamed, isRemembered, isAcked, markAt, marksAfter, tallyWith, tallyAfter, emptied, acked};
+ghost use Rattle.flight.specs.Flight.{whole};
+ghost use Rattle.process_ack.specs.Ack.{isFormed, pairsIn, isPair, isNamed, isRemembered, isAcked, marksAfter, tallyWith, tallyAfter, emptied, ackedWhole, acked};
 use flight::Entry;
 use flight::Flight;
+use flight::SavedRecords;
 use outgoing::SendAnswer;
 
 // Whether records of epoch 2 are saved, and whether one of them is not acknowledged.
@@ -19,6 +20,12 @@ pub struct Tally {
 pub struct Acked {
     pub answer: SendAnswer,
     pub flight: Flight,
+}
+
+// The same without the table of numbers, which stays as it is.
+pub struct AckedRecords {
+    pub answer: SendAnswer,
+    pub records: SavedRecords,
 }
 
 // The number that eight bytes make, from place i on.
@@ -57,51 +64,35 @@ fn is_pair(d: &[u8], i: usize, epoch: u64, number: u64) -> bool
     false
 }
 
-fn either(a: bool, b: bool) -> bool
-    ensures { λ r. ⌜ r ≡ choose a true b ⌝ }
-{
-    if a {
-        return true;
-    }
-    b
-}
-
 // Whether one of the first n pairs has this epoch and number.
 fn is_named(d: &[u8], n: usize, epoch: u64, number: u64) -> bool
     requires { ⌜ 2 + n * 16 ≤ length (now d) ⌝ }
     ensures { λ r. ⌜ r ≡ isNamed (now (d .entry)) epoch number n ⌝ }
 {
-    let mut named = false;
     let mut i = 0;
     while i < n {
-        named = either(is_pair(d, i, epoch, number), named);
+        if is_pair(d, i, epoch, number) {
+            return true;
+        }
         i += 1;
     }
-    named
-}
-
-// A cell of the table of numbers; 0 beyond its end.
-fn cell(numbers: &[u64], i: usize) -> u64
-    ensures { λ r. ⌜ r ≡ getD (now (numbers .entry)) i 0 ⌝ }
-{
-    if i < numbers.len() {
-        return numbers[i];
-    }
-    0
+    false
 }
 
 // Whether one of the first k numbers that the i-th saved record remembers is named.
-fn is_remembered(d: &[u8], n: usize, numbers: &[u64], i: usize, epoch: u64, k: usize) -> bool
+fn is_remembered(d: &[u8], n: usize, numbers: &[u64; 384], i: usize, epoch: u64, k: usize) -> bool
     requires { ⌜ (2 + n * 16 ≤ length (now d)) × (i < 12) × (k ≤ 32) ⌝ }
     ensures { λ r. ⌜ r ≡ isRemembered (now (d .entry)) n (now (numbers .entry)) i epoch k ⌝ }
 {
-    let mut named = false;
-    let mut j = 0;
-    while j < k {
-        named = either(is_named(d, n, epoch, cell(numbers, i * 32 + j)), named);
-        j += 1;
+    let mut j = k;
+    while 0 < j {
+        j -= 1;
+        let at = i * 32 + j;
+        if is_named(d, n, epoch, numbers[at]) {
+            return true;
+        }
     }
-    named
+    false
 }
 
 fn lesser(a: usize, b: usize) -> usize
@@ -114,7 +105,7 @@ fn lesser(a: usize, b: usize) -> usize
 }
 
 // Whether the i-th saved record is acknowledged: it was, or a pair has its epoch and one of its numbers.
-fn is_acked(d: &[u8], n: usize, numbers: &[u64], i: usize, e: Entry) -> bool
+fn is_acked(d: &[u8], n: usize, numbers: &[u64; 384], i: usize, e: Entry) -> bool
     requires { ⌜ (2 + n * 16 ≤ length (now d)) × (i < 12) ⌝ }
     ensures { λ r. ⌜ r ≡ isAcked (now (d .entry)) n (now (numbers .entry)) i e ⌝ }
 {
@@ -127,31 +118,22 @@ fn is_acked(d: &[u8], n: usize, numbers: &[u64], i: usize, e: Entry) -> bool
     is_remembered(d, n, numbers, i, e.epoch as u64, lesser(e.remembered, 32))
 }
 
-fn mark_at(f: Flight, i: usize, marked: bool) -> Flight
-    requires { ⌜ i < 12 ⌝ }
-    ensures { λ r. ⌜ r ≡ markAt f i marked ⌝ }
-{
-    let mut e = f.entries[i];
-    e.marked = marked;
-    let mut t = f;
-    t.entries[i] = e;
-    t
-}
-
 // The saved records that the first n pairs acknowledge are marked.
-fn mark_all(f: Flight, d: &[u8], n: usize) -> Flight
-    requires { ⌜ (2 + n * 16 ≤ length (now d)) × (f .saved ≤ 12) ⌝ }
-    ensures { λ r. ⌜ r ≡ marksAfter (now (d .entry)) n f (f .saved) ⌝ }
+fn mark_all(g: SavedRecords, numbers: &[u64; 384], d: &[u8], n: usize) -> SavedRecords
+    requires { ⌜ (2 + n * 16 ≤ length (now d)) × (g .saved ≤ 12) ⌝ }
+    ensures { λ r. ⌜ whole r (now (numbers .entry)) ≡ marksAfter (now (d .entry)) n (whole g (now (numbers .entry))) (g .saved) ⌝ }
 {
-    let numbers = f.numbers;
-    let mut g = f;
+    let saved = g.saved;
+    let mut h = g;
     let mut i = 0;
-    while i < f.saved {
-        let marked = is_acked(d, n, &numbers, i, f.entries[i]);
-        g = mark_at(g, i, marked);
+    while i < saved {
+        let mut e = h.entries[i];
+        let marked = is_acked(d, n, numbers, i, e);
+        e.marked = marked;
+        h.entries[i] = e;
         i += 1;
     }
-    g
+    h
 }
 
 // One saved record more.
@@ -174,58 +156,82 @@ fn tallied(t: Tally, e: Entry) -> Tally
 }
 
 // The records of epoch 2 among those saved.
-fn tally_of(f: Flight) -> Tally
-    requires { ⌜ f .saved ≤ 12 ⌝ }
-    ensures { λ r. ⌜ r ≡ tallyAfter f (f .saved) ⌝ }
+fn tally_of(g: SavedRecords) -> Tally
+    requires { ⌜ g .saved ≤ 12 ⌝ }
+    ensures { λ r. ⌜ ((numbers : List ℕ) → r ≡ tallyAfter (whole g numbers) (g .saved)) ⌝ }
 {
     let mut t = Tally {
         any: false,
         unmarked: false,
     };
     let mut i = 0;
-    while i < f.saved {
-        t = tallied(t, f.entries[i]);
+    while i < g.saved {
+        t = tallied(t, g.entries[i]);
         i += 1;
     }
     t
 }
 
 // The flight empties if records of epoch 2 are saved and all of them are marked.
-fn empty(f: Flight) -> Flight
-    requires { ⌜ f .saved ≤ 12 ⌝ }
-    ensures { λ r. ⌜ r ≡ emptied f ⌝ }
+fn empty(g: SavedRecords) -> SavedRecords
+    requires { ⌜ g .saved ≤ 12 ⌝ }
+    ensures { λ r. ⌜ ((numbers : List ℕ) → whole r numbers ≡ emptied (whole g numbers)) ⌝ }
 {
-    let t = tally_of(f);
+    let t = tally_of(g);
     if t.any {
         if t.unmarked {
-            return f;
+            return g;
         }
-        let mut g = f;
-        g.saved = 0;
-        return g;
+        let mut h = g;
+        h.saved = 0;
+        return h;
     }
-    f
+    g
 }
 
 // Acts on the content of an ACK. One without its form marks nothing and is not refused.
-pub fn process_ack(f: Flight, content: &[u8]) -> Acked
-    ensures { λ r. ⌜ r ≡ acked f (now (content .entry)) ⌝ }
+pub fn ack_records(g: SavedRecords, numbers: &[u64; 384], content: &[u8]) -> AckedRecords
+    ensures { λ r. ⌜ ackedWhole r (now (numbers .entry)) ≡ acked (whole g (now (numbers .entry))) (now (content .entry)) ⌝ }
 {
-    if 12 < f.saved {
-        return Acked {
+    if 12 < g.saved {
+        return AckedRecords {
             answer: SendAnswer::OutOfRange,
-            flight: f,
+            records: g,
         };
     }
     if is_formed(content) {
         let n = (content.len() - 2) / 16;
-        return Acked {
+        return AckedRecords {
             answer: SendAnswer::Done,
-            flight: empty(mark_all(f, content, n)),
+            records: empty(mark_all(g, numbers, content, n)),
         };
     }
-    Acked {
+    AckedRecords {
         answer: SendAnswer::Done,
-        flight: f,
+        records: g,
+    }
+}
+
+// The same on a flight with its table.
+pub fn process_ack(f: Flight, content: &[u8]) -> Acked
+    ensures { λ r. ⌜ r ≡ acked f (now (content .entry)) ⌝ }
+{
+    let entries = f.entries;
+    let numbers = f.numbers;
+    let g = SavedRecords {
+        entries: entries,
+        saved: f.saved,
+    };
+    let r = ack_records(g, &numbers, content);
+    let a = r.answer;
+    let h = r.records;
+    let marked = h.entries;
+    Acked {
+        answer: a,
+        flight: Flight {
+            entries: marked,
+            saved: h.saved,
+            numbers: numbers,
+        },
     }
 }

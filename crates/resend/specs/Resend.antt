@@ -7,8 +7,9 @@ use native.Mathlib.Numerals.{add-one}
 use native.Mathlib.Omega.{arith}
 use lib.Dec.{ltb}
 use lib.ListN.{length, set}
+use lib.Seq.{set-getD}
 use borrow.Author.Tests.{ltb-true}
-use Rattle.base.specs.Choose.{choose, both, by-test, both-right}
+use Rattle.base.specs.Choose.{choose, both, if-false, by-test, test-cases, both-right}
 use Rattle.base.specs.Parts.{part}
 use Rattle.queue.specs.Queue.{InRange}
 use Rattle.send_keys.specs.Keys.{nextOf}
@@ -19,9 +20,10 @@ use Rattle.outgoing.specs.Send.{sendAnswer, sendState, sendMemory}
 use Rattle.outgoing.specs.Laws.{send-range}
 use Rattle.flight.specs.declared.Entry.{Entry}
 use Rattle.flight.specs.declared.Flight.{Flight}
-use Rattle.flight.specs.Flight.{entryAt}
-use Rattle.resend.specs.declared.Again.{Again}
+use Rattle.flight.specs.declared.SavedRecords.{SavedRecords}
+use Rattle.flight.specs.Flight.{noEntry, entryAt, whole}
 use Rattle.resend.specs.declared.Resent.{Resent}
+use Rattle.resend.specs.declared.ResentRecords.{ResentRecords}
 use Rattle.resend.specs.declared.ResendAnswer.{ResendAnswer}
 use Rattle.resend.specs.Tests.{isDone, remembers, closedState}
 
@@ -47,14 +49,31 @@ renewed f i number =
 unfoldable pub renewedIf : SendAnswer → Flight → ℕ → ℕ → Flight
 renewedIf a f i number = choose (isSent a) (renewed f i number) f
 
+-- the entry and the table of a record under its new number
+unfoldable pub newEntry : Entry → ℕ → Entry
+newEntry e number = choose (canRemember e) (withNumber e number (e .remembered + 1)) (withNumber e number (e .remembered))
+
+unfoldable pub newTable : Entry → ℕ → List ℕ → List ℕ
+newTable e i numbers = choose (canRemember e) (set numbers (i * 32 + e .remembered) (e .number)) numbers
+
+unfoldable pub sentEntry : SendAnswer → Entry → ℕ → Entry
+sentEntry a e number = choose (isSent a) (newEntry e number) e
+
+unfoldable pub sentTable : SendAnswer → Entry → ℕ → List ℕ → List ℕ
+sentTable a e i numbers = choose (isSent a) (newTable e i numbers) numbers
+
+-- saved records with another i-th
+abbrev pub withEntry : SavedRecords → ℕ → Entry → SavedRecords
+withEntry g i e = record { entries = set (g .entries) i e; saved = g .saved }
+
 -- state, flight and queue while records are sent again
 pub record Laying : Type 0 where
   pub state : Sending
   pub flight : Flight
   pub queue : List ℕ
 
-abbrev pub laying : Again → List ℕ → Laying
-laying r q = record { state = r .state; flight = r .flight; queue = q }
+abbrev pub laying : Sending → SavedRecords → List ℕ → List ℕ → Laying
+laying s g numbers q = record { state = s; flight = whole g numbers; queue = q }
 
 -- the content of the i-th saved record, at the start of its slot of MTU bytes
 abbrev pub contentAt : List ℕ → ℕ → Laying → List ℕ
@@ -92,7 +111,24 @@ resendState a s f kept q =
 unfoldable pub resendQueue : ResendAnswer → Sending → Flight → List ℕ → List ℕ → List ℕ
 resendQueue a s f kept q = choose (isDone a) (allAgain s f kept q .queue) q
 
+-- the records left, with their table of numbers
+abbrev pub resentWhole : ResentRecords → List ℕ → Resent
+resentWhole r n = record { answer = r .answer; state = r .state; flight = whole (r .records) n }
+
 -- ---- laws
+
+-- a record renewed, by entry and table
+pub renewed-parts : (g : SavedRecords) (n : List ℕ) (i number : ℕ)
+    → whole (withEntry g i (newEntry (entryAt (whole g n) i) number)) (newTable (entryAt (whole g n) i) i n) ≡ renewed (whole g n) i number
+unfolding newEntry newTable renewed choose
+renewed-parts g n i number = test-cases (canRemember (entryAt (whole g n) i)) (λ t. rw t) (λ t. rw t)
+
+pub sent-parts : (a : SendAnswer) (g : SavedRecords) (n : List ℕ) (i number : ℕ)
+    → whole (withEntry g i (sentEntry a (entryAt (whole g n) i) number)) (sentTable a (entryAt (whole g n) i) i n) ≡ renewedIf a (whole g n) i number
+unfolding sentEntry sentTable renewedIf choose
+sent-parts a g n i number =
+    test-cases (isSent a) (λ t. rw t (renewed-parts g n i number))
+    (λ t. rw t (ap (λ (l : List Entry). record { entries = l; saved = g .saved; numbers = n }) (set-getD (g .entries) i noEntry)))
 
 pub again-next : (kept : List ℕ) (l : Laying) (n : ℕ) → againAfter kept l (n + 1) ≡ againAt kept n (againAfter kept l n)
 unfolding againAfter
@@ -107,6 +143,20 @@ again-range kept i l r =
 
 pub laying-same : {a b : Laying} → a .state ≡ b .state → a .flight ≡ b .flight → a .queue ≡ b .queue → a ≡ b
 laying-same p q r = λ i. record { state = p i; flight = q i; queue = r i }
+
+-- a saved record that is not acknowledged, sent: state, entry, table and queue
+pub sent-again : (kept : List ℕ) (i : ℕ) (s : Sending) (g : SavedRecords) (n q : List ℕ) {t : Sending} {e : Entry} {m p : List ℕ}
+    → let l : Laying = laying s g n q in
+    let a : SendAnswer = againAnswer kept i l in
+    let o : Entry = entryAt (whole g n) i in
+    o .marked ≡ false → t ≡ sentAgain a kept i l .state → e ≡ sentEntry a o (nextOf (s .keys) (o .epoch)) → m ≡ sentTable a o i n
+    → p ≡ sentAgain a kept i l .queue → laying t (withEntry g i e) m p ≡ againAt kept i l
+unfolding againAt sentAgain
+sent-again kept i s g n q o x y z w =
+    laying-same x (both-same y z ∙ sent-parts (againAnswer kept i (laying s g n q)) g n i (nextOf (s .keys) (entryAt (whole g n) i .epoch))) w ∙ sym (if-false (laying s g n q) _ o)
+  where
+    both-same : {e v : Entry} {m p : List ℕ} → e ≡ v → m ≡ p → whole (withEntry g i e) m ≡ whole (withEntry g i v) p
+    both-same a b = λ j. whole (withEntry g i (a j)) (b j)
 
 pub can-few : (e : Entry) → canRemember e ≡ true → e .remembered < 32
 unfolding canRemember

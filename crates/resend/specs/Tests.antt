@@ -18,6 +18,8 @@ use Rattle.outgoing.specs.Send.{allowed-fits}
 use Rattle.flight.specs.declared.Entry.{Entry}
 use Rattle.flight.specs.declared.Flight.{Flight}
 use Rattle.flight.specs.Flight.{isKept, entryAt}
+use Rattle.resend.specs.declared.Passed.{Passed}
+use Rattle.resend.specs.declared.Survey.{Survey}
 use Rattle.resend.specs.declared.ResendAnswer.{ResendAnswer}
 use Rattle.resend.specs.declared.ResendAnswer.the-variants.{Done, OutOfRange, BadEpoch, BadRecord, KeysAbsent, HistoryFull, QueueFull, NumbersSpent}
 
@@ -64,6 +66,18 @@ unfoldable pub allPass : ℕ → SendKeys → ℕ → Flight → ℕ → Bool
 allPass test k mtu f zero = true
 allPass test k mtu f (suc n) = choose (passes test k mtu (entryAt f n)) (allPass test k mtu f n) false
 
+-- all four tests at once, a record more and of the first n
+unfoldable pub passedWith : Passed → SendKeys → ℕ → Entry → Passed
+passedWith p k mtu e = record {
+  usable = choose (passes 0 k mtu e) (p .usable) false;
+  allowed = choose (passes 1 k mtu e) (p .allowed) false;
+  keyed = choose (passes 2 k mtu e) (p .keyed) false;
+  room = choose (passes 3 k mtu e) (p .room) false;
+}
+
+unfoldable pub passedAfter : SendKeys → ℕ → Flight → ℕ → Passed
+passedAfter k mtu f n = record { usable = allPass 0 k mtu f n; allowed = allPass 1 k mtu f n; keyed = allPass 2 k mtu f n; room = allPass 3 k mtu f n }
+
 -- the queue's end with a saved record sent again
 unfoldable pub joined : ℕ → Tail → Entry → Tail
 joined mtu t e =
@@ -79,6 +93,18 @@ tailAfter mtu t f (suc n) = joined mtu (tailAfter mtu t f n) (entryAt f n)
 unfoldable pub countAfter : Flight → ℕ → ℕ → ℕ
 countAfter f epoch zero = 0
 countAfter f epoch (suc n) = countAfter f epoch n + choose (entryAt f n .marked) 0 (choose (eqb (entryAt f n .epoch) epoch) 1 0)
+
+-- both at once, a record more and of the first n
+unfoldable pub surveyedWith : Survey → ℕ → ℕ → Entry → Survey
+surveyedWith d mtu epoch e = record {
+  tail = joined mtu (d .tail) e;
+  plaintext = d .plaintext + choose (e .marked) 0 (choose (eqb (e .epoch) 0) 1 0);
+  handshake = d .handshake + choose (e .marked) 0 (choose (eqb (e .epoch) 2) 1 0);
+  application = d .application + choose (e .marked) 0 (choose (eqb (e .epoch) epoch) 1 0);
+}
+
+unfoldable pub surveyedAfter : ℕ → ℕ → Tail → Flight → ℕ → Survey
+surveyedAfter mtu epoch t f n = record { tail = tailAfter mtu t f n; plaintext = countAfter f 0 n; handshake = countAfter f 2 n; application = countAfter f epoch n }
 
 -- 20: "2^48 - 1 would be used"
 unfoldable pub isOver : ℕ → ℕ → Bool
@@ -130,11 +156,11 @@ pub record Joins (mtu : ℕ) (e : Entry) : Type 0 where
   pub fits : e .marked ≡ false → recordLen (e .epoch) (e .length) ≤ mtu
   pub short : e .marked ≡ false → e .length ≤ 16384
 
-module _ (test : ℕ) (k : SendKeys) (mtu : ℕ) (f : Flight) where
-  pub pass-next : (n : ℕ) → allPass test k mtu f (n + 1) ≡ choose (passes test k mtu (entryAt f n)) (allPass test k mtu f n) false
-  unfolding allPass
-  pass-next n = rw add-one
+pub passed-next : (k : SendKeys) (mtu : ℕ) (f : Flight) (n : ℕ) → passedAfter k mtu f (n + 1) ≡ passedWith (passedAfter k mtu f n) k mtu (entryAt f n)
+unfolding passedAfter passedWith allPass
+passed-next k mtu f n = rw add-one
 
+module _ (test : ℕ) (k : SendKeys) (mtu : ℕ) (f : Flight) where
   -- each of them passes if all do
   pub pass-at : (n i : ℕ) → allPass test k mtu f n ≡ true → i < n → passes test k mtu (entryAt f i) ≡ true
   unfolding allPass
@@ -165,6 +191,10 @@ tail-next mtu t f n = rw add-one
 pub count-next : (f : Flight) (epoch n : ℕ) → countAfter f epoch (n + 1) ≡ countAfter f epoch n + choose (entryAt f n .marked) 0 (choose (eqb (entryAt f n .epoch) epoch) 1 0)
 unfolding countAfter
 count-next f epoch n = rw add-one
+
+pub surveyed-next : (mtu epoch : ℕ) (t : Tail) (f : Flight) (n : ℕ) → surveyedAfter mtu epoch t f (n + 1) ≡ surveyedWith (surveyedAfter mtu epoch t f n) mtu epoch (entryAt f n)
+unfolding surveyedAfter surveyedWith tailAfter countAfter
+surveyed-next mtu epoch t f n = rw add-one
 
 -- one record more is at most one datagram more
 pub joined-tail : {mtu : ℕ} {t : Tail} {e : Entry} → mtu ≤ 1500 → Tailed t → Joins mtu e → Tailed (joined mtu t e) × (joined mtu t e .count ≤ t .count + 1)

@@ -19,7 +19,7 @@ ghost use Rattle.send_words.specs.Words.{
   putEpoch,
 };
 ghost use Rattle.send_words.specs.Laws.{Kept};
-ghost use Rattle.send_words.specs.Partly.{Partly, movedFrom, sentFrom};
+ghost use Rattle.send_words.specs.Partly.{Partly, movedFrom};
 use outgoing::Sending;
 use outgoing::Waiting;
 use queue::Queue;
@@ -33,7 +33,7 @@ fn count_of(w: &[u64]) -> usize
 }
 
 // How many words there are.
-fn sized(w: &[u64; 59]) -> usize
+pub fn sized(w: &[u64; 59]) -> usize
     ensures { λ _. ⌜ length (now (w .entry)) ≡ 59 ⌝ }
 {
     count_of(w)
@@ -214,7 +214,7 @@ fn put_queue(w: &mut [u64; 59], q: Queue)
     put_lengths(w, l);
 }
 
-fn put_waiting(w: &mut [u64; 59], x: Waiting)
+pub fn put_waiting(w: &mut [u64; 59], x: Waiting)
     ensures { λ _. ⌜ (now (w .exit) ≡ putWaiting x (now (w .entry))) × (x .epoch ≤ 65535) ⌝ }
 {
     let epoch = wide(x.epoch);
@@ -298,23 +298,4 @@ pub fn save_moved(w: &mut [u64; 59], s: Sending)
     w[3] = q.count as u64;
     w[14] = h.sealed;
     w[17] = a.sealed;
-}
-
-// What sending a record changes, written: count, closed and lengths, the sealing that waits, the next numbers.
-pub fn save_sent(w: &mut [u64; 59], s: Sending)
-    ensures { λ _. ⌜ Partly (sentFrom (stateOf (now (w .entry))) s) (now (w .entry)) (now (w .exit)) ⌝ }
-{
-    let q = s.queue;
-    let l = q.lengths;
-    let k = s.keys;
-    let h = k.handshake;
-    let a = k.application;
-    sized(w);
-    put_waiting(w, s.waiting);
-    put_lengths(w, l);
-    w[3] = q.count as u64;
-    w[4] = q.closed as u64;
-    w[11] = k.plaintext_next;
-    w[13] = h.next;
-    w[16] = a.next;
 }

@@ -1,27 +1,19 @@
 -- `flight::is_kept` meets its contract. Assumes nothing.
-use borrow.Author.Tests.{le-leb, lt-leb}
-use mathlib.Core.Path.{sym}
-use native.Mathlib.Omega.{arith}
-use Rattle.base.specs.Choose.{both-true, both-false}
+use mathlib.Core.Path.{sym, _∙_}
 use Rattle.flight.specs.Flight.{isKept}
 use Rattle.flight.proofs.is_kept.Statement.{statement}
 use Rattle.flight.proofs.is_kept.Tie as tie
 
-mul-result : tie.Need-mul-result
-mul-result c = omega (arith, c .before .before .pre)
+has-room-requires : tie.Need-has-room-requires
+has-room-requires c κs = c .pre
 
 returns : tie.Need-returns
 unfolding isKept
-returns c = sym (both-true (le-leb _ _ (c .if1 .taken)))
-
-returns-2 : tie.Need-returns-2
-unfolding isKept
-returns-2 c = sym (both-false _ (lt-leb _ _ (c .if1 .left)))
+returns c = c .has-room .ensures
 
 pub is-kept-spec : {M : Type 1} → statement M
 is-kept-spec =
     tie.close
     (tie.spec
-    mul-result
-    returns
-    returns-2)
+    has-room-requires
+    returns)

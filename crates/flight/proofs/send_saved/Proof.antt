@@ -1,49 +1,16 @@
--- `flight::send_saved` meets its contract: the content is saved, the record laid, or nothing done. Assumes nothing.
-use Prim.Native.Nat.{_+_, _-_, _*_}
+-- `flight::send_saved` meets its contract. Assumes nothing.
 use borrow.Author.Needs.{needs}
-use borrow.Rule.Slice.PartMut.{putMid}
-use lib.ListN.{length}
-use mathlib.Core.Path.{sym, ap, _∙_}
-use native.Mathlib.Omega.{arith}
-use Rattle.base.specs.Choose.{if-true, if-false}
-use Rattle.base.specs.Parts.{lent}
-use Rattle.flight.specs.Flight.{savedMemory}
-use Rattle.flight.specs.Save.{saveState, saveQueue, saveKept, save-safe, kept-fits}
 use Rattle.flight.proofs.send_saved.Statement.{statement}
 use Rattle.flight.proofs.send_saved.Tie as tie
 
-save-answer-requires : tie.Need-save-answer-requires
-save-answer-requires c κs = search needs
+records-of-requires : tie.Need-records-of-requires
+records-of-requires c κs = search needs
 
-is-done-requires : tie.Need-is-done-requires
-is-done-requires c κs = search needs
+send-record-requires : tie.Need-send-record-requires
+send-record-requires c κs = search needs
 
-next-of-requires : tie.Need-next-of-requires
-next-of-requires c κs = search needs
-
-mul-at : tie.Need-mul-at
-mul-at c = let f = kept-fits (save-safe (c .before .before .before .before .before .before .before .before .before .before .before .args .s) (c .before .before .before .before .before .before .before .before .before .before .before .args .f) (length (c .before .before .before .before .before .before .before .before .before .before .before .args .memory .now)) (length (c .before .before .before .before .before .before .before .before .before .before .before .args .kept .now)) (c .before .before .before .before .before .before .before .before .before .before .before .args .epoch) (c .before .before .before .before .before .before .before .before .before .before .before .args .content-type) (length (c .before .before .before .before .before .before .before .before .before .before .before .args .content .now)) (rw (c .before .before .before .before .before .before .before .save-answer .ensures) at (sym (c .before .before .before .before .before .before .is-done .ensures) ∙ c .before .before .before .before .before .if1 .taken)) .keeps) in omega arith
-
-add-end : tie.Need-add-end
-add-end c = let f = kept-fits (save-safe (c .before .before .before .before .before .before .before .before .before .before .before .args .s) (c .before .before .before .before .before .before .before .before .before .before .before .args .f) (length (c .before .before .before .before .before .before .before .before .before .before .before .args .memory .now)) (length (c .before .before .before .before .before .before .before .before .before .before .before .args .kept .now)) (c .before .before .before .before .before .before .before .before .before .before .before .args .epoch) (c .before .before .before .before .before .before .before .before .before .before .before .args .content-type) (length (c .before .before .before .before .before .before .before .before .before .before .before .args .content .now)) (rw (c .before .before .before .before .before .before .before .save-answer .ensures) at (sym (c .before .before .before .before .before .before .is-done .ensures) ∙ c .before .before .before .before .before .if1 .taken)) .keeps) in omega arith
-
-sub-copy : tie.Need-sub-copy
-sub-copy c = omega arith
-
-part-copy-start : tie.Need-part-copy-start
-part-copy-start c = omega arith
-
-part-copy-end : tie.Need-part-copy-end
-part-copy-end c = let f = kept-fits (save-safe (c .before .before .before .before .before .before .before .before .before .before .before .args .s) (c .before .before .before .before .before .before .before .before .before .before .before .args .f) (length (c .before .before .before .before .before .before .before .before .before .before .before .args .memory .now)) (length (c .before .before .before .before .before .before .before .before .before .before .before .args .kept .now)) (c .before .before .before .before .before .before .before .before .before .before .before .args .epoch) (c .before .before .before .before .before .before .before .before .before .before .before .args .content-type) (length (c .before .before .before .before .before .before .before .before .before .before .before .args .content .now)) (rw (c .before .before .before .before .before .before .before .save-answer .ensures) at (sym (c .before .before .before .before .before .before .is-done .ensures) ∙ c .before .before .before .before .before .if1 .taken)) .keeps) in omega arith
-
-copy-requires : tie.Need-copy-requires
-copy-requires c κs = search needs
-
-save-requires : tie.Need-save-requires
-save-requires c κs = save-safe (c .before .before .before .before .before .before .before .before .before .before .before .before .before .before .before .args .s) (c .before .before .before .before .before .before .before .before .before .before .before .before .before .before .before .args .f) (length (c .before .before .before .before .before .before .before .before .before .before .before .before .before .before .before .args .memory .now)) (length (c .before .before .before .before .before .before .before .before .before .before .before .before .before .before .before .args .kept .now)) (c .before .before .before .before .before .before .before .before .before .before .before .before .before .before .before .args .epoch) (c .before .before .before .before .before .before .before .before .before .before .before .before .before .before .before .args .content-type) (length (c .before .before .before .before .before .before .before .before .before .before .before .before .before .before .before .args .content .now)) (rw (c .before .before .before .before .before .before .before .before .before .before .before .save-answer .ensures) at (sym (c .before .before .before .before .before .before .before .before .before .before .is-done .ensures) ∙ c .before .before .before .before .before .before .before .before .before .if1 .taken)) .keeps .saved
-
-lay-requires : tie.Need-lay-requires
-lay-requires c κs = save-safe (c .before .before .before .before .before .before .before .before .before .before .before .before .before .before .before .before .before .args .s) (c .before .before .before .before .before .before .before .before .before .before .before .before .before .before .before .before .before .args .f) (length (c .before .before .before .before .before .before .before .before .before .before .before .before .before .before .before .before .before .args .memory .now)) (length (c .before .before .before .before .before .before .before .before .before .before .before .before .before .before .before .before .before .args .kept .now)) (c .before .before .before .before .before .before .before .before .before .before .before .before .before .before .before .before .before .args .epoch) (c .before .before .before .before .before .before .before .before .before .before .before .before .before .before .before .before .before .args .content-type) (length (c .before .before .before .before .before .before .before .before .before .before .before .before .before .before .before .before .before .args .content .now)) (rw (c .before .before .before .before .before .before .before .before .before .before .before .before .before .save-answer .ensures) at (sym (c .before .before .before .before .before .before .before .before .before .before .before .before .is-done .ensures) ∙ c .before .before .before .before .before .before .before .before .before .before .before .if1 .taken)) .clear
+with-table-requires : tie.Need-with-table-requires
+with-table-requires c κs = search needs
 
 same-length : tie.Need-same-length
 same-length c = search needs
@@ -52,29 +19,17 @@ same-length-2 : tie.Need-same-length-2
 same-length-2 c = search needs
 
 returns : tie.Need-returns
-unfolding saveState saveQueue saveKept savedMemory
-returns c = let a = c .before .before .before .before .before .before .before .before .before .before .before .before .before .before .before .before .before .before .before .before .args in let g = a .f .saved * a .s .queue .mtu in let n = length (a .content .now) in let d = sym (c .before .before .before .before .before .before .before .before .before .before .before .before .before .before .before .is-done .ensures) ∙ c .before .before .before .before .before .before .before .before .before .before .before .before .before .before .if1 .taken in (rw (← c .before .before .before .before .before .before .before .before .before .before .before .before .before .before .before .before .save-answer .ensures, c .before .before .lay .ensures .0, c .before .before .before .before .save .ensures, c .before .before .before .before .before .before .before .before .before .before .before .next-of .ensures, if-true _ _ d, if-true _ _ d), rw (← c .before .before .before .before .before .before .before .before .before .before .before .before .before .before .before .before .save-answer .ensures, if-true _ _ d) (c .before .before .lay .ensures .1), rw (← c .before .before .before .before .before .before .before .before .before .before .before .before .before .before .before .before .save-answer .ensures, if-true _ _ d) (ap (putMid g (g + n - g) (a .kept .now)) (c .before .before .before .before .before .before .before .copy .ensures) ∙ lent g (g + n) (a .kept .now) (a .content .now) (omega arith)))
-
-returns-2 : tie.Need-returns-2
-unfolding saveState saveQueue saveKept
-returns-2 c = let d = sym (c .before .is-done .ensures) ∙ c .if1 .left in (rw (← c .before .before .save-answer .ensures, if-false _ _ d, if-false _ _ d), rw (← c .before .before .save-answer .ensures, if-false _ _ d), rw (← c .before .before .save-answer .ensures, if-false _ _ d))
+returns c =
+    let e = c .before .before .before .before .before .before .before .send-record .ensures (c .before .before .before .before .before .before .before .before .before .before .before .before .before .before .args .f .numbers) in
+    (rw (c .with-table .ensures) (rw (c .before .before .before .before .before .before .before .before .before .before .records-of .ensures) at (e .0)), rw (c .before .before .before .before .before .before .before .before .before .before .records-of .ensures) at (e .1), rw (c .before .before .before .before .before .before .before .before .before .before .records-of .ensures) at (e .2))
 
 pub send-saved-spec : {M : Type 1} → statement M
 send-saved-spec =
     tie.close
     (tie.spec
-    save-answer-requires
-    is-done-requires
-    next-of-requires
-    mul-at
-    add-end
-    sub-copy
-    part-copy-start
-    part-copy-end
-    copy-requires
-    save-requires
-    lay-requires
+    records-of-requires
+    send-record-requires
+    with-table-requires
     same-length
     same-length-2
-    returns
-    returns-2)
+    returns)

@@ -2,6 +2,7 @@
 use borrow.Author.Needs.{needs}
 use mathlib.Core.Path.{_≡_, refl, sym, _∙_}
 use Rattle.base.specs.Choose.{if-true, if-false}
+use Rattle.process_ack.specs.Ack.{ackedWhole}
 use Rattle.link_acks.specs.Calls.{acts}
 use Rattle.link_acks.proofs.process_ack.Statement.{statement}
 use Rattle.link_acks.proofs.process_ack.Tie as tie
@@ -9,20 +10,22 @@ use Rattle.link_acks.proofs.process_ack.Tie as tie
 is-flat-requires : tie.Need-is-flat-requires
 is-flat-requires c κs = search needs
 
-load-requires : tie.Need-load-requires
-load-requires c κs = search needs
+load-records-requires : tie.Need-load-records-requires
+load-records-requires c κs = search needs
 
-process-ack-requires : tie.Need-process-ack-requires
-process-ack-requires c κs = search needs
+ack-records-requires : tie.Need-ack-records-requires
+ack-records-requires c κs = search needs
 
-save-requires : tie.Need-save-requires
-save-requires c κs = search needs
+save-records-requires : tie.Need-save-records-requires
+save-records-requires c κs = search needs
 
 answer-of-requires : tie.Need-answer-of-requires
 answer-of-requires c κs = search needs
 
 returns : tie.Need-returns
-returns c = acts _ _ _ _ _ _ _ (sym (c .before .before .before .before .before .before .before .before .before .before .is-flat .ensures) ∙ c .before .before .before .before .before .before .before .before .before .if1 .taken) (c .answer-of .ensures) (c .before .before .save .ensures) refl (rw (c .before .before .before .before .before .before .load .ensures) at (c .before .before .before .before .before .process-ack .ensures))
+returns c =
+    acts _ _ _ _ _ (ackedWhole (c .before .before .before .before .ack-records .result) (c .before .before .before .before .before .before .before .before .before .before .before .before .args .numbers .now)) _ (sym (c .before .before .before .before .before .before .before .before .before .is-flat .ensures) ∙ c .before .before .before .before .before .before .before .before .if1 .taken) (c .answer-of .ensures) (c .before .save-records .ensures (c .before .before .before .before .before .before .before .before .before .before .before .before .args .numbers .now)) refl
+    (rw (c .before .before .before .before .before .before .load-records .ensures) at (c .before .before .before .before .ack-records .ensures))
 
 returns-2 : tie.Need-returns-2
 returns-2 c = ((sym (if-false _ _ (sym (c .before .is-flat .ensures) ∙ c .if1 .left))), (sym (if-false _ _ (sym (c .before .is-flat .ensures) ∙ c .if1 .left))), refl)
@@ -32,9 +35,9 @@ process-ack-spec =
     tie.close
     (tie.spec
     is-flat-requires
-    load-requires
-    process-ack-requires
-    save-requires
+    load-records-requires
+    ack-records-requires
+    save-records-requires
     answer-of-requires
     returns
     returns-2)

@@ -1,25 +1,25 @@
 -- `link_sending::send` meets its contract. Assumes nothing.
-use Rattle.link_sending.specs.Calls.{after-sent, send-sents, flatTake}
 use borrow.Author.Needs.{needs}
-use mathlib.Core.Path.{_≡_, refl, sym, ap, _∙_}
-use Rattle.base.specs.Choose.{if-true, if-false, both-true, both-false}
-use Rattle.outgoing.specs.declared.Sent.{Sent}
-use Rattle.sealing.specs.Sealing as sealings
-use Rattle.outgoing.specs.State.{refusal}
+use lib.ListN.{length}
+use mathlib.Core.Path.{refl, sym, ap, _∙_}
+use Rattle.base.specs.Choose.{if-false}
+use Rattle.outgoing.specs.Send.{send-clear}
+use Rattle.send_words.specs.Words.{stateOf}
+use Rattle.link_sending.specs.Calls.{sends-laid, sends-nothing}
 use Rattle.link_sending.proofs.send.Statement.{statement}
 use Rattle.link_sending.proofs.send.Tie as tie
 
 is-flat-requires : tie.Need-is-flat-requires
 is-flat-requires c κs = search needs
 
-load-requires : tie.Need-load-requires
-load-requires c κs = search needs
+send-answer-requires : tie.Need-send-answer-requires
+send-answer-requires c κs = search needs
 
-send-requires : tie.Need-send-requires
-send-requires c κs = search needs
+is-done-requires : tie.Need-is-done-requires
+is-done-requires c κs = search needs
 
-save-sent-requires : tie.Need-save-sent-requires
-save-sent-requires c κs = search needs
+lay-requires : tie.Need-lay-requires
+lay-requires c κs = let a = c .before .before .before .before .before .before .before .before .before .before .before .before .args in let d = sym (c .before .before .before .is-done .ensures) ∙ c .before .before .if2 .taken in (send-clear (stateOf (a .w .now)) (length (a .queue .now)) (a .epoch) (a .content-type) (length (a .content .now)) (rw (c .before .before .before .before .before .send-answer .ensures .answer) at d), c .before .before .before .before .before .send-answer .ensures .place d)
 
 answer-of-requires : tie.Need-answer-of-requires
 answer-of-requires c κs = search needs
@@ -28,20 +28,28 @@ same-length : tie.Need-same-length
 same-length c = search needs
 
 returns : tie.Need-returns
-returns c = let e = rw (c .before .before .before .before .before .before .before .load .ensures) at (c .before .before .before .before .before .send .ensures .0) in ((c .answer-of .ensures ∙ ap (λ (x : Sent). refusal (x .answer)) e ∙ sym (if-true _ _ (sym (c .before .before .before .before .before .before .before .before .before .before .is-flat .ensures) ∙ c .before .before .before .before .before .before .before .before .before .if1 .taken)), after-sent _ _ _ _ (sym (c .before .before .before .before .before .before .before .before .before .before .is-flat .ensures) ∙ c .before .before .before .before .before .before .before .before .before .if1 .taken) (c .before .save-sent .ensures) (ap (λ (x : Sent). x .state) e) (send-sents _ _ _ _)), rw (c .before .before .before .before .before .before .before .load .ensures) at (c .before .before .before .before .before .send .ensures .1) ∙ sym (if-true _ _ (sym (c .before .before .before .before .before .before .before .before .before .before .is-flat .ensures) ∙ c .before .before .before .before .before .before .before .before .before .if1 .taken)))
+returns c = let a = c .before .before .before .before .before .before .before .before .before .before .before .before .before .before .before .before .args in rw (← c .before .before .before .before .before .before .before .before .before .send-answer .ensures .answer) (sends-laid (a .w .now) _ (a .epoch) (a .content-type) (a .content .now) (a .queue .now) (sym (c .before .before .before .before .before .before .before .before .before .before .before .before .is-flat .ensures) ∙ c .before .before .before .before .before .before .before .before .before .before .before .if1 .taken) (c .answer-of .ensures) _ _ (sym (c .before .before .before .before .before .before .before .is-done .ensures) ∙ c .before .before .before .before .before .before .if2 .taken) (c .before .before .before .lay .ensures .0) (c .before .before .before .lay .ensures .1))
+
+answer-of-requires-2 : tie.Need-answer-of-requires-2
+answer-of-requires-2 c κs = search needs
 
 returns-2 : tie.Need-returns-2
-returns-2 c = ((sym (if-false _ _ (sym (c .before .is-flat .ensures) ∙ c .if1 .left)), (sym (if-false _ _ (sym (c .before .is-flat .ensures) ∙ c .if1 .left)), refl)), sym (if-false _ _ (sym (c .before .is-flat .ensures) ∙ c .if1 .left)))
+returns-2 c = let a = c .before .before .before .before .before .before .before .before .before .before .before .args in rw (← c .before .before .before .before .send-answer .ensures .answer) (sends-nothing (a .w .now) _ (a .epoch) (a .content-type) (a .content .now) (a .queue .now) (sym (c .before .before .before .before .before .before .before .is-flat .ensures) ∙ c .before .before .before .before .before .before .if1 .taken) (c .answer-of2 .ensures) (sym (c .before .before .is-done .ensures) ∙ c .before .if2 .left))
+
+returns-3 : tie.Need-returns-3
+returns-3 c = ((sym (if-false _ _ (sym (c .before .is-flat .ensures) ∙ c .if1 .left)), (sym (if-false _ _ (sym (c .before .is-flat .ensures) ∙ c .if1 .left)), refl)), sym (if-false _ _ (sym (c .before .is-flat .ensures) ∙ c .if1 .left)))
 
 pub send-spec : {M : Type 1} → statement M
 send-spec =
     tie.close
     (tie.spec
     is-flat-requires
-    load-requires
-    send-requires
-    save-sent-requires
+    send-answer-requires
+    is-done-requires
+    lay-requires
     answer-of-requires
     same-length
     returns
-    returns-2)
+    answer-of-requires-2
+    returns-2
+    returns-3)

@@ -1,22 +1,15 @@
 -- `outgoing::lay` meets its contract. Assumes nothing.
 use borrow.Author.Needs.{needs}
-use mathlib.Core.Path.{_∙_}
-use native.Mathlib.Omega.{arith}
-use Rattle.outgoing.specs.Send.{laidState, laidMemory, clear-fits, clear-short}
+use mathlib.Core.Path.{sym, _∙_}
+use Rattle.outgoing.specs.Send.{laidState, clear-open}
 use Rattle.outgoing.proofs.lay.Statement.{statement}
 use Rattle.outgoing.proofs.lay.Tie as tie
-
-spot-of-requires : tie.Need-spot-of-requires
-spot-of-requires c κs = let g = clear-short (c .before .before .before .pre) in (c .before .before .before .pre .ready .range, omega arith)
 
 next-of-requires : tie.Need-next-of-requires
 next-of-requires c κs = search needs
 
-lay-requires : tie.Need-lay-requires
-lay-requires c κs = let r = c .before .before .before .before .before .before .pre in (r .ready, rw (c .before .before .spot-of .ensures) (clear-fits r), clear-short r)
-
-waits-behind-requires : tie.Need-waits-behind-requires
-waits-behind-requires c κs = let r = c .before .before .before .before .before .before .before .before .before .pre in (r .ready .range, rw (c .before .before .before .before .before .spot-of .ensures) (r .datagram), clear-short r)
+lay-numbered-requires : tie.Need-lay-numbered-requires
+lay-numbered-requires c κs = clear-open (c .before .before .before .before .before .pre)
 
 use-number-requires : tie.Need-use-number-requires
 use-number-requires c κs = c .before .before .before .before .before .before .before .before .before .before .pre .number
@@ -25,17 +18,11 @@ same-length : tie.Need-same-length
 same-length c = search needs
 
 returns : tie.Need-returns
-unfolding laidState laidMemory
-returns c = (rw (c .use-number .ensures, c .before .waits-behind .ensures, c .before .before .before .before .lay .ensures .0, c .before .before .before .before .before .before .before .spot-of .ensures), c .before .before .before .before .lay .ensures .1 ∙ rw (c .before .before .before .before .before .next-of .ensures, c .before .before .before .before .before .before .before .spot-of .ensures))
+unfolding laidState
+returns c =
+    let s = c .before .before .before .before .before .before .before .before .before .before .before .args .s in
+    let e = c .before .before .before .before .before .lay-numbered .ensures (s .keys) (s .«message_seq») (sym (c .before .before .before .before .before .before .before .next-of .ensures)) in
+    (rw (c .use-number .ensures, e .0, e .1), e .2)
 
 pub lay-spec : {M : Type 1} → statement M
-lay-spec =
-    tie.close
-    (tie.spec
-    spot-of-requires
-    next-of-requires
-    lay-requires
-    waits-behind-requires
-    use-number-requires
-    same-length
-    returns)
+lay-spec = tie.close (tie.spec next-of-requires lay-numbered-requires use-number-requires same-length returns)

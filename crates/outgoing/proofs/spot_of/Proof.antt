@@ -12,7 +12,7 @@ record-len-requires : tie.Need-record-len-requires
 record-len-requires c κs = search needs
 
 place-of-requires : tie.Need-place-of-requires
-place-of-requires c κs = (c .before .tail-of .ensures .1, let h = len-small (c .before .before .before .args .epoch) (c .before .before .before .args .n) in let e = c .record-len .ensures in omega arith)
+place-of-requires c κs = (c .before .tail-of .ensures .1, let h = len-small (c .before .before .args .epoch) (c .before .before .args .n) in let e = c .record-len .ensures in omega arith)
 
 returns : tie.Need-returns
 returns c = rw (c .before .record-len .ensures, c .before .before .tail-of .ensures .0) at (c .place-of .ensures)

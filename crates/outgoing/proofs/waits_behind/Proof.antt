@@ -9,25 +9,22 @@ use Rattle.outgoing.proofs.waits_behind.Tie as tie
 
 returns : tie.Need-returns
 unfolding waitsBehind
-returns c = sym (if-true _ _ (either-true _ (c .if1 .taken)))
+returns c k m e = sym (if-true _ _ (either-true _ (c .if1 .taken)))
 
 returns-2 : tie.Need-returns-2
 unfolding waitsBehind
-returns-2 c = sym (if-true _ _ (either-false (c .before .if1 .left) ∙ eq-eqb _ _ (c .if2 .taken)))
+returns-2 c k m e = sym (if-true _ _ (either-false (c .before .if1 .left) ∙ eq-eqb _ _ (c .if2 .taken)))
 
 slot-of-requires : tie.Need-slot-of-requires
 slot-of-requires c κs = search needs
 
-add-t10 : tie.Need-add-t10
-add-t10 c = search needs
-
-next-of-requires : tie.Need-next-of-requires
-next-of-requires c κs = search needs
+add-t9 : tie.Need-add-t9
+add-t9 c = search needs
 
 returns-3 : tie.Need-returns-3
 unfolding waitsBehind
-returns-3 c = rw (c .next-of .ensures, c .before .slot-of .ensures .0) (sym (if-false _ _ (either-false (c .before .before .before .before .before .if1 .left) ∙ ne-eqb _ _ (c .before .before .before .before .if2 .left))))
+returns-3 c k m e = rw (c .slot-of .ensures .0, ← e) (sym (if-false _ _ (either-false (c .before .before .if1 .left) ∙ ne-eqb _ _ (c .before .if2 .left))))
 
 pub waits-behind-spec : {M : Type 1} → statement M
 waits-behind-spec =
-    tie.close (tie.spec returns returns-2 slot-of-requires add-t10 next-of-requires returns-3)
+    tie.close (tie.spec returns returns-2 slot-of-requires add-t9 returns-3)

@@ -11,15 +11,15 @@ tally-of-requires c κs = search needs
 
 returns : tie.Need-returns
 unfolding emptied
-returns c = sym (if-true _ _ (ap (λ t. t .any) (sym (c .before .before .tally-of .ensures)) ∙ c .before .if1 .taken) ∙ if-true _ _ (ap (λ t. t .unmarked) (sym (c .before .before .tally-of .ensures)) ∙ c .if2 .taken))
+returns c numbers = sym (if-true _ _ (ap (λ t. t .any) (sym (c .before .before .tally-of .ensures numbers)) ∙ c .before .if1 .taken) ∙ if-true _ _ (ap (λ t. t .unmarked) (sym (c .before .before .tally-of .ensures numbers)) ∙ c .if2 .taken))
 
 returns-2 : tie.Need-returns-2
 unfolding emptied
-returns-2 c = sym (if-true _ _ (ap (λ t. t .any) (sym (c .before .before .tally-of .ensures)) ∙ c .before .if1 .taken) ∙ if-false _ _ (ap (λ t. t .unmarked) (sym (c .before .before .tally-of .ensures)) ∙ c .if2 .left))
+returns-2 c numbers = sym (if-true _ _ (ap (λ t. t .any) (sym (c .before .before .tally-of .ensures numbers)) ∙ c .before .if1 .taken) ∙ if-false _ _ (ap (λ t. t .unmarked) (sym (c .before .before .tally-of .ensures numbers)) ∙ c .if2 .left))
 
 returns-3 : tie.Need-returns-3
 unfolding emptied
-returns-3 c = sym (if-false _ _ (ap (λ t. t .any) (sym (c .before .tally-of .ensures)) ∙ c .if1 .left))
+returns-3 c numbers = sym (if-false _ _ (ap (λ t. t .any) (sym (c .before .tally-of .ensures numbers)) ∙ c .if1 .left))
 
 pub empty-spec : {M : Type 1} → statement M
 empty-spec = tie.close (tie.spec tally-of-requires returns returns-2 returns-3)

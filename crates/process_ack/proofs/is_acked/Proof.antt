@@ -28,7 +28,7 @@ lesser-requires : tie.Need-lesser-requires
 lesser-requires c κs = search needs
 
 is-remembered-requires : tie.Need-is-remembered-requires
-is-remembered-requires c κs = (c .before .before .before .before .before .before .before .before .pre .0, c .before .before .before .before .before .before .before .before .pre .1, omega (arith, c .lesser .ensures))
+is-remembered-requires c κs = (c .before .before .before .before .before .before .before .pre .0, c .before .before .before .before .before .before .before .pre .1, omega (arith, c .lesser .ensures))
 
 returns-3 : tie.Need-returns-3
 unfolding isAcked

@@ -1,49 +1,57 @@
--- `process_ack::is_remembered` meets its contract. The loop's invariant: named so far. Assumes nothing.
-use borrow.Author.Needs.{needs}
-use mathlib.Core.Path.{refl, sym, ap, _∙_}
+-- `process_ack::is_remembered` meets its contract. The loop's invariant: it depends on those that are left. Assumes nothing.
+use mathlib.Core.Path.{_≡_, refl, sym, ap, _∙_}
 use native.Mathlib.Omega.{arith}
+use Prim.Native.Nat.{_+_, _-_, _≤_}
+use Rattle.base.specs.Choose.{if-true, if-false}
 use Rattle.process_ack.specs.Ack.{isRemembered, remembered-next}
-use Prim.Native.Nat.{_-_, _≤_}
-use mathlib.Core.Path.{_≡_}
 use Rattle.process_ack.proofs.is_remembered.Statement.{statement}
 use Rattle.process_ack.proofs.is_remembered.Tie as tie
 
 abbrev Inv-loop : tie.InvT-loop
-Inv-loop d n numbers i epoch k named₀ j₀ named j = (j ≤ k) × (named ≡ isRemembered d n numbers i epoch j)
+Inv-loop d n numbers i epoch k j₀ j = (j ≤ k) × (isRemembered d n numbers i epoch k ≡ isRemembered d n numbers i epoch j)
 
 abbrev μ-loop : tie.MeasureT-loop
-μ-loop d n numbers i epoch k named₀ j₀ named j = k - j
+μ-loop d n numbers i epoch k j₀ j = j
 
 loop-holds : tie.Need-loop-holds Inv-loop μ-loop
-unfolding isRemembered
 loop-holds c = (omega arith, refl)
 
-mul-cell : tie.Need-mul-cell Inv-loop μ-loop
-mul-cell c = omega arith
+sub-j : tie.Need-sub-j Inv-loop μ-loop
+sub-j c = omega arith
 
-add-cell : tie.Need-add-cell Inv-loop μ-loop
-add-cell c = omega arith
+mul-at : tie.Need-mul-at Inv-loop μ-loop
+mul-at c = omega (arith, c .before .before .before .pre .1)
 
-cell-requires : tie.Need-cell-requires Inv-loop μ-loop
-cell-requires c κs = search needs
+add-at : tie.Need-add-at Inv-loop μ-loop
+add-at c = omega (arith, c .before .before .before .pre .1, c .before .before .before .pre .2, c .before .loop .inv .0, c .loop-test .taken)
+
+mul-is-named : tie.Need-mul-is-named Inv-loop μ-loop
+mul-is-named c = omega (arith, c .before .before .before .pre .1, c .before .before .before .pre .2, c .before .loop .inv .0, c .loop-test .taken)
+
+element-copy-out-is-named : tie.Need-element-copy-out-is-named Inv-loop μ-loop
+element-copy-out-is-named c = omega (arith, c .before .before .before .pre .1, c .before .before .before .pre .2, c .before .loop .inv .0, c .loop-test .taken)
 
 is-named-requires : tie.Need-is-named-requires Inv-loop μ-loop
-is-named-requires c κs = omega arith
-
-either-requires : tie.Need-either-requires Inv-loop μ-loop
-either-requires c κs = search needs
-
-add-j : tie.Need-add-j Inv-loop μ-loop
-add-j c = omega arith
-
-loop-less : tie.Need-loop-less Inv-loop μ-loop
-loop-less c = omega arith
-
-loop-again : tie.Need-loop-again Inv-loop μ-loop
-loop-again c = (omega arith, rw (c .either .ensures, c .before .is-named .ensures, c .before .before .cell .ensures, c .before .before .before .before .loop .inv .1) (sym (remembered-next _ _ _ _ _ _)))
+is-named-requires c κs = c .before .before .before .before .pre .0
 
 returns : tie.Need-returns Inv-loop μ-loop
-returns c = c .before .loop .inv .1 ∙ ap (isRemembered _ _ _ _ _) (omega (arith, c .before .loop .inv .0, c .loop-test .left))
+returns c =
+    let h : c .before .before .before .before .loop .j ≡ c .before .before .before .before .loop .j - 1 + 1 = omega (arith, c .before .before .before .loop-test .taken) in
+    sym (c .before .before .before .before .loop .inv .1 ∙ ap (isRemembered _ _ _ _ _) h ∙ remembered-next _ _ _ _ _ _ ∙ if-true _ _ (sym (c .before .is-named .ensures) ∙ c .if1 .taken))
+
+loop-less : tie.Need-loop-less Inv-loop μ-loop
+loop-less c = omega (arith, c .before .before .before .loop-test .taken)
+
+loop-again : tie.Need-loop-again Inv-loop μ-loop
+loop-again c =
+    let h : c .before .before .before .before .loop .j ≡ c .before .before .before .before .loop .j - 1 + 1 = omega (arith, c .before .before .before .loop-test .taken) in
+    (omega (arith, c .before .before .before .before .loop .inv .0), c .before .before .before .before .loop .inv .1 ∙ ap (isRemembered _ _ _ _ _) h ∙ remembered-next _ _ _ _ _ _ ∙ if-false _ _ (sym (c .before .is-named .ensures) ∙ c .if1 .left))
+
+returns-2 : tie.Need-returns-2 Inv-loop μ-loop
+unfolding isRemembered
+returns-2 c =
+    let h : c .before .loop .j ≡ 0 = omega (arith, c .loop-test .left) in
+    sym (c .before .loop .inv .1 ∙ ap (isRemembered _ _ _ _ _) h)
 
 pub is-remembered-spec : {M : Type 1} → statement M
 is-remembered-spec =
@@ -52,12 +60,13 @@ is-remembered-spec =
     Inv-loop
     μ-loop
     loop-holds
-    mul-cell
-    add-cell
-    cell-requires
+    sub-j
+    mul-at
+    add-at
+    mul-is-named
+    element-copy-out-is-named
     is-named-requires
-    either-requires
-    add-j
+    returns
     loop-less
     loop-again
-    returns)
+    returns-2)

@@ -1,37 +1,37 @@
 -- `process_ack::mark_all` meets its contract. The loop's invariant: the records so far are marked. Assumes nothing.
-use borrow.Author.Needs.{needs}
-use mathlib.Core.Path.{refl, sym, ap, _∙_}
+use mathlib.Core.Path.{_≡_, refl, sym, ap, _∙_}
 use native.Mathlib.Omega.{arith}
-use Rattle.process_ack.specs.Ack.{marksAfter, marks-next}
 use Prim.Native.Nat.{_-_, _≤_}
-use mathlib.Core.Path.{_≡_}
+use Rattle.flight.specs.declared.Flight.{Flight}
+use Rattle.flight.specs.Flight.{entryAt, whole}
+use Rattle.process_ack.specs.Ack.{isAcked, withMark, markAt, marksAfter, marks-next, later-same}
 use Rattle.process_ack.proofs.mark_all.Statement.{statement}
 use Rattle.process_ack.proofs.mark_all.Tie as tie
 
 abbrev Inv-loop : tie.InvT-loop
-Inv-loop d n f numbers g₀ i₀ g i = (i ≤ f .saved) × (g ≡ marksAfter d n f i)
+Inv-loop numbers d n saved h₀ i₀ h i = (i ≤ saved) × (whole h numbers ≡ marksAfter d n (whole h₀ numbers) i)
 
 abbrev μ-loop : tie.MeasureT-loop
-μ-loop d n f numbers g₀ i₀ g i = f .saved - i
+μ-loop numbers d n saved h₀ i₀ h i = saved - i
 
 loop-holds : tie.Need-loop-holds Inv-loop μ-loop
 unfolding marksAfter
 loop-holds c = (omega arith, refl)
 
-slice-aggregate-is-acked : tie.Need-slice-aggregate-is-acked Inv-loop μ-loop
-slice-aggregate-is-acked c = search needs
+mul-e : tie.Need-mul-e Inv-loop μ-loop
+mul-e c = omega arith
 
-mul-is-acked : tie.Need-mul-is-acked Inv-loop μ-loop
-mul-is-acked c = omega arith
-
-element-copy-out-is-acked : tie.Need-element-copy-out-is-acked Inv-loop μ-loop
-element-copy-out-is-acked c = omega arith
+element-copy-out-e : tie.Need-element-copy-out-e Inv-loop μ-loop
+element-copy-out-e c = omega arith
 
 is-acked-requires : tie.Need-is-acked-requires Inv-loop μ-loop
 is-acked-requires c κs = omega arith
 
-mark-at-requires : tie.Need-mark-at-requires Inv-loop μ-loop
-mark-at-requires c κs = omega arith
+mul-e-2 : tie.Need-mul-e-2 Inv-loop μ-loop
+mul-e-2 c = omega arith
+
+element-set-from-e : tie.Need-element-set-from-e Inv-loop μ-loop
+element-set-from-e c = omega arith
 
 add-i : tie.Need-add-i Inv-loop μ-loop
 add-i c = omega arith
@@ -40,7 +40,14 @@ loop-less : tie.Need-loop-less Inv-loop μ-loop
 loop-less c = omega arith
 
 loop-again : tie.Need-loop-again Inv-loop μ-loop
-loop-again c = (omega arith, rw (c .mark-at .ensures, c .before .is-acked .ensures, c .before .before .before .before .before .loop .inv .1) (sym (marks-next _ _ _ _)))
+unfolding markAt withMark
+loop-again c =
+    let v = c .before .before .before .loop in
+    let e = ap (λ (x : Flight). entryAt x (v .i)) (v .inv .1) ∙ later-same (c .before .before .before .before .before .args .d .now) (c .before .before .before .before .before .args .n) (whole (c .before .before .before .before .before .args .g) (c .before .before .before .before .before .args .numbers .now)) (v .i) (v .i) (omega arith) in
+    let m = c .is-acked .ensures ∙ ap (isAcked (c .before .before .before .before .before .args .d .now) (c .before .before .before .before .before .args .n) (c .before .before .before .before .before .args .numbers .now) (v .i)) e in (
+      omega (arith, c .before .before .loop-test .taken),
+      ap (markAt (whole (v .h) (c .before .before .before .before .before .args .numbers .now)) (v .i)) m ∙ ap (λ (x : Flight). markAt x (v .i) (isAcked (c .before .before .before .before .before .args .d .now) (c .before .before .before .before .before .args .n) (c .before .before .before .before .before .args .numbers .now) (v .i) (entryAt (whole (c .before .before .before .before .before .args .g) (c .before .before .before .before .before .args .numbers .now)) (v .i)))) (v .inv .1) ∙ sym (marks-next _ _ _ (v .i)),
+    )
 
 returns : tie.Need-returns Inv-loop μ-loop
 returns c = c .before .loop .inv .1 ∙ ap (marksAfter _ _ _) (omega (arith, c .before .loop .inv .0, c .loop-test .left))
@@ -52,11 +59,11 @@ mark-all-spec =
     Inv-loop
     μ-loop
     loop-holds
-    slice-aggregate-is-acked
-    mul-is-acked
-    element-copy-out-is-acked
+    mul-e
+    element-copy-out-e
     is-acked-requires
-    mark-at-requires
+    mul-e-2
+    element-set-from-e
     add-i
     loop-less
     loop-again

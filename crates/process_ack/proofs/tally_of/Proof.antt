@@ -2,20 +2,22 @@
 use mathlib.Core.Path.{refl, sym, ap, _∙_}
 use native.Mathlib.Omega.{arith}
 use Rattle.process_ack.specs.Ack.{tallyAfter, tally-next}
-use Prim.Native.Nat.{_-_, _≤_}
+use Prim.Native.Nat.{ℕ, _-_, _≤_}
+use mathlib.Core.List.{List}
+use Rattle.flight.specs.Flight.{whole}
 use mathlib.Core.Path.{_≡_}
 use Rattle.process_ack.proofs.tally_of.Statement.{statement}
 use Rattle.process_ack.proofs.tally_of.Tie as tie
 
 abbrev Inv-loop : tie.InvT-loop
-Inv-loop f t₀ i₀ t i = (i ≤ f .saved) × (t ≡ tallyAfter f i)
+Inv-loop g t₀ i₀ t i = (i ≤ g .saved) × ((numbers : List ℕ) → t ≡ tallyAfter (whole g numbers) i)
 
 abbrev μ-loop : tie.MeasureT-loop
-μ-loop f t₀ i₀ t i = f .saved - i
+μ-loop g t₀ i₀ t i = g .saved - i
 
 loop-holds : tie.Need-loop-holds Inv-loop μ-loop
 unfolding tallyAfter
-loop-holds c = (omega arith, refl)
+loop-holds c = (omega arith, λ numbers. refl)
 
 mul-tallied : tie.Need-mul-tallied Inv-loop μ-loop
 mul-tallied c = omega arith
@@ -33,10 +35,10 @@ loop-less : tie.Need-loop-less Inv-loop μ-loop
 loop-less c = omega arith
 
 loop-again : tie.Need-loop-again Inv-loop μ-loop
-loop-again c = (omega arith, rw (c .tallied .ensures, c .before .before .before .loop .inv .1) (sym (tally-next _ _)))
+loop-again c = (omega arith, λ numbers. rw (c .tallied .ensures, c .before .before .before .loop .inv .1 numbers) (sym (tally-next (whole _ numbers) _)))
 
 returns : tie.Need-returns Inv-loop μ-loop
-returns c = c .before .loop .inv .1 ∙ ap (tallyAfter _) (omega (arith, c .before .loop .inv .0, c .loop-test .left))
+returns c numbers = c .before .loop .inv .1 numbers ∙ ap (tallyAfter _) (omega (arith, c .before .loop .inv .0, c .loop-test .left))
 
 pub tally-of-spec : {M : Type 1} → statement M
 tally-of-spec =

@@ -1,39 +1,51 @@
 -- `resend::any_spent` meets its contract. Assumes nothing.
 use mathlib.Core.Path.{sym, _∙_}
 use Rattle.base.specs.Choose.{if-true, if-false}
-use Rattle.resend.specs.Tests.{anySpent}
 use borrow.Author.Needs.{needs}
 use Rattle.resend.proofs.any_spent.Statement.{statement}
 use Rattle.resend.proofs.any_spent.Tie as tie
 
-is-spent-requires : tie.Need-is-spent-requires
-is-spent-requires c κs = search needs
+next-of-requires : tie.Need-next-of-requires
+next-of-requires c κs = search needs
+
+is-over-requires : tie.Need-is-over-requires
+is-over-requires c κs = c .before .pre .0
 
 returns : tie.Need-returns
-unfolding anySpent
-returns c = sym (if-true _ _ (sym (c .before .is-spent .ensures) ∙ c .if1 .taken))
+returns c = sym (if-true _ _ (sym (rw (c .before .before .next-of .ensures) at (c .before .is-over .ensures)) ∙ c .if1 .taken))
 
-is-spent-requires-2 : tie.Need-is-spent-requires-2
-is-spent-requires-2 c κs = search needs
+next-of-requires-2 : tie.Need-next-of-requires-2
+next-of-requires-2 c κs = search needs
+
+is-over-requires-2 : tie.Need-is-over-requires-2
+is-over-requires-2 c κs = c .before .before .before .before .pre .1
 
 returns-2 : tie.Need-returns-2
-unfolding anySpent
-returns-2 c = sym (if-false _ _ (sym (c .before .before .before .is-spent .ensures) ∙ c .before .before .if1 .left) ∙ if-true _ _ (sym (c .before .is-spent2 .ensures) ∙ c .if2 .taken))
+returns-2 c =
+    sym (if-false _ _ (sym (rw (c .before .before .before .before .before .next-of .ensures) at (c .before .before .before .before .is-over .ensures)) ∙ c .before .before .before .if1 .left)
+    ∙ if-true _ _ (sym (rw (c .before .before .next-of2 .ensures) at (c .before .is-over2 .ensures)) ∙ c .if2 .taken))
 
-is-spent-requires-3 : tie.Need-is-spent-requires-3
-is-spent-requires-3 c κs = search needs
+next-of-requires-3 : tie.Need-next-of-requires-3
+next-of-requires-3 c κs = search needs
+
+is-over-requires-3 : tie.Need-is-over-requires-3
+is-over-requires-3 c κs = c .before .before .before .before .before .before .before .before .pre .2
 
 returns-3 : tie.Need-returns-3
-unfolding anySpent
-returns-3 c = c .is-spent3 .ensures ∙ sym (if-false _ _ (sym (c .before .before .before .before .before .is-spent .ensures) ∙ c .before .before .before .before .if1 .left) ∙ if-false _ _ (sym (c .before .before .before .is-spent2 .ensures) ∙ c .before .before .if2 .left))
+returns-3 c =
+    rw (c .before .next-of3 .ensures) at (c .is-over3 .ensures) ∙ sym (if-false _ _ (sym (rw (c .before .before .before .before .before .before .before .before .next-of .ensures) at (c .before .before .before .before .before .before .before .is-over .ensures)) ∙ c .before .before .before .before .before .before .if1 .left)
+    ∙ if-false _ _ (sym (rw (c .before .before .before .before .before .next-of2 .ensures) at (c .before .before .before .before .is-over2 .ensures)) ∙ c .before .before .before .if2 .left))
 
 pub any-spent-spec : {M : Type 1} → statement M
 any-spent-spec =
     tie.close
     (tie.spec
-    is-spent-requires
+    next-of-requires
+    is-over-requires
     returns
-    is-spent-requires-2
+    next-of-requires-2
+    is-over-requires-2
     returns-2
-    is-spent-requires-3
+    next-of-requires-3
+    is-over-requires-3
     returns-3)

@@ -1,43 +1,16 @@
 -- `resend::flight_resend` meets its contract. Assumes nothing.
-use mathlib.Core.Path.{sym, ap, _∙_}
-use Rattle.base.specs.Choose.{if-true, if-false}
-use Rattle.resend.specs.Resend.{resendState, resendQueue, Laying}
-use Rattle.resend.specs.Tests.{resend-safe, kept-few, closed-range}
 use borrow.Author.Needs.{needs}
 use Rattle.resend.proofs.flight_resend.Statement.{statement}
 use Rattle.resend.proofs.flight_resend.Tie as tie
 
-resend-answer-requires : tie.Need-resend-answer-requires
-resend-answer-requires c κs = search needs
-
-is-done-requires : tie.Need-is-done-requires
-is-done-requires c κs = search needs
-
-closed-requires : tie.Need-closed-requires
-closed-requires c κs = search needs
-
-resend-all-requires : tie.Need-resend-all-requires
-resend-all-requires c κs = let k = resend-safe _ _ _ _ (rw (c .before .before .before .before .resend-answer .ensures) at (sym (c .before .before .before .is-done .ensures) ∙ c .before .before .if1 .taken)) in (rw (c .before .closed .ensures) (closed-range _ (k .0 .range)), kept-few _ _ _ (k .1))
+resend-records-requires : tie.Need-resend-records-requires
+resend-records-requires c κs = search needs
 
 same-length : tie.Need-same-length
-same-length c = c .before .before .before .before .resend-all .kept .1 .1 .1 .0
+same-length c = c .before .before .before .before .before .resend-records .kept .1 .1 .1 .1 .0
 
 returns : tie.Need-returns
-unfolding resendState resendQueue
-returns c = let d = rw (c .before .before .before .before .before .before .before .before .before .resend-answer .ensures) at (sym (c .before .before .before .before .before .before .before .before .is-done .ensures) ∙ c .before .before .before .before .before .before .before .if1 .taken) in let e = rw (c .before .before .before .before .before .before .closed .ensures) at (c .before .before .before .before .resend-all .ensures) in (rw (c .before .before .before .before .before .before .before .before .before .resend-answer .ensures, ap (λ (x : Laying). x .state) e, ap (λ (x : Laying). x .flight) e) (sym (if-true _ _ d)), ap (λ (x : Laying). x .queue) e ∙ sym (if-true _ _ d))
-
-returns-2 : tie.Need-returns-2
-unfolding resendState resendQueue
-returns-2 c = let d = rw (c .before .before .resend-answer .ensures) at (sym (c .before .is-done .ensures) ∙ c .if1 .left) in (rw (c .before .before .resend-answer .ensures) (sym (if-false _ _ d)), sym (if-false _ _ d))
+returns c = c .before .before .before .before .before .resend-records .ensures
 
 pub flight-resend-spec : {M : Type 1} → statement M
-flight-resend-spec =
-    tie.close
-    (tie.spec
-    resend-answer-requires
-    is-done-requires
-    closed-requires
-    resend-all-requires
-    same-length
-    returns
-    returns-2)
+flight-resend-spec = tie.close (tie.spec resend-records-requires same-length returns)

@@ -1,7 +1,7 @@
 -- `resend::renew_if` meets its contract. Assumes nothing.
 use mathlib.Core.Path.{sym, _∙_}
 use Rattle.base.specs.Choose.{if-true, if-false}
-use Rattle.resend.specs.Resend.{renewedIf}
+use Rattle.resend.specs.Resend.{sentEntry, sentTable}
 use borrow.Author.Needs.{needs}
 use Rattle.resend.proofs.renew_if.Statement.{statement}
 use Rattle.resend.proofs.renew_if.Tie as tie
@@ -13,12 +13,12 @@ renew-requires : tie.Need-renew-requires
 renew-requires c κs = search needs
 
 returns : tie.Need-returns
-unfolding renewedIf
-returns c = c .renew .ensures ∙ sym (if-true _ _ (sym (c .before .before .is-done .ensures) ∙ c .before .if1 .taken))
+unfolding sentEntry sentTable
+returns c = let t = sym (c .before .before .before .is-done .ensures) ∙ c .before .before .if1 .taken in (c .renew .ensures .0 ∙ sym (if-true _ _ t), c .renew .ensures .1 ∙ sym (if-true _ _ t))
 
 returns-2 : tie.Need-returns-2
-unfolding renewedIf
-returns-2 c = sym (if-false _ _ (sym (c .before .is-done .ensures) ∙ c .if1 .left))
+unfolding sentEntry sentTable
+returns-2 c = let t = sym (c .before .is-done .ensures) ∙ c .if1 .left in (sym (if-false _ _ t), sym (if-false _ _ t))
 
 pub renew-if-spec : {M : Type 1} → statement M
 renew-if-spec = tie.close (tie.spec is-done-requires renew-requires returns returns-2)
