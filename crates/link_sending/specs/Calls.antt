@@ -3,11 +3,11 @@
 use mathlib.Core.Bool.{true, false}
 use mathlib.Core.List.{List, [], _∷_}
 use mathlib.Core.Path.{_≡_, refl, sym, ap, _∙_}
-use Prim.Native.Nat.{ℕ, _*_, _≤_, _<_, _%_}
+use Prim.Native.Nat.{ℕ, _*_}
 use native.Mathlib.Omega.{arith}
 use borrow.Author.Tests.{ltb-true}
 use lib.ListN.{replicate, length}
-use Rattle.base.specs.Choose.{choose, if-true, if-false, by-test, test-cases}
+use Rattle.base.specs.Choose.{choose, if-true, if-false, by-test}
 use Rattle.base.specs.Parts.{part, splice}
 use Rattle.send_keys.specs.Keys as keying
 use Rattle.outgoing.specs.State.{refusal, started, keyingState, isDone}
@@ -26,7 +26,8 @@ use Rattle.send_words.specs.Words.{stateOf, isFlat}
 use Rattle.send_words.specs.Laws.{Kept}
 use Rattle.send_words.specs.Partly.{Partly, movedFrom}
 use Rattle.queue.specs.Queue.{ready}
-use Rattle.take_steps.specs.Front.{frontStart, length-at}
+use Rattle.send_steps.specs.Steps.{length-at}
+use Rattle.take_steps.specs.Front.{frontStart}
 use Rattle.send_keys.specs.declared.SendKeys.{SendKeys}
 use Rattle.outgoing.specs.declared.SendAnswer.{SendAnswer}
 use Rattle.outgoing.specs.Send.{sendAnswer, sendState, sendMemory, laidState, laidMemory}

@@ -68,7 +68,8 @@ fn keys_at(w: &[u64; 59]) -> SendKeys
     }
 }
 
-fn is_ready(w: &[u64; 59], room: usize) -> bool
+// Whether settings and ring are in range and the buffer lent for the queue is long enough.
+pub fn is_ready(w: &[u64; 59], room: usize) -> bool
     ensures { λ r. ⌜ r ≡ isReady (queueOf (now (w .entry))) room ⌝ }
 {
     queue::is_ready(queue_at(w), room)
@@ -93,7 +94,7 @@ fn next_of(w: &[u64; 59], epoch: u16) -> u64
 }
 
 // The length of a slot's datagram.
-fn length_at(w: &[u64; 59], slot: usize) -> usize
+pub fn length_at(w: &[u64; 59], slot: usize) -> usize
     requires { ⌜ slot < 16 ⌝ }
     ensures { λ r. ⌜ (r ≡ getD (queueOf (now (w .entry)) .lengths) slot 0) × (r ≤ 65535) ⌝ }
 {

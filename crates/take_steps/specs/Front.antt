@@ -1,10 +1,8 @@
 -- The front datagram in the words: where it lies, and what they stand for once it is taken. Assumes nothing.
-use mathlib.Core.Bool.{true, false}
 use mathlib.Core.List.{List}
-use mathlib.Core.Path.{_≡_, refl, sym, ap, _∙_}
-use Prim.Native.Nat.{ℕ, zero, suc, _+_, _*_, _<_, _%_}
-use native.Mathlib.Omega.{arith}
-use lib.ListN.{length, getD, set}
+use mathlib.Core.Path.{_≡_, refl}
+use Prim.Native.Nat.{ℕ, _*_}
+use lib.ListN.{length, set}
 use Rattle.base.specs.Choose.{choose}
 use Rattle.link_words.specs.Laws.{firstOf}
 use Rattle.outgoing.specs.declared.Sending.{Sending}
@@ -23,27 +21,6 @@ frontSize a s = choose (isTaken a) (frontLen s) 0
 -- the words v stand for s, flat if w were
 abbrev pub Stands : Sending → List ℕ → List ℕ → Type 0
 Stands s w v = (stateOf v ≡ s) × (isFlat v ≡ isFlat w)
-
--- the length of a slot's datagram
-pub length-at : (w : List ℕ) (i : ℕ) → i < 16 → getD w (19 + i) 0 % 65536 ≡ getD (lengthsOf w) i 0
-unfolding lengthsOf
-length-at w zero h = refl
-length-at w (suc zero) h = refl
-length-at w (suc (suc zero)) h = refl
-length-at w (suc (suc (suc zero))) h = refl
-length-at w (suc (suc (suc (suc zero)))) h = refl
-length-at w (suc (suc (suc (suc (suc zero))))) h = refl
-length-at w (suc (suc (suc (suc (suc (suc zero)))))) h = refl
-length-at w (suc (suc (suc (suc (suc (suc (suc zero))))))) h = refl
-length-at w (suc (suc (suc (suc (suc (suc (suc (suc zero)))))))) h = refl
-length-at w (suc (suc (suc (suc (suc (suc (suc (suc (suc zero))))))))) h = refl
-length-at w (suc (suc (suc (suc (suc (suc (suc (suc (suc (suc zero)))))))))) h = refl
-length-at w (suc (suc (suc (suc (suc (suc (suc (suc (suc (suc (suc zero))))))))))) h = refl
-length-at w (suc (suc (suc (suc (suc (suc (suc (suc (suc (suc (suc (suc zero)))))))))))) h = refl
-length-at w (suc (suc (suc (suc (suc (suc (suc (suc (suc (suc (suc (suc (suc zero))))))))))))) h = refl
-length-at w (suc (suc (suc (suc (suc (suc (suc (suc (suc (suc (suc (suc (suc (suc zero)))))))))))))) h = refl
-length-at w (suc (suc (suc (suc (suc (suc (suc (suc (suc (suc (suc (suc (suc (suc (suc zero))))))))))))))) h = refl
-length-at w (suc (suc (suc (suc (suc (suc (suc (suc (suc (suc (suc (suc (suc (suc (suc (suc i)))))))))))))))) h = absurd (omega arith)
 
 -- ---- the ring's front written
 

@@ -3,7 +3,6 @@ ghost use mathlib.Core.Path.{_≡_};
 ghost use Prim.Native.Nat.{_+_, _-_, _*_, _≤_, _<_};
 ghost use lib.ListN.{length, getD};
 ghost use Rattle.base.specs.Parts.{splice, part};
-ghost use Rattle.queue.specs.Queue.{isSound, isReady};
 ghost use Rattle.send_words.specs.Words.{stateOf};
 ghost use Rattle.taking.specs.Take.{frontLen, isFront, takeAnswer, isTaken, takeState, takeBuffer, afterTake};
 ghost use Rattle.take_steps.specs.Front.{frontStart, frontSize, Stands};
@@ -16,51 +15,14 @@ pub struct Front {
     pub length: usize,
 }
 
-// How many words there are.
-fn count_of(w: &[u64]) -> usize
-    ensures { λ r. ⌜ r ≡ length (now (w .entry)) ⌝ }
-{
-    w.len()
-}
-
-fn sized(w: &[u64; 59]) -> usize
-    ensures { λ _. ⌜ length (now (w .entry)) ≡ 59 ⌝ }
-{
-    count_of(w)
-}
-
 // ---- the tests
-
-// Whether settings and ring are in range.
-fn is_sound(w: &[u64; 59]) -> bool
-    ensures { λ r. ⌜ r ≡ isSound (stateOf (now (w .entry)) .queue) ⌝ }
-{
-    let limit = w[1];
-    if queue::is_setting(w[0] as usize, limit as usize) {
-        if w[2] < limit {
-            return w[3] <= limit;
-        }
-    }
-    false
-}
-
-// Whether the buffer lent for the queue is long enough besides.
-fn is_ready(w: &[u64; 59], room: usize) -> bool
-    ensures { λ r. ⌜ r ≡ isReady (stateOf (now (w .entry)) .queue) room ⌝ }
-{
-    if is_sound(w) {
-        return w[1] as usize * w[0] as usize <= room;
-    }
-    false
-}
 
 // The front datagram's length.
 fn front_len(w: &[u64; 59]) -> usize
     requires { ⌜ getD (now w) 2 0 < 16 ⌝ }
     ensures { λ r. ⌜ r ≡ frontLen (stateOf (now (w .entry))) ⌝ }
 {
-    let at = 19 + w[2] as usize;
-    (w[at] % 65536) as usize
+    send_steps::length_at(w, w[2] as usize)
 }
 
 // Whether a record in the front datagram waits.
@@ -77,7 +39,7 @@ fn front_waits(w: &[u64; 59]) -> bool
 fn take_answer(w: &[u64; 59], room: usize, have: usize) -> TakeAnswer
     ensures { λ r. ⌜ r ≡ takeAnswer (stateOf (now (w .entry))) room have ⌝ }
 {
-    if !is_ready(w, room) {
+    if !send_steps::is_ready(w, room) {
         return TakeAnswer::OutOfRange;
     }
     if w[3] == 0 {
@@ -103,7 +65,7 @@ fn advance(w: &mut [u64; 59])
     requires { ⌜ (getD (now w) 2 0 ≤ 16) × (0 < getD (now w) 3 0) ⌝ }
     ensures { λ _. ⌜ Stands (afterTake (stateOf (now (w .entry)))) (now (w .entry)) (now (w .exit)) ⌝ }
 {
-    sized(w);
+    send_words::sized(w);
     let next = taking::next_slot(w[2] as usize, w[1] as usize);
     let count = w[3] - 1;
     w[2] = next as u64;
