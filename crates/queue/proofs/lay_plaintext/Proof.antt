@@ -35,24 +35,24 @@ part-copy-end c = search needs
 copy-requires : tie.Need-copy-requires
 copy-requires c κs = search needs
 
-sub-copy-2 : tie.Need-sub-copy-2
-sub-copy-2 c = search needs
+sub-copy-short : tie.Need-sub-copy-short
+sub-copy-short c = search needs
 
-part-copy-start-2 : tie.Need-part-copy-start-2
-part-copy-start-2 c = search needs
+part-copy-short-start : tie.Need-part-copy-short-start
+part-copy-short-start c = search needs
 
-part-copy-end-2 : tie.Need-part-copy-end-2
-part-copy-end-2 c = search needs
+part-copy-short-end : tie.Need-part-copy-short-end
+part-copy-short-end c = search needs
 
-copy-requires-2 : tie.Need-copy-requires-2
-copy-requires-2 c κs = search needs
+copy-short-requires : tie.Need-copy-short-requires
+copy-short-requires c κs = search needs
 
 same-length : tie.Need-same-length
 same-length c = search needs
 
 returns : tie.Need-returns
 returns c = let a = c .before .before .before .before .before .before .before .before .before .before .before .before .args in let n = length (a .content .now) in
-    two-parts (a .at) 13 n (plaintextHeader (a .content-type) (a .number) n) (a .content .now) _ _ (a .d .now) (c .before .before .before .before .before .before .copy .ensures ∙ c .before .before .before .before .before .before .before .before .before .plaintext-header .ensures) (c .before .before .copy2 .ensures) (length-plaintext (a .content-type) (a .number) n) refl (c .before .before .before .before .before .before .before .before .before .before .before .before .pre .0)
+    two-parts (a .at) 13 n (plaintextHeader (a .content-type) (a .number) n) (a .content .now) _ _ (a .d .now) (c .before .before .before .before .before .before .copy .ensures ∙ c .before .before .before .before .before .before .before .before .before .plaintext-header .ensures) (c .before .before .copy-short .ensures) (length-plaintext (a .content-type) (a .number) n) refl (c .before .before .before .before .before .before .before .before .before .before .before .before .pre .0)
 
 pub lay-plaintext-spec : {M : Type 1} → statement M
 lay-plaintext-spec =
@@ -67,9 +67,9 @@ lay-plaintext-spec =
     part-copy-start
     part-copy-end
     copy-requires
-    sub-copy-2
-    part-copy-start-2
-    part-copy-end-2
-    copy-requires-2
+    sub-copy-short
+    part-copy-short-start
+    part-copy-short-end
+    copy-short-requires
     same-length
     returns)
