@@ -203,6 +203,7 @@ static void call_sealed(void)
     uint8_t answer = link_sealed(s, length, (uint8_t)any(), (uint8_t)any(), queue.bytes, queue.n);
     sending_done(SEALED, 0, answer, answer != 0, 0);
     require(answer != 0 || in_queue, "a sealing taken that was not asked");
+    require(answer == 0 || memcmp(&before, s, sizeof before) == 0, "a refused reply has written words");
     if (answer == 0)
         check_queue(q.start - 5, 5);
     else

@@ -24,15 +24,13 @@ use Rattle.taking.specs.declared.TakeAnswer.{TakeAnswer}
 use Rattle.taking.specs.declared.TakeAnswer.the-variants as take
 use Rattle.send_words.specs.Words.{stateOf, isFlat}
 use Rattle.send_words.specs.Laws.{Kept}
-use Rattle.send_words.specs.Partly.{Partly, movedFrom}
+use Rattle.send_words.specs.Partly.{Partly}
 use Rattle.queue.specs.Queue.{ready}
 use Rattle.send_steps.specs.Steps.{length-at}
 use Rattle.take_steps.specs.Front.{frontStart}
-use Rattle.send_keys.specs.declared.SendKeys.{SendKeys}
 use Rattle.outgoing.specs.declared.SendAnswer.{SendAnswer}
 use Rattle.outgoing.specs.Send.{sendAnswer, sendState, sendMemory, laidState, laidMemory}
 use Rattle.taking.specs.Take as takes
-use Rattle.sealing.specs.declared.SealAnswer.{SealAnswer}
 use Rattle.link_sending.specs.declared.LinkSealing.{LinkSealing}
 use Rattle.link_sending.specs.declared.LinkTake.{LinkTake}
 use Rattle.link_sending.specs.declared.LinkPart.{LinkPart}
@@ -141,19 +139,6 @@ TakeInPlaceCall r v w q =
 -- a state written is the state behind the call
 pub after : (v w : List ℕ) (x s : Sending) → isFlat w ≡ true → Kept x v → x ≡ s → After v w s
 after v w x s f k e = (k .0 ∙ e ∙ sym (if-true _ _ f), k .1 ∙ sym f)
-
--- ---- a state written in part
-
-pub after-moved : (v w : List ℕ) (x s : Sending) → isFlat w ≡ true → Partly (movedFrom (stateOf w) x) w v → x ≡ s → movedFrom (stateOf w) s ≡ s → After v w s
-after-moved v w x s f p e q = (p .0 ∙ ap (movedFrom (stateOf w)) e ∙ q ∙ sym (if-true _ _ f), p .1 f ∙ sym f)
-
--- a sealing changes nothing else
-pub sealed-moves : (a : SealAnswer) (s : Sending) (q : List ℕ) → movedFrom s (sealings.sealedState a s q .state) ≡ sealings.sealedState a s q .state
-unfolding sealings.sealedState keying.sealedUpTo
-sealed-moves a s q =
-    by-test (λ (t : Sending). movedFrom s t ≡ t)
-    (λ e. by-test (λ (k : SendKeys). movedFrom s (record { queue = s .queue; waiting = sealings.afterSealing s q .waiting; keys = k; «message_seq» = s .«message_seq» }) ≡ record { queue = s .queue; waiting = sealings.afterSealing s q .waiting; keys = k; «message_seq» = s .«message_seq» }) (λ f. refl) (λ f. refl))
-    (λ e. refl)
 
 -- ---- a record laid, or refused
 

@@ -250,10 +250,7 @@ pub fn sealed(w: &mut [u64; 59], length: usize, mask_0: u8, mask_1: u8, queue: &
     ensures { λ r. ⌜ SealedCall r (now (w .exit)) (now (w .entry)) length «mask_0» «mask_1» (now (queue .exit)) (now (queue .entry)) ⌝ }
 {
     if send_words::is_flat(w) {
-        let k = sealing::sealed(send_words::load(w), length, [mask_0, mask_1], queue);
-        let a = k.answer;
-        send_words::save_moved(w, k.state);
-        return seal_answer_of(a);
+        return seal_answer_of(seal_steps::sealed(w, length, [mask_0, mask_1], queue));
     }
     12
 }

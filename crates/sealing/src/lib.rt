@@ -54,7 +54,7 @@ pub struct Reply {
 // ---- the next record that waits
 
 // Which datagram, counted from the front, a slot has.
-fn nth_of(first: usize, limit: usize, slot: usize) -> usize
+pub fn nth_of(first: usize, limit: usize, slot: usize) -> usize
     requires { ⌜ (first < limit) × (slot < limit) × (limit ≤ 16) ⌝ }
     ensures { λ r. ⌜ (r ≡ nthOf first limit slot) × (r < limit) ⌝ }
 {
@@ -65,7 +65,7 @@ fn nth_of(first: usize, limit: usize, slot: usize) -> usize
 }
 
 // The search goes on in the next datagram.
-fn go_beyond(c: Search) -> Search
+pub fn go_beyond(c: Search) -> Search
     requires { ⌜ c .datagram ≤ 16 ⌝ }
     ensures { λ r. ⌜ r ≡ beyond c ⌝ }
 {
@@ -152,7 +152,7 @@ fn plain_at(d: &[u8], slot: usize, c: Search) -> Search
 
 // What lies at the search's place means to it. The record's first bytes tell: 0x2C to 0x2F begins a sealed record as it is laid, any
 // other from 0x20 to 0x3F none that waits.
-fn step_of(d: &[u8], slot: usize, c: Search) -> Search
+pub fn step_of(d: &[u8], slot: usize, c: Search) -> Search
     requires { ⌜ (length (now d) ≤ 65535) × (c .offset ≤ 65535) × (c .datagram ≤ 16) ⌝ }
     ensures { λ r. ⌜ r ≡ stepOf (parsed (now (d .entry))) (now (d .entry)) slot c ⌝ }
 {
@@ -214,7 +214,7 @@ fn seek_from(q: Queue, d: &[u8], from: Search) -> Waiting
 // ---- the question
 
 // Whether the oldest record that waits lies in a slot, and its number is one that is sent.
-fn is_span(w: Waiting, mtu: usize, limit: usize) -> bool
+pub fn is_span(w: Waiting, mtu: usize, limit: usize) -> bool
     requires { ⌜ mtu ≤ 1500 ⌝ }
     ensures { λ r. ⌜ r ≡ isSpan w mtu limit ⌝ }
 {
@@ -345,7 +345,7 @@ pub fn put_sealed(s: Sending, sealed: &[u8], memory: &mut [u8]) -> bool
 // ---- the reply
 
 // The header of a record with the mask on its number.
-fn masked_header(epoch: u16, number: u64, length: u16, mask: [u8; 2]) -> [u8; 5]
+pub fn masked_header(epoch: u16, number: u64, length: u16, mask: [u8; 2]) -> [u8; 5]
     ensures { λ r. ⌜ r ≡ maskedHeader epoch number length mask ⌝ }
 {
     [
@@ -376,7 +376,7 @@ fn seal_answer(s: Sending, room: usize, length: usize) -> SealAnswer
     SealAnswer::NoQuestion
 }
 
-fn is_sealed(a: SealAnswer) -> bool
+pub fn is_sealed(a: SealAnswer) -> bool
     ensures { λ r. ⌜ r ≡ isSealed a ⌝ }
 {
     match a {

@@ -19,7 +19,6 @@ ghost use Rattle.send_words.specs.Words.{
   putEpoch,
 };
 ghost use Rattle.send_words.specs.Laws.{Kept};
-ghost use Rattle.send_words.specs.Partly.{Partly, movedFrom};
 use outgoing::Sending;
 use outgoing::Waiting;
 use queue::Queue;
@@ -90,7 +89,8 @@ fn queue_of(w: &[u64; 59]) -> Queue
     }
 }
 
-fn waiting_of(w: &[u64; 59]) -> Waiting
+// The oldest sealing that waits.
+pub fn waiting_of(w: &[u64; 59]) -> Waiting
     ensures { λ r. ⌜ r ≡ waitingOf (now (w .entry)) ⌝ }
 {
     Waiting {
@@ -282,20 +282,4 @@ pub fn save(w: &mut [u64; 59], s: Sending)
     put_epoch(w, 15, 47, k.application);
     w[11] = k.plaintext_next;
     w[18] = seq;
-}
-
-// What a sealing or a take changes, written: the ring's front, the sealing that waits, the numbers sealed.
-pub fn save_moved(w: &mut [u64; 59], s: Sending)
-    ensures { λ _. ⌜ Partly (movedFrom (stateOf (now (w .entry))) s) (now (w .entry)) (now (w .exit)) ⌝ }
-{
-    let q = s.queue;
-    let k = s.keys;
-    let h = k.handshake;
-    let a = k.application;
-    sized(w);
-    put_waiting(w, s.waiting);
-    w[2] = q.first as u64;
-    w[3] = q.count as u64;
-    w[14] = h.sealed;
-    w[17] = a.sealed;
 }

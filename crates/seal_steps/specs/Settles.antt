@@ -1,0 +1,63 @@
+-- What a reply to a sealing writes of the words. Assumes nothing.
+use mathlib.Core.Bool.{true}
+use mathlib.Core.List.{List}
+use mathlib.Core.Path.{_≡_, refl, sym, ap, _∙_}
+use Prim.Native.Nat.{ℕ, _+_, _≤_}
+use borrow.Author.Tests.{eq-eqb, ne-eqb}
+use lib.ListN.{length, set}
+use Rattle.base.specs.Choose.{if-true, if-false, both-left, both-true}
+use Rattle.send_keys.specs.declared.SendKeys.{SendKeys}
+use Rattle.send_keys.specs.Keys.{withSealed, sealedUpTo}
+use Rattle.outgoing.specs.declared.Sending.{Sending}
+use Rattle.outgoing.specs.declared.Waiting.{Waiting}
+use Rattle.link_words.specs.Laws.{firstOf}
+use Rattle.send_words.specs.Words.{lengthsOf, ivFrom, stateOf, isFlat, putWaiting}
+use Rattle.send_words.specs.Laws.{by-words, low-bit}
+use Rattle.send_words.specs.Partly.{Partly, low-waiting, waiting-back}
+
+-- these keys, and this sealing waits
+abbrev with : Sending → SendKeys → Waiting → Sending
+with s k x = record { queue = s .queue; waiting = x; keys = k; «message_seq» = s .«message_seq» }
+
+-- a number of an epoch is sealed, and this sealing waits next
+abbrev pub settled : Sending → ℕ → ℕ → Waiting → Sending
+settled s e n x = with s (sealedUpTo (s .keys) e n) x
+
+abbrev withHandshake : SendKeys → ℕ → SendKeys
+withHandshake k y = record { «plaintext_next» = k .«plaintext_next»; handshake = withSealed (k .handshake) y; application = k .application }
+
+abbrev withApplication : SendKeys → ℕ → SendKeys
+withApplication k y = record { «plaintext_next» = k .«plaintext_next»; handshake = k .handshake; application = withSealed (k .application) y }
+
+module _ (w : List ℕ) (h : length w ≡ 59) (x : Waiting) (y : ℕ) where
+  handshake-put : stateOf (set (putWaiting x w) 14 y) ≡ with (stateOf w) (withHandshake (stateOf w .keys) y) (low-waiting x)
+  unfolding firstOf lengthsOf ivFrom low-waiting
+  handshake-put = by-words (λ (v : List ℕ). stateOf (set (putWaiting x v) 14 y) ≡ with (stateOf v) (withHandshake (stateOf v .keys) y) (low-waiting x)) w h refl
+
+  application-put : stateOf (set (putWaiting x w) 17 y) ≡ with (stateOf w) (withApplication (stateOf w .keys) y) (low-waiting x)
+  unfolding firstOf lengthsOf ivFrom low-waiting
+  application-put = by-words (λ (v : List ℕ). stateOf (set (putWaiting x v) 17 y) ≡ with (stateOf v) (withApplication (stateOf v .keys) y) (low-waiting x)) w h refl
+
+  flat-put : isFlat w ≡ true → (isFlat (set (putWaiting x w) 14 y) ≡ true) × (isFlat (set (putWaiting x w) 17 y) ≡ true)
+  unfolding firstOf isFlat
+  flat-put = by-words (λ (v : List ℕ). isFlat v ≡ true → (isFlat (set (putWaiting x v) 14 y) ≡ true) × (isFlat (set (putWaiting x v) 17 y) ≡ true)) w h
+      (λ f. (both-true (both-left _ _ f) ∙ low-bit (x .any), both-true (both-left _ _ f) ∙ low-bit (x .any)))
+
+module _ (w v : List ℕ) (h : length w ≡ 59) (e n : ℕ) (x : Waiting) (p : v ≡ putWaiting x w) (l : x .epoch ≤ 65535) where
+  pub handshake-settles : e ≡ 2 → Partly (settled (stateOf w) e n x) w (set v 14 (n + 1))
+  unfolding sealedUpTo
+  handshake-settles g =
+      rw p (
+        handshake-put w h x (n + 1) ∙ ap (with (stateOf w) (withHandshake (stateOf w .keys) (n + 1))) (waiting-back x l)
+            ∙ ap (λ (k : SendKeys). with (stateOf w) k x) (sym (if-true _ _ (eq-eqb _ _ g))),
+        λ f. flat-put w h x (n + 1) f .0,
+      )
+
+  pub application-settles : (e ≡ 2 → ⊥) → Partly (settled (stateOf w) e n x) w (set v 17 (n + 1))
+  unfolding sealedUpTo
+  application-settles g =
+      rw p (
+        application-put w h x (n + 1) ∙ ap (with (stateOf w) (withApplication (stateOf w .keys) (n + 1))) (waiting-back x l)
+            ∙ ap (λ (k : SendKeys). with (stateOf w) k x) (sym (if-false _ _ (ne-eqb _ _ g))),
+        λ f. flat-put w h x (n + 1) f .1,
+      )

@@ -1,0 +1,147 @@
+// The reply to a sealing, over the words that hold the sending side's state: of a datagram searched only its length is read, and only the
+// sealing that waits and its epoch's sealed number are written.
+ghost use mathlib.Core.Path.{_≡_};
+ghost use Prim.Native.Nat.{_-_, _*_, _≤_, _<_};
+ghost use lib.ListN.{length};
+ghost use Rattle.base.specs.Parts.{splice};
+ghost use Rattle.queue.specs.Queue.{InRange};
+ghost use Rattle.sealing.specs.Seek.{seekStep, seek};
+ghost use Rattle.sealing.specs.Sealing.{isHeld, partStart, maskedHeader, behindOldest, sealAnswer, afterSealing, sealedState, sealedMemory, Held};
+ghost use Rattle.send_words.specs.Words.{queueOf, stateOf};
+ghost use Rattle.send_words.specs.Partly.{Partly};
+ghost use Rattle.seal_steps.specs.Settles.{settled};
+use outgoing::Waiting;
+use sealing::SealAnswer;
+use sealing::Search;
+
+// ---- the tests
+
+// Whether what is kept of the oldest record that waits is in range.
+fn is_held(w: &[u64; 59]) -> bool
+    requires { ⌜ InRange (queueOf (now w)) ⌝ }
+    ensures { λ r. ⌜ r ≡ isHeld (stateOf (now (w .entry))) ⌝ }
+{
+    if w[5] == 1 {
+        return sealing::is_span(send_words::waiting_of(w), w[0] as usize, w[1] as usize);
+    }
+    true
+}
+
+fn seal_answer(w: &[u64; 59], room: usize, length: usize) -> SealAnswer
+    ensures { λ r. ⌜ r ≡ sealAnswer (stateOf (now (w .entry))) room length ⌝ }
+{
+    if !send_steps::is_ready(w, room) {
+        return SealAnswer::OutOfRange;
+    }
+    if !is_held(w) {
+        return SealAnswer::OutOfRange;
+    }
+    if w[5] == 1 {
+        if length == w[8] as usize {
+            return SealAnswer::Done;
+        }
+        return SealAnswer::NoQuestion;
+    }
+    SealAnswer::NoQuestion
+}
+
+// ---- the next record that waits
+
+// One step of the search.
+fn seek_step(w: &[u64; 59], d: &[u8], c: Search) -> Search
+    requires { ⌜ InRange (queueOf (now w)) ⌝ }
+    ensures { λ r. ⌜ r ≡ seekStep (queueOf (now (w .entry))) (now (d .entry)) c ⌝ }
+{
+    let nth = c.datagram;
+    let offset = c.offset;
+    if w[3] as usize <= nth {
+        return Search {
+            done: true,
+            datagram: nth,
+            offset: offset,
+            found: outgoing::no_waiting(),
+        };
+    }
+    let slot = queue::slot_of(w[2] as usize, w[1] as usize, nth);
+    let len = send_steps::length_at(w, slot);
+    if len <= offset {
+        return sealing::go_beyond(c);
+    }
+    let x = base::fragment(d, slot * w[0] as usize + offset, len - offset);
+    sealing::step_of(x, slot, c)
+}
+
+// The first record that waits from where the search is on, in as many steps as sealing::sealed takes.
+fn seek_from(w: &[u64; 59], d: &[u8], from: Search) -> Waiting
+    requires { ⌜ InRange (queueOf (now w)) ⌝ }
+    ensures { λ r. ⌜ r ≡ seek 2000 (queueOf (now (w .entry))) (now (d .entry)) from ⌝ }
+{
+    let mut c = from;
+    let mut n: usize = 0;
+    while n < 2000 {
+        if c.done {
+            let x = c.found;
+            return x;
+        }
+        c = seek_step(w, d, c);
+        n += 1;
+    }
+    outgoing::no_waiting()
+}
+
+// Where the search begins: behind the oldest.
+fn behind_oldest(w: &[u64; 59]) -> Search
+    requires { ⌜ Held (stateOf (now w)) ⌝ }
+    ensures { λ r. ⌜ r ≡ behindOldest (stateOf (now (w .entry))) ⌝ }
+{
+    let nth = sealing::nth_of(w[2] as usize, w[1] as usize, w[6] as usize);
+    let found = outgoing::no_waiting();
+    Search {
+        done: false,
+        datagram: nth,
+        offset: w[7] as usize + 5 + w[8] as usize,
+        found: found,
+    }
+}
+
+// ---- the reply
+
+// A number of an epoch is sealed, and this sealing waits next.
+fn settle(w: &mut [u64; 59], epoch: u16, number: u64, next: Waiting)
+    requires { ⌜ number < 281474976710655 ⌝ }
+    ensures { λ _. ⌜ Partly (settled (stateOf (now (w .entry))) epoch number next) (now (w .entry)) (now (w .exit)) ⌝ }
+{
+    send_words::sized(w);
+    send_words::put_waiting(w, next);
+    let above = number + 1;
+    if epoch == 2 {
+        w[14] = above;
+        return;
+    }
+    w[17] = above;
+}
+
+// The header with the mask on its number, and what waits next.
+fn reply(w: &mut [u64; 59], mask: [u8; 2], memory: &mut [u8])
+    requires { ⌜ Held (stateOf (now w)) × (stateOf (now w) .queue .limit * stateOf (now w) .queue .mtu ≤ length (now memory)) ⌝ }
+    ensures { λ _. ⌜ Partly (afterSealing (stateOf (now (w .entry))) (now (memory .entry))) (now (w .entry)) (now (w .exit)) × (now (memory .exit) ≡ splice (partStart (stateOf (now (w .entry))) - 5) (maskedHeader (stateOf (now (w .entry)) .waiting .epoch) (stateOf (now (w .entry)) .waiting .number) (stateOf (now (w .entry)) .waiting .length) mask) (now (memory .entry))) ⌝ }
+{
+    let x = send_words::waiting_of(w);
+    let inner = x.slot * w[0] as usize + x.start + 5;
+    let from = inner - 5;
+    let next = seek_from(w, memory, behind_oldest(w));
+    let header = sealing::masked_header(x.epoch, x.number, x.length as u16, mask);
+    queue::copy(&header, &mut memory[from..inner]);
+    settle(w, x.epoch, x.number, next);
+}
+
+// The host has sealed so many bytes in place, and this is the mask of the two number bytes.
+pub fn sealed(w: &mut [u64; 59], length: usize, mask: [u8; 2], memory: &mut [u8]) -> SealAnswer
+    ensures { λ r. ⌜ (r ≡ sealAnswer (stateOf (now (w .entry))) (lib.ListN.length (now (memory .entry))) length) × Partly (sealedState r (stateOf (now (w .entry))) (now (memory .entry)) .state) (now (w .entry)) (now (w .exit)) × (now (memory .exit) ≡ sealedMemory r (stateOf (now (w .entry))) mask (now (memory .entry))) ⌝ }
+{
+    let a = seal_answer(w, memory.len(), length);
+    if sealing::is_sealed(a) {
+        reply(w, mask, memory);
+    }
+    a
+}
