@@ -9,7 +9,7 @@ use borrow.Author.Needs.{needs}
 use Rattle.base.specs.Choose.{if-true}
 use Rattle.queue.specs.Queue.{InRange}
 use Rattle.send_words.specs.Words.{queueOf, stateOf, isFlat}
-use Rattle.resend.specs.Resend.{Laying, laying, sentAgain, againAt, againAfter, again-next, again-range, sent-again}
+use Rattle.resend.specs.Resend.{Laying, laying, sentEntry, sentAgain, againAt, againAfter, again-next, again-range, sent-again}
 use Rattle.resend_steps.proofs.resend_all.Statement.{statement}
 use Rattle.resend_steps.proofs.resend_all.Tie as tie
 
@@ -87,7 +87,7 @@ loop-again-2 c =
     let v = c .before .before .before .before .before .before .before .before .before .before .before .before .before .before .loop in
     let r = c .before .before .before .before .send-again .ensures in
     let x = c .before .before .before .before .before .before .before .fragment .ensures in
-    let e = sent-again _ (v .i) (stateOf (v .w)) (v .h) (v .numbers) (v .memory) (c .before .before .before .before .before .before .before .before .before .before .before .if1 .left) (rw (r .answer, x) at (r .state)) (rw (c .before .before .before .before .before .before .before .before .before .next-of .ensures, r .answer, x) at (c .renew-if .ensures .0)) (rw (r .answer, x) at (c .renew-if .ensures .1)) (rw (r .answer, x) at (r .memory)) in (
+    let e = sent-again _ (v .i) (stateOf (v .w)) (v .h) (v .numbers) (v .memory) (c .before .before .before .before .before .before .before .before .before .before .before .if1 .left) (rw (r .answer, x) at (r .state)) (rw (r .answer, x) at (c .renew-if .ensures .0 ∙ ap (sentEntry _ _) (c .before .before .before .before .before .before .before .before .before .next-of .ensures))) (rw (r .answer, x) at (c .renew-if .ensures .1)) (rw (r .answer, x) at (r .memory)) in (
       omega (arith, c .before .before .before .before .before .before .before .before .before .before .before .before .before .loop-test .taken),
       subst (λ (y : Laying). InRange (y .state .queue)) (sym e) (again-range _ (v .i) (laying (stateOf (v .w)) (v .h) (v .numbers) (v .memory)) (v .inv .1)),
       c .before .before .before .before .send-again .kept .1 .1 .1 .0 ∙ v .inv .2,
