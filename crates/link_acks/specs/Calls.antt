@@ -7,9 +7,12 @@ use Prim.Native.Nat.{ℕ}
 use lib.ListN.{getD, length}
 use Rattle.base.specs.Choose.{choose, both, if-true, if-false, both-true, both-false}
 use Rattle.outgoing.specs.State as sends
+use Rattle.flight.specs.declared.SavedRecords.{SavedRecords}
+use Rattle.flight.specs.Flight.{whole}
 use Rattle.resend.specs.declared.Resent.{Resent}
-use Rattle.resend.specs.Tests.{refusal, resendAnswer}
-use Rattle.resend.specs.Resend.{resendState, resendQueue}
+use Rattle.resend.specs.declared.ResendAnswer.{ResendAnswer}
+use Rattle.resend.specs.Tests.{refusal, isDone, resendAnswer}
+use Rattle.resend.specs.Resend.{Laying, laying, allAgain, resendState, resendQueue}
 use Rattle.process_ack.specs.Ack.{acked}
 use Rattle.process_ack.specs.declared.Acked.{Acked}
 use Rattle.acks.specs.declared.Notes as noted
@@ -88,6 +91,26 @@ resends r v w g f m n x k p q a s t z e =
       ap (flightOf g) z ∙ t .0 ∙ ap (λ (y : Resent). y .flight) e ∙ sym (if-true _ _ h),
       t .1 ∙ sym q,
     )
+
+-- tested: all sent again, or nothing written
+module _ (r : ℕ) (a : ResendAnswer) (w f n k q : List ℕ) (i : isFlat w ≡ true) (j : flatTo f 12 ≡ true) (c : r ≡ refusal a) where
+  pub resends-all : (v g m p : List ℕ) (h : SavedRecords) → isDone a ≡ true → isFlat v ≡ true → ((z : List ℕ) → flights.Kept (whole h z) g)
+      → laying (stateOf v) h m p ≡ allAgain (stateOf w) (flightOf f n) k q
+      → Resends r v w g f m n (resendState a (stateOf w) (flightOf f n) k q) × (p ≡ either w f (resendQueue a (stateOf w) (flightOf f n) k q) q)
+  unfolding resendState resendQueue
+  resends-all v g m p h d l t e = (
+    resends r v w g f m n (record { answer = a; state = stateOf v; flight = whole h m }) _ i j c (refl, l) (t m) refl
+        (ap (λ (y : Laying). record { answer = a; state = y .state; flight = y .flight }) e ∙ sym (if-true _ _ d)),
+    ap (λ (y : Laying). y .queue) e ∙ sym (if-true _ _ d) ∙ sym (if-true _ _ (both-true i ∙ j)),
+  )
+
+  pub resends-nothing : isDone a ≡ false
+      → Resends r w w f f n n (resendState a (stateOf w) (flightOf f n) k q) × (q ≡ either w f (resendQueue a (stateOf w) (flightOf f n) k q) q)
+  unfolding resendState resendQueue
+  resends-nothing d = (
+    resends r w w f f n n (record { answer = a; state = stateOf w; flight = flightOf f n }) _ i j c (refl, i) (refl, j) refl (sym (if-false _ _ d)),
+    sym (if-false _ _ d) ∙ sym (if-true _ _ (both-true i ∙ j)),
+  )
 
 pub acts : (r : ℕ) (g f m n : List ℕ) (x k : Acked) → flatTo f 12 ≡ true → r ≡ sends.refusal (x .answer)
     → flights.Kept (x .flight) g → m ≡ x .flight .numbers → x ≡ k → Acts r g f m n k

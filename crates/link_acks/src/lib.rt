@@ -73,13 +73,14 @@ pub fn resend(
 {
     if send_words::is_flat(w) {
         if flight_words::is_flat(f) {
-            let s = send_words::load(w);
             let g = flight_words::load_records(f);
-            let k = resend::resend_records(s, g, numbers, kept, queue);
-            let a = k.answer;
-            let h = k.records;
-            send_words::save(w, k.state);
-            flight_words::save_records(f, h);
+            let a = resend::resend_answer(send_words::load(w), g, queue.len(), kept.len());
+            if resend::is_done(a) {
+                resend_steps::close(w);
+                let h = resend_steps::resend_all(w, g, numbers, kept, queue);
+                flight_words::save_records(f, h);
+                return resent_of(a);
+            }
             return resent_of(a);
         }
         return 12;

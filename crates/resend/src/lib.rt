@@ -69,7 +69,7 @@ pub struct Again {
     pub records: SavedRecords,
 }
 
-fn is_done(a: ResendAnswer) -> bool
+pub fn is_done(a: ResendAnswer) -> bool
     ensures { λ r. ⌜ r ≡ isDone a ⌝ }
 {
     match a {
@@ -297,7 +297,7 @@ fn is_kept(g: SavedRecords, mtu: usize, room: usize) -> bool
 }
 
 // Whether every saved record that is not acknowledged can be sent again, or why not.
-fn resend_answer(s: Sending, g: SavedRecords, room: usize, kept: usize) -> ResendAnswer
+pub fn resend_answer(s: Sending, g: SavedRecords, room: usize, kept: usize) -> ResendAnswer
     ensures { λ r. ⌜ ((n : List ℕ) → r ≡ resendAnswer s (whole g n) room kept) ⌝ }
 {
     let q = s.queue;
@@ -350,7 +350,7 @@ fn renew(e: Entry, numbers: &mut [u64; 384], i: usize, number: u64) -> Entry
     t
 }
 
-fn renew_if(a: SendAnswer, e: Entry, numbers: &mut [u64; 384], i: usize, number: u64) -> Entry
+pub fn renew_if(a: SendAnswer, e: Entry, numbers: &mut [u64; 384], i: usize, number: u64) -> Entry
     requires { ⌜ i < 12 ⌝ }
     ensures { λ r. ⌜ (r ≡ sentEntry a e number) × (now (numbers .exit) ≡ sentTable a e i (now (numbers .entry))) ⌝ }
 {

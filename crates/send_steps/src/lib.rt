@@ -87,7 +87,7 @@ fn is_keyed(w: &[u64; 59], epoch: u16) -> bool
     send_keys::is_keyed(keys_at(w), epoch)
 }
 
-fn next_of(w: &[u64; 59], epoch: u16) -> u64
+pub fn next_of(w: &[u64; 59], epoch: u16) -> u64
     ensures { λ r. ⌜ r ≡ nextOf (stateOf (now (w .entry)) .keys) epoch ⌝ }
 {
     send_keys::next_of(keys_at(w), epoch)

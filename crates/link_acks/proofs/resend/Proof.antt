@@ -1,9 +1,14 @@
 -- `link_acks::resend` meets its contract. Assumes nothing.
 use borrow.Author.Needs.{needs}
-use mathlib.Core.Path.{_≡_, refl, sym, _∙_}
-use Rattle.base.specs.Choose.{if-true, if-false, both-true, both-false}
-use Rattle.resend.specs.Resend.{resentWhole}
-use Rattle.link_acks.specs.Calls.{resends}
+use mathlib.Core.Path.{refl, sym, ap, subst, _∙_}
+use Rattle.base.specs.Choose.{if-false, both-true, both-false}
+use Rattle.queue.specs.Queue.{InRange}
+use Rattle.outgoing.specs.declared.Sending.{Sending}
+use Rattle.flight.specs.declared.SavedRecords.{SavedRecords}
+use Rattle.resend.specs.Tests.{isDone, closedState, resend-safe, kept-few, closed-range}
+use Rattle.resend.specs.Resend.{laying, againAfter}
+use Rattle.send_words.specs.Words.{stateOf}
+use Rattle.link_acks.specs.Calls.{resends-all, resends-nothing}
 use Rattle.link_acks.proofs.resend.Statement.{statement}
 use Rattle.link_acks.proofs.resend.Tie as tie
 
@@ -13,17 +18,27 @@ is-flat-requires c κs = search needs
 is-flat-requires-2 : tie.Need-is-flat-requires-2
 is-flat-requires-2 c κs = search needs
 
-load-requires : tie.Need-load-requires
-load-requires c κs = search needs
-
 load-records-requires : tie.Need-load-records-requires
 load-records-requires c κs = search needs
 
-resend-records-requires : tie.Need-resend-records-requires
-resend-records-requires c κs = search needs
+load-requires : tie.Need-load-requires
+load-requires c κs = search needs
 
-save-requires : tie.Need-save-requires
-save-requires c κs = search needs
+resend-answer-requires : tie.Need-resend-answer-requires
+resend-answer-requires c κs = search needs
+
+is-done-requires : tie.Need-is-done-requires
+is-done-requires c κs = search needs
+
+close-requires : tie.Need-close-requires
+close-requires c κs = search needs
+
+resend-all-requires : tie.Need-resend-all-requires
+resend-all-requires c κs =
+    let a = c .before .before .before .before .before .before .before .before .before .before .before .before .before .before .before .before .before .before .before .before .args in
+    let e = rw (c .before .before .before .before .before .before .before .before .load .ensures) at (c .before .before .before .before .before .before .before .resend-answer .ensures (a .numbers .now)) in
+    let k = resend-safe _ _ _ _ (ap isDone (sym e) ∙ sym (c .before .before .before .before .before .before .is-done .ensures) ∙ c .before .before .before .before .before .if3 .taken) in
+    (subst (λ (s : Sending). InRange (s .queue)) (sym (c .before .before .before .close .ensures .0)) (closed-range (stateOf (a .w .now)) (k .0 .range)), kept-few _ _ _ (k .1))
 
 save-records-requires : tie.Need-save-records-requires
 save-records-requires c κs = search needs
@@ -36,18 +51,37 @@ same-length c = search needs
 
 returns : tie.Need-returns
 returns c =
-    let p = sym (c .before .before .before .before .before .before .before .before .before .before .before .before .before .before .before .before .before .before .before .is-flat .ensures) ∙ c .before .before .before .before .before .before .before .before .before .before .before .before .before .before .before .before .before .before .if1 .taken in
-    let q = sym (c .before .before .before .before .before .before .before .before .before .before .before .before .before .before .before .before .is-flat2 .ensures) ∙ c .before .before .before .before .before .before .before .before .before .before .before .before .before .before .before .if2 .taken in
-    let e = rw (c .before .before .before .before .before .before .before .before .before .before .before .before .before .load .ensures, c .before .before .before .before .before .before .before .before .before .before .before .load-records .ensures) at (c .before .before .before .before .before .before .before .before .resend-records .ensures) in
-    (resends _ _ _ _ _ _ _ (resentWhole (c .before .before .before .before .before .before .before .before .resend-records .result) _) _ p q (c .resent-of .ensures) (c .before .before .before .save .ensures) (c .before .save-records .ensures _) refl (e .0), e .1 ∙ sym (if-true _ _ (both-true p ∙ q)))
+    let a = c .before .before .before .before .before .before .before .before .before .before .before .before .before .before .before .before .before .before .before .before .before .before .before .before .before .before .args in
+    let g = c .before .before .before .before .before .before .before .before .before .before .before .before .before .before .before .before .load-records in
+    let x = c .before .before .before .before .before .before .before .before .before .close .ensures in
+    let y = c .before .before .before .before .before .resend-all .ensures in
+    let p = sym (c .before .before .before .before .before .before .before .before .before .before .before .before .before .before .before .before .before .before .before .before .before .before .is-flat .ensures) ∙ c .before .before .before .before .before .before .before .before .before .before .before .before .before .before .before .before .before .before .before .before .before .if1 .taken in
+    let q = sym (c .before .before .before .before .before .before .before .before .before .before .before .before .before .before .before .before .before .before .before .is-flat2 .ensures) ∙ c .before .before .before .before .before .before .before .before .before .before .before .before .before .before .before .before .before .before .if2 .taken in
+    let e = rw (c .before .before .before .before .before .before .before .before .before .before .before .before .before .before .load .ensures, g .ensures) at (c .before .before .before .before .before .before .before .before .before .before .before .before .before .resend-answer .ensures (a .numbers .now)) in
+    let l =
+    y .0 ∙ ap (λ (s : Sending). againAfter (a .kept .now) (laying s (g .result) (a .numbers .now) (a .queue .now)) (g .result .saved)) (x .0)
+    ∙ ap (λ (z : SavedRecords). againAfter (a .kept .now) (laying (closedState (stateOf (a .w .now))) z (a .numbers .now) (a .queue .now)) (z .saved)) (g .ensures)
+    in
+    rw (← e) (resends-all _ _ (a .w .now) (a .f .now) (a .numbers .now) (a .kept .now) (a .queue .now) p q (c .resent-of .ensures) _ _ _ _ _ (sym (c .before .before .before .before .before .before .before .before .before .before .before .before .is-done .ensures) ∙ c .before .before .before .before .before .before .before .before .before .before .before .if3 .taken) (y .1 (x .1 p)) (c .before .save-records .ensures) l)
+
+resent-of-requires-2 : tie.Need-resent-of-requires-2
+resent-of-requires-2 c κs = search needs
 
 returns-2 : tie.Need-returns-2
 returns-2 c =
-    let z = both-true (sym (c .before .before .before .before .is-flat .ensures) ∙ c .before .before .before .if1 .taken) ∙ (sym (c .before .is-flat2 .ensures) ∙ c .if2 .left) in
-    ((sym (if-false _ _ z), sym (if-false _ _ z), refl, sym (if-false _ _ z), refl), sym (if-false _ _ z))
+    let a = c .before .before .before .before .before .before .before .before .before .before .before .before .before .before .before .before .args in
+    let p = sym (c .before .before .before .before .before .before .before .before .before .before .before .before .is-flat .ensures) ∙ c .before .before .before .before .before .before .before .before .before .before .before .if1 .taken in
+    let q = sym (c .before .before .before .before .before .before .before .before .before .is-flat2 .ensures) ∙ c .before .before .before .before .before .before .before .before .if2 .taken in
+    let e = rw (c .before .before .before .before .load .ensures, c .before .before .before .before .before .before .load-records .ensures) at (c .before .before .before .resend-answer .ensures (a .numbers .now)) in
+    rw (← e) (resends-nothing _ _ (a .w .now) (a .f .now) (a .numbers .now) (a .kept .now) (a .queue .now) p q (c .resent-of2 .ensures) (sym (c .before .before .is-done .ensures) ∙ c .before .if3 .left))
 
 returns-3 : tie.Need-returns-3
 returns-3 c =
+    let z = both-true (sym (c .before .before .before .before .is-flat .ensures) ∙ c .before .before .before .if1 .taken) ∙ (sym (c .before .is-flat2 .ensures) ∙ c .if2 .left) in
+    ((sym (if-false _ _ z), sym (if-false _ _ z), refl, sym (if-false _ _ z), refl), sym (if-false _ _ z))
+
+returns-4 : tie.Need-returns-4
+returns-4 c =
     let z = both-false _ (sym (c .before .is-flat .ensures) ∙ c .if1 .left) in
     ((sym (if-false _ _ z), sym (if-false _ _ z), refl, sym (if-false _ _ z), refl), sym (if-false _ _ z))
 
@@ -57,13 +91,17 @@ resend-spec =
     (tie.spec
     is-flat-requires
     is-flat-requires-2
-    load-requires
     load-records-requires
-    resend-records-requires
-    save-requires
+    load-requires
+    resend-answer-requires
+    is-done-requires
+    close-requires
+    resend-all-requires
     save-records-requires
     resent-of-requires
     same-length
     returns
+    resent-of-requires-2
     returns-2
-    returns-3)
+    returns-3
+    returns-4)
