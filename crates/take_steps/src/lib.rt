@@ -96,12 +96,12 @@ pub fn take_front(w: &mut [u64; 59], room: usize, have: usize) -> Front
 
 // A part of the queue copied to the start of a buffer.
 fn copy_out(memory: &[u8], from: usize, n: usize, buffer: &mut [u8])
-    requires { ⌜ (from + n ≤ length (now memory)) × (n ≤ length (now buffer)) × (from + n ≤ 24000) ⌝ }
+    requires { ⌜ (from + n ≤ length (now memory)) × (n ≤ length (now buffer)) × (from + n ≤ 24000) × (n ≤ 1500) ⌝ }
     ensures { λ _. ⌜ now (buffer .exit) ≡ splice 0 (part from n (now (memory .entry))) (now (buffer .entry)) ⌝ }
 {
     let to = from + n;
     let start = 0;
-    queue::copy(&memory[from..to], &mut buffer[start..n]);
+    queue::copy_short(&memory[from..to], &mut buffer[start..n]);
 }
 
 // The front datagram, if it is wholly sealed, copied to the start of a lent buffer.

@@ -19,7 +19,7 @@ is-taken-requires : tie.Need-is-taken-requires
 is-taken-requires c κs = search needs
 
 copy-out-requires : tie.Need-copy-out-requires
-copy-out-requires c κs = let d = sym (c .before .before .is-taken .ensures) ∙ c .before .if1 .taken in let t = takes (stateOf (c .before .before .before .before .before .before .before .args .w .now)) (length (c .before .before .before .before .before .before .before .args .memory .now)) (length (c .before .before .before .before .before .before .before .args .buffer .now)) (rw (c .before .before .before .take-front .ensures .0) at (sym (c .before .before .is-taken .ensures) ∙ c .before .if1 .taken)) in let f = front-fits t in let s = c .before .before .before .take-front .ensures .1 ∙ if-true _ _ d in let n = c .before .before .before .take-front .ensures .2 ∙ if-true _ _ d in (omega (arith, f .0, s, n), omega (arith, t .fits, n), omega (arith, f .1, s, n))
+copy-out-requires c κs = let d = sym (c .before .before .is-taken .ensures) ∙ c .before .if1 .taken in let t = takes (stateOf (c .before .before .before .before .before .before .before .args .w .now)) (length (c .before .before .before .before .before .before .before .args .memory .now)) (length (c .before .before .before .before .before .before .before .args .buffer .now)) (rw (c .before .before .before .take-front .ensures .0) at (sym (c .before .before .is-taken .ensures) ∙ c .before .if1 .taken)) in let f = front-fits t in let s = c .before .before .before .take-front .ensures .1 ∙ if-true _ _ d in let n = c .before .before .before .take-front .ensures .2 ∙ if-true _ _ d in (omega (arith, f .0, s, n), omega (arith, t .fits, n), omega (arith, f .1, s, n), omega (arith, t .short, t .ready .range .high, n))
 
 same-length : tie.Need-same-length
 same-length c = search needs
