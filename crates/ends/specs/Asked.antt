@@ -1,19 +1,17 @@
 -- The sealing question that the host is shown: the oldest record that waits, with its part as it was laid when it was first shown.
 -- Assumes nothing.
-use Prim.Native.Nat.{ℕ, _+_, _-_, _*_, _<_, _≤_}
-use borrow.Author.Tests.{eqb-true, eq-eqb, ne-eqb}
-use lib.Dec.{eqb}
+use Prim.Native.Nat.{ℕ, _+_}
+use borrow.Author.Tests.{eqb-true, eq-eqb}
 use lib.ListN.{length}
-use mathlib.Core.Bool.{Bool, true, false, true≢false, false≢true}
 use mathlib.Core.List.{List, [], _∷_, _++_, List·Memᴰ as Mem, List·Memᴰ·head as here, List·Memᴰ·tail as there}
 use mathlib.Core.Option.{Option, none, some}
 use mathlib.Core.Path.{_≡_, refl, sym, ap, subst, _∙_}
 use native.Mathlib.Omega.{arith}
-use Rattle.base.specs.Choose.{choose, both, if-true, if-false, by-test, test-cases, both-left, both-right, both-true}
+use Rattle.base.specs.Choose.{if-true, by-test, test-cases, both-left, both-right, both-true}
 use Rattle.base.specs.Parts.{part}
 use Rattle.dtls_aead.specs.Nonce.{nonceOf}
-use Rattle.queue.specs.Laid.{trailerOf}
 use Rattle.record.specs.Record.{unifiedHeader}
+use Rattle.queue.specs.Laid.{trailerOf}
 use Rattle.send_keys.specs.Keys.{ivOf}
 use Rattle.outgoing.specs.declared.Sending.{Sending}
 use Rattle.sealing.specs.declared.Question.{Question}
@@ -21,7 +19,7 @@ use Rattle.sealing.specs.Sealing.{isAsked, partStart, questionOf, partOf}
 use Rattle.waiting.specs.Effects.{Waited, longer, written, answered}
 use Rattle.waiting.specs.Facts.{Apart, Once, each-as-laid, waits-once}
 use Rattle.waiting.specs.First.{putWith}
-use Rattle.waiting.specs.Oldest.{none-waiting, waiting-some, First, first-of, names-first, question-shows, question-none, part-shows}
+use Rattle.waiting.specs.Oldest.{none-waiting, first-of, names-first, question-shows, question-none, part-shows}
 use Rattle.waiting.specs.Queued.{Queued, plain, waits, sealed, flat, waitingOf, waitsIn, AsLaid, Holds}
 use Rattle.waiting.specs.Seals.{held-again, ready-always}
 use Rattle.history.specs.Lists.{mem-by}
@@ -63,11 +61,14 @@ waiting-cases rs ws q f g =
     (λ t. let h = first-of rs t in g (h .epoch) (h .kind) (h .number) (h .content) (h .part) (h .others) (h .is) (sym q ∙ h .is))
     (λ t. f (sym q ∙ none-waiting rs t))
 
-pub waiting-mem : (r : Queued) (rs : List Queued) → Mem r (waitingOf rs) → Mem r rs
+waiting-mem : (r : Queued) (rs : List Queued) → Mem r (waitingOf rs) → Mem r rs
 waiting-mem r [] m = m
 waiting-mem r (plain t n x ∷ rs) m = there (waiting-mem r rs m)
 waiting-mem r (waits e t n x p ∷ rs) m = mem-by m (λ (q : r ≡ waits e t n x p). here q) (λ o. there (waiting-mem r rs o))
 waiting-mem r (sealed e t n x o p ∷ rs) m = there (waiting-mem r rs m)
+
+pub first-mem : {e t n : ℕ} {x p : List ℕ} (rs us : List Queued) → waitingOf rs ≡ waits e t n x p ∷ us → Mem (waits e t n x p) rs
+first-mem {e} {t} {n} {x} {p} rs us y = waiting-mem (waits e t n x p) rs (subst (Mem (waits e t n x p)) (sym y) (here refl))
 
 pub mem-waiting : (e t n : ℕ) (x p : List ℕ) (rs : List Queued) → Mem (waits e t n x p) rs → Mem (waits e t n x p) (waitingOf rs)
 mem-waiting e t n x p [] m = m

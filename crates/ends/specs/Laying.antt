@@ -1,37 +1,44 @@
 -- Records laid in the queue: what waits was sent, under a number that was neither sent nor sealed before; the lines are the queue's records.
 -- Through one send, and through a message piece by piece. Assumes nothing.
 use Prim.Native.Nat.{ℕ, zero, suc, _+_, _-_, _<_, _≤_}
-use borrow.Author.Tests.{eqb-true, eq-eqb}
 use lib.Dec.{eqb}
 use lib.ListN.{length}
-use mathlib.Core.Bool.{Bool, true, false}
-use mathlib.Core.List.{List, [], _∷_, _++_, append-assoc, List·Memᴰ as Mem, List·Memᴰ·head as here, List·Memᴰ·tail as there, List·Memᴰ·append-cases as mem-append, List·Memᴰ·eq-of-singleton as mem-single}
+use mathlib.Core.Bool.{true}
+use mathlib.Core.List.{List, [], _∷_, _++_, append-assoc, List·Memᴰ as Mem, List·Memᴰ·head as here, List·Memᴰ·append-cases as mem-append, List·Memᴰ·eq-of-singleton as mem-single}
 use mathlib.Core.Logic.{⊎-elim}
 use mathlib.Core.Path.{_≡_, refl, sym, ap, subst, _∙_}
 use native.Mathlib.Omega.{arith}
 use Rattle.base.specs.Choose.{choose, if-true, if-false, by-test, test-cases}
+use Rattle.record.specs.Record.{plaintextHeader}
 use Rattle.queue.specs.Laid.{bytes-plaintext, trailerOf}
 use Rattle.queue.specs.Queue.{lastLen}
-use Rattle.send_keys.specs.Keys.{nextOf, used}
+use Rattle.send_keys.specs.declared.SendKeys.{SendKeys}
+use Rattle.send_keys.specs.Keys.{nextOf}
 use Rattle.outgoing.specs.declared.SendAnswer.{SendAnswer}
 use Rattle.outgoing.specs.declared.Sending.{Sending}
-use Rattle.outgoing.specs.State.{isDone}
 use Rattle.outgoing.specs.Send.{laidState, laidMemory, sendAnswer, sendState, sendMemory}
+use Rattle.outgoing.specs.State.{isDone}
 use Rattle.flight.specs.declared.Flight.{Flight}
 use Rattle.flight.specs.declared.Saved.{Saved}
 use Rattle.flight.specs.Save.{saveAnswer, saveState, saveQueue}
 use Rattle.messages.specs.Cut.{epochOf, overhead, size-rest}
 use Rattle.messages.specs.Message.{contentOf, Laid, pieceOf, sendAll, numbered, beginning, messageState, messageQueue, length-content}
-use Rattle.waiting.specs.Lists.{waiting-append}
-use Rattle.waiting.specs.Pieces.{allSent, afterMessage, message-holds}
-use Rattle.waiting.specs.Queued.{Queued, plain, waits, sealed, bytesOf, laidAs, flat, Holds}
+use Rattle.waiting.specs.Pieces.{allSent, numbered-holds, afterMessage}
+use Rattle.waiting.specs.Queued.{Queued, plain, waits, sealed, bytesOf, flat, Holds}
 use Rattle.waiting.specs.Sends.{Sent, sent, saved, recordOf, sentTo, laid-holds, afterSend, sent-last}
-use Rattle.history.specs.Account.{upd}
 use Rattle.history.specs.Claim.{asHanded}
-use Rattle.history.specs.Lists.{upd-same, upd-by}
+use Rattle.history.specs.Lists.{upd-same}
 use Rattle.history.specs.Receiver.{Sealed, Handed}
+use Rattle.ends.specs.Books.{written, lays, pieceSize, piece, pieceBooks, laysAll, messageBooks}
+use Rattle.ends.specs.Calls.{Stores}
+use Rattle.ends.specs.Laws.{upd-grows, by-three, by-four}
 use Rattle.ends.specs.Numbers.{Numbers, sent-numbers, Ivs, used-ivs}
-use Rattle.ends.specs.Sender.{Line, done, due, Books, lineOf, written, lays, pieceSize, piece, pieceBooks, laysAll, Stores, messageBooks}
+use Rattle.ends.specs.Sender.{Line, done, due, Books, plainBytes, lineOf}
+
+-- the header of a plaintext record is the claim's
+plain-is : (t n : ℕ) (x : List ℕ) → plaintextHeader t n (length x) ++ x ≡ plainBytes t n x
+unfolding plaintextHeader
+plain-is t n x = refl
 
 -- the lines of the queue's records
 abbrev pub lineIn : Queued → Line
@@ -59,6 +66,19 @@ pub record Laying (log : ℕ → List Sealed) (gone : List Line) (ivs : ℕ → 
   pub lines : b .lines ≡ gone ++ linesIn (flat ds)
   pub same-ivs : Ivs (s .keys) ivs
 
+-- another state with the same keys
+pub alike-lays : {log : ℕ → List Sealed} {gone : List Line} {ivs : ℕ → List ℕ} {s u : Sending} {q : List ℕ} {ds : List (List Queued)} {b : Books} → Laying log gone ivs s q ds b
+    → Holds u q ds → u .keys ≡ s .keys → Laying log gone ivs u q ds b
+alike-lays {ivs = ivs} {b = b} i h same = record {
+  holds = h;
+  numbers = subst (λ (k : SendKeys). Numbers k (b .sent)) (sym same) (i .numbers);
+  waiting-sent = i .waiting-sent;
+  sealed-sent = i .sealed-sent;
+  apart = i .apart;
+  lines = i .lines;
+  same-ivs = subst (λ (k : SendKeys). Ivs k ivs) (sym same) (i .same-ivs);
+}
+
 -- ---- one record more
 
 module _ {log : ℕ → List Sealed} {gone : List Line} {ivs : ℕ → List ℕ} {s : Sending} {q : List ℕ} {ds : List (List Queued)} {b : Books} (i : Laying log gone ivs s q ds b)
@@ -67,9 +87,7 @@ module _ {log : ℕ → List Sealed} {gone : List Line} {ivs : ℕ → List ℕ}
   n = nextOf (s .keys) e
 
   grows : (k : ℕ) (h : Handed) → Mem h (b .sent k) → Mem h (written s e t x b .sent k)
-  grows k h =
-      upd-by (b .sent) e (handedAs n t x ∷ b .sent e) (λ k l. Mem h (b .sent k) → Mem h l) k
-      (λ same m. there (subst (λ (v : ℕ). Mem h (b .sent v)) same m)) (λ other m. m)
+  grows = upd-grows (b .sent) e (handedAs n t x)
 
   -- one that waits is an earlier one, or this one
   one-of : {C : Type 0} (e′ t′ n′ : ℕ) (x′ p′ : List ℕ) → Mem (waits e′ t′ n′ x′ p′) (flat (sentTo s e t x ds)) → (Mem (waits e′ t′ n′ x′ p′) (flat ds) → C)
@@ -83,7 +101,7 @@ module _ {log : ℕ → List Sealed} {gone : List Line} {ivs : ℕ → List ℕ}
   line-same : linesIn (recordOf s e t x ∷ []) ≡ lineOf e t n x ∷ []
   line-same =
       test-cases (eqb e 0)
-      (λ z. ap (λ (r : Queued). lineIn r ∷ []) (if-true _ _ z) ∙ ap (λ (l : List ℕ). done l ∷ []) (bytes-plaintext refl t n x) ∙ ap (λ (l : Line). l ∷ []) (sym (if-true _ _ z)))
+      (λ z. ap (λ (r : Queued). lineIn r ∷ []) (if-true _ _ z) ∙ ap (λ (l : List ℕ). done l ∷ []) (bytes-plaintext refl t n x ∙ plain-is t n x) ∙ ap (λ (l : Line). l ∷ []) (sym (if-true _ _ z)))
       (λ z. ap (λ (r : Queued). lineIn r ∷ []) (if-false _ _ z) ∙ ap (λ (l : Line). l ∷ []) (sym (if-false _ _ z)))
 
   laid-on : Laying log gone ivs (laidState s e (length x)) (laidMemory s e t x q) (sentTo s e t x ds) (written s e t x b)
@@ -120,13 +138,7 @@ module _ {log : ℕ → List Sealed} {gone : List Line} {ivs : ℕ → List ℕ}
   lays-on : (a : SendAnswer) → (isDone a ≡ true → Sent s (length q) e t (length x))
       → Laying log gone ivs (choose (isDone a) (laidState s e (length x)) s) (choose (isDone a) (laidMemory s e t x q) q) (afterSend a s e t x ds) (lays a s e t x b)
   unfolding lays
-  lays-on a f =
-      test-cases (isDone a)
-      (λ d.
-      rw (if-true (laidState s e (length x)) s d, if-true (laidMemory s e t x q) q d, if-true (sentTo s e t x ds) ds d, if-true (written s e t x b) b d)
-      (laid-on i e t x (f d)))
-      (λ d.
-      rw (if-false (laidState s e (length x)) s d, if-false (laidMemory s e t x q) q d, if-false (sentTo s e t x ds) ds d, if-false (written s e t x b) b d) i)
+  lays-on a f = by-four (Laying log gone ivs) (isDone a) (λ d. laid-on i e t x (f d)) (λ d. i)
 
   pub send-lays : let a = sendAnswer s (length q) e t (length x) in
       Laying log gone ivs (sendState a s e (length x) .state) (sendMemory a s e t x q) (afterSend a s e t x ds) (lays a s e t x b)
@@ -140,15 +152,8 @@ module _ {log : ℕ → List Sealed} {gone : List Line} {ivs : ℕ → List ℕ}
 
 -- ---- a message, piece by piece
 
--- four choices by one test
-pub by-four : {A B C D : Type 0} (P : A → B → C → D → Type 0) (t : Bool) {a a′ : A} {b b′ : B} {c c′ : C} {d d′ : D} → (t ≡ true → P a b c d) → (t ≡ false → P a′ b′ c′ d′)
-    → P (choose t a a′) (choose t b b′) (choose t c c′) (choose t d d′)
-unfolding choose
-by-four P true f g = f refl
-by-four P false f g = g refl
-
 module _ (log : ℕ → List Sealed) (gone : List Line) (ivs : ℕ → List ℕ) where
-  pub piece-lays : (kind : ℕ) (body : List ℕ) (at : ℕ) (l : Laid) (ds : List (List Queued)) (b : Books) → at + pieceSize kind body at l ≤ length body
+  piece-lays : (kind : ℕ) (body : List ℕ) (at : ℕ) (l : Laid) (ds : List (List Queued)) (b : Books) → at + pieceSize kind body at l ≤ length body
       → Laying log gone ivs (l .saved .state) (l .queue) ds b
       → let s = l .saved .state in
       let x = contentOf kind (s .«message_seq») body at (pieceSize kind body at l) in
@@ -179,33 +184,8 @@ module _ (log : ℕ → List Sealed) (gone : List Line) (ivs : ℕ → List ℕ)
       (contentOf kind (l .saved .state .«message_seq») body at m) ds in
       let c : Books = pieceBooks kind body at l b in
       let one = piece-lays kind body at l ds b low i in
-      test-cases (eqb (length body - (at + m)) 0)
-      (λ z.
-      rw (if-true p (sendAll k kind body (at + m) p) z, if-true us (allSent k kind body (at + m) p us) z, if-true c (laysAll k kind body (at + m) p c) z) one)
-      (λ z.
-      rw (if-false p (sendAll k kind body (at + m) p) z, if-false us (allSent k kind body (at + m) p us) z, if-false c (laysAll k kind body (at + m) p c) z)
-      (all-lays k kind body (at + m) p us c low one))
-
-  -- the number of the message plays no part
-  numbered-lays : (s : Sending) (q : List ℕ) (ds : List (List Queued)) (b : Books) (n : ℕ) → Laying log gone ivs s q ds b → Laying log gone ivs (numbered s n) q ds b
-  numbered-lays s q ds b n i = record {
-    holds = record {
-      range = i .holds .range;
-      room = i .holds .room;
-      table = i .holds .table;
-      count = i .holds .count;
-      rows = i .holds .rows;
-      order = i .holds .order;
-      oldest = i .holds .oldest;
-      keys = i .holds .keys;
-    };
-    numbers = i .numbers;
-    waiting-sent = i .waiting-sent;
-    sealed-sent = i .sealed-sent;
-    apart = i .apart;
-    lines = i .lines;
-    same-ivs = i .same-ivs;
-  }
+      by-three (λ (v : Laid) (vs : List (List Queued)) (d : Books). Laying log gone ivs (v .saved .state) (v .queue) vs d) (eqb (length body - (at + m)) 0)
+      (λ z. one) (λ z. all-lays k kind body (at + m) p us c low one)
 
   pub message-lays : (a : SendAnswer) (w : Stores) (kind : ℕ) (body : List ℕ) (ds : List (List Queued)) (b : Books) → Laying log gone ivs (w .state) (w .queue) ds b
       → Laying log gone ivs (messageState a (w .state) (w .flight) (w .queue) (w .kept) kind body .state) (messageQueue a (w .state) (w .flight) (w .queue) (w .kept) kind body)
@@ -219,6 +199,6 @@ module _ (log : ℕ → List Sealed) (gone : List Line) (ivs : ℕ → List ℕ)
       {a = record { answer = a; state = numbered (l .saved .state) (w .state .«message_seq» + 1); flight = l .saved .flight }}
       {a′ = record { answer = a; state = w .state; flight = w .flight }} {b = l .queue} {b′ = w .queue} {c = us} {c′ = ds} {d = c} {d′ = b}
       (λ z.
-      numbered-lays (l .saved .state) (l .queue) us c (w .state .«message_seq» + 1)
-      (all-lays 13 kind body 0 (beginning (w .state) (w .flight) (w .queue) (w .kept)) ds b (omega arith) i))
+      let all = all-lays 13 kind body 0 (beginning (w .state) (w .flight) (w .queue) (w .kept)) ds b (omega arith) i in
+      alike-lays all (numbered-holds (l .saved .state) (l .queue) us (w .state .«message_seq» + 1) (all .holds)) refl)
       (λ z. i)

@@ -1,22 +1,21 @@
 -- Numbers to send: each record sent in an epoch that may still be used is below that epoch's next number, and no number was sent twice in an
 -- epoch, since no epoch is keyed twice. Assumes nothing.
-use Prim.Native.Nat.{ℕ, _+_, _<_, _≤_}
+use Prim.Native.Nat.{ℕ, _<_, _≤_}
 use borrow.Author.Tests.{eqb-true, eqb-false, eq-eqb, ne-eqb, leb-true, leb-false, ltb-false}
-use lib.Dec.{eqb, leb, ltb}
-use mathlib.Core.Bool.{Bool, true, false, true≢false, false≢true}
-use mathlib.Core.List.{List, [], _∷_, List·Memᴰ as Mem}
+use lib.Dec.{eqb, leb}
+use mathlib.Core.Bool.{Bool, true, false≢true}
+use mathlib.Core.List.{List, _∷_, List·Memᴰ as Mem}
 use mathlib.Core.Logic.{_⊎_, inl, inr, ⊎-elim}
 use mathlib.Core.Path.{_≡_, refl, sym, ap, subst, _∙_}
 use native.Mathlib.Omega.{arith}
-use Rattle.base.specs.Choose.{choose, both, either, if-true, if-false, by-test, test-cases, eq-or-ne, both-left, both-right, either-true, either-false}
-use Rattle.send_keys.specs.Keys.{isUsable, isKeyed, nextOf, used, used-next, sealedUpTo, keyAnswer, begun, keyed}
-use Rattle.send_keys.specs.declared.KeyAnswer.the-variants as key
+use Rattle.base.specs.Choose.{choose, both, either, if-true, if-false, by-test, test-cases, either-true, either-false}
 use Rattle.send_keys.specs.declared.KeyAnswer.{KeyAnswer}
 use Rattle.send_keys.specs.declared.SendKeys.{SendKeys}
+use Rattle.send_keys.specs.Keys.{isUsable, isKeyed, nextOf, used, sealedUpTo, keyAnswer, begun, keyed, next-plaintext, next-handshake, next-application, used-next}
 use Rattle.outgoing.specs.State.{isKeyedNow}
 use Rattle.history.specs.Account.{upd}
 use Rattle.history.specs.Claim.{Once}
-use Rattle.history.specs.Lists.{upd-same, upd-other, upd-by, empty-list, mem-by, either-cases, both-cases}
+use Rattle.history.specs.Lists.{upd-same, upd-other, upd-by, mem-by, either-cases, both-cases}
 use Rattle.history.specs.Receiver.{Handed}
 
 -- at or below an epoch that was keyed
@@ -112,55 +111,46 @@ new-epoch k sound e =
     (λ c z. record { low = ltb-false e 2 a; handshake = leb-false e (k .handshake .epoch) b; application = leb-false e (k .application .epoch) c }))))
     (λ s z. absurd (false≢true z))
 
+-- of an epoch that may be used behind a keying: the new one begins at 0; another could be used before, with the same next number
+abbrev pub Behind : SendKeys → ℕ → ℕ → SendKeys → Type 0
+Behind k e x j = ((x ≡ e) × (nextOf j x ≡ 0)) ⊎ ((x ≡ e → ⊥) × (isUsable k x ≡ true) × (nextOf j x ≡ nextOf k x))
+
+pub keyed-next : (k : SendKeys) (e : ℕ) (iv : List ℕ) → NewEpoch k e → (x : ℕ) → isUsable (keyed k e iv) x ≡ true → Behind k e x (keyed k e iv)
+unfolding keyed isUsable nextOf
+keyed-next k e iv new x =
+    let two : SendKeys = record { «plaintext_next» = k .«plaintext_next»; handshake = begun e iv; application = k .application } in
+    let later : SendKeys = record { «plaintext_next» = k .«plaintext_next»; handshake = k .handshake; application = begun e iv } in
+    by-test (λ j. isUsable j x ≡ true → Behind k e x j)
+    (λ t u.
+    let is : e ≡ 2 = eqb-true _ _ t in
+    test-cases (eqb x 2) (λ a. let q : x ≡ 2 = eqb-true _ _ a in inl (q ∙ sym is, next-handshake two (λ (z : x ≡ 0). omega arith) q))
+    (λ a. inr (λ q. eqb-false x 2 a (q ∙ is), u, ap (choose (eqb x 0) (k .«plaintext_next»)) (if-false _ _ a ∙ sym (if-false _ _ a)))))
+    (λ t u.
+    let low = new .low in
+    let not-two : e ≡ 2 → ⊥ = eqb-false _ _ t in
+    usable-cases later x u (λ (q : x ≡ 0). inr (λ (z : x ≡ e). omega arith, either-true _ (eq-eqb x 0 q), next-plaintext later q ∙ sym (next-plaintext k q)))
+    (λ (q : x ≡ 2).
+    let some : x ≡ 0 → ⊥ = λ (z : x ≡ 0). omega arith in
+    inr (λ (z : x ≡ e). not-two (sym z ∙ q), either-false (ne-eqb x 0 some) ∙ either-true _ (eq-eqb x 2 q), next-handshake later some q ∙ sym (next-handshake k some q)))
+    (λ (l : 3 ≤ x) q. inl (q, next-application later (λ (z : x ≡ 0). omega arith) (λ (z : x ≡ 2). omega arith))))
+
 module _ (k : SendKeys) (sent : ℕ → List Handed) (i : Numbers k sent) (e : ℕ) (iv : List ℕ) (n : NewEpoch k e) where
   unused-yet : (h : Handed) → Mem h (sent e) → ⊥
   unused-yet h m = ⊎-elim (λ l. omega (arith, n .handshake)) (λ l. omega (arith, n .application)) (i .early e h m)
 
-  abbrev handshakeKeyed : SendKeys
-  handshakeKeyed = record { «plaintext_next» = k .«plaintext_next»; handshake = begun e iv; application = k .application }
-
-  abbrev applicationKeyed : SendKeys
-  applicationKeyed = record { «plaintext_next» = k .«plaintext_next»; handshake = k .handshake; application = begun e iv }
-
-  next-two : (x : ℕ) → (x ≡ 2 → ⊥) → nextOf handshakeKeyed x ≡ nextOf k x
-  unfolding nextOf choose
-  next-two x ne = rw (ne-eqb x 2 ne)
-
-  next-low : (x : ℕ) → (x ≡ 0) ⊎ (x ≡ 2) → nextOf applicationKeyed x ≡ nextOf k x
-  unfolding nextOf choose
-  next-low x c = ⊎-elim (λ q. rw (eq-eqb x 0 q)) (λ q. rw (eq-eqb x 2 q)) c
-
-  low-usable : (x : ℕ) → (x ≡ 0) ⊎ (x ≡ 2) → isUsable k x ≡ true
-  unfolding isUsable
-  low-usable x c = ⊎-elim (λ q. either-true _ (eq-eqb x 0 q)) (λ (q : x ≡ 2). either-false (ne-eqb x 0 (λ z. omega arith)) ∙ either-true _ (eq-eqb x 2 q)) c
-
-  -- the first keyed of all is epoch 2, or every one is an application epoch
-  pub keyed-numbers : Numbers (keyed k e iv) sent
+  keyed-reached : (x : ℕ) → Reached k x → Reached (keyed k e iv) x
   unfolding keyed
-  keyed-numbers =
-      by-test (λ l. Numbers l sent)
-      (λ t.
-      let two : e ≡ 2 = eqb-true _ _ t in
-      record {
-        once = i .once;
-        below = λ x h m v.
-            let ux : isUsable k x ≡ true = sym (usable-same k handshakeKeyed x refl) ∙ v in
-            let l : h .num < nextOf k x = i .below x h m ux in
-            let ne : x ≡ 2 → ⊥ = λ q. unused-yet h (subst (λ (y : ℕ). Mem h (sent y)) (q ∙ sym two) m) in
-            subst (λ (y : ℕ). h .num < y) (sym (next-two x ne)) l;
-        early = λ x h m. ⊎-elim (λ l. inl (omega (arith, n .handshake))) (λ l. inr l) (i .early x h m);
-      })
-      (λ t. record {
-        once = i .once;
-        below = λ x h m v.
-            usable-cases applicationKeyed x v
-            (λ (q : x ≡ 0). let l : h .num < nextOf k x = i .below x h m (low-usable x (inl q)) in
-            subst (λ (y : ℕ). h .num < y) (sym (next-low x (inl q))) l)
-            (λ (q : x ≡ 2). let l : h .num < nextOf k x = i .below x h m (low-usable x (inr q)) in
-            subst (λ (y : ℕ). h .num < y) (sym (next-low x (inr q))) l)
-            (λ low (q : x ≡ e). absurd (unused-yet h (subst (λ (y : ℕ). Mem h (sent y)) q m)));
-        early = λ x h m. ⊎-elim (λ l. inl l) (λ l. inr (omega (arith, n .application))) (i .early x h m);
-      })
+  keyed-reached x r =
+      by-test (λ l. Reached l x) (λ t. ⊎-elim (λ l. inl (omega (arith, n .handshake))) (λ l. inr l) r) (λ t. ⊎-elim (λ l. inl l) (λ l. inr (omega (arith, n .application))) r)
+
+  pub keyed-numbers : Numbers (keyed k e iv) sent
+  keyed-numbers = record {
+    once = i .once;
+    below = λ x h m v.
+        ⊎-elim (λ y. absurd (unused-yet h (subst (λ (z : ℕ). Mem h (sent z)) (y .0) m)))
+        (λ y. subst (λ (z : ℕ). h .num < z) (sym (y .2)) (i .below x h m (y .1))) (keyed-next k e iv n x v);
+    early = λ x h m. keyed-reached x (i .early x h m);
+  }
 
 -- ---- the IVs
 

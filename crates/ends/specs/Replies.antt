@@ -1,42 +1,39 @@
 -- An accepted sealing reply: what is then logged as sealed is the record as it was sent, its wire the masked header and what the host left; its
 -- number was not sealed before. Assumes nothing.
-use Prim.Native.Nat.{ℕ, _+_, _-_, _*_, _%_, _<_, _≤_}
+use Prim.Native.Nat.{ℕ, _+_, _-_, _<_, _≤_}
 use borrow.Author.Tests.{eqb-true, eq-eqb}
-use lib.Bits.{bitXor}
 use lib.Dec.{eqb}
 use lib.ListN.{length, take, drop, getD}
 use lib.Seq.{take-add, take-append-seam, getD-append-add}
-use mathlib.Core.Bool.{Bool, true, false, true≢false, false≢true}
+use mathlib.Core.Bool.{true, false≢true}
 use mathlib.Core.List.{List, [], _∷_, _++_, List·Memᴰ as Mem, List·Memᴰ·head as here, List·Memᴰ·tail as there}
-use mathlib.Core.Logic.{_⊎_, inl, inr, ⊎-elim}
-use mathlib.Core.Option.{Option, none, some}
+use mathlib.Core.Logic.{inl, inr, ⊎-elim}
 use mathlib.Core.Path.{_≡_, refl, sym, ap, subst, _∙_}
 use native.Mathlib.Omega.{arith}
-use Rattle.base.specs.Bytes.{be, xors}
-use Rattle.base.specs.Choose.{choose, both, either, if-true, if-false, by-test, test-cases, both-true}
+use Rattle.base.specs.Choose.{choose, either, if-true, by-test, test-cases, both-true}
 use Rattle.base.specs.Parts.{part, part-behind, splice, splice-here}
-use Rattle.queue.specs.Laid.{trailerOf}
 use Rattle.record.specs.Record.{isType, unifiedHeader}
+use Rattle.queue.specs.Laid.{trailerOf}
 use Rattle.send_keys.specs.declared.SendKeys.{SendKeys}
-use Rattle.send_keys.specs.Keys.{isUsable, nextOf, sealedUpTo}
+use Rattle.send_keys.specs.Keys.{nextOf, sealedUpTo}
 use Rattle.outgoing.specs.declared.Sending.{Sending}
 use Rattle.outgoing.specs.State.{isContentType}
 use Rattle.sealing.specs.declared.SealAnswer.{SealAnswer}
 use Rattle.sealing.specs.Laws.{sealed-after}
 use Rattle.sealing.specs.Sealing.{partStart, maskedHeader, sealAnswer, isSealed, afterSealing, sealedState, sealedMemory, length-masked, sealed-held, part-fits}
 use Rattle.waiting.specs.Facts.{each-lies, waits-once}
-use Rattle.waiting.specs.First.{sealWith, firstIn, firstOf, flat-first}
-use Rattle.waiting.specs.Oldest.{Names, first-of, names-first, waiting-sealed}
-use Rattle.waiting.specs.Queued.{Queued, plain, waits, sealed, bytesOf, flat, waitingOf, waitsIn, Holds}
+use Rattle.waiting.specs.First.{sealWith, firstIn, flat-first}
+use Rattle.waiting.specs.Oldest.{Names, names-first, waiting-sealed}
+use Rattle.waiting.specs.Queued.{Queued, plain, waits, sealed, flat, waitingOf, waitsIn, Holds}
 use Rattle.waiting.specs.Seals.{afterReply, seal-holds, seal-told}
 use Rattle.history.specs.Account.{upd}
 use Rattle.history.specs.Claim.{Masks, asHanded}
 use Rattle.history.specs.Half.{Shape}
 use Rattle.history.specs.Lists.{upd-by, mem-by}
 use Rattle.history.specs.Receiver.{Sealed, Handed}
-use Rattle.ends.specs.Asked.{lentFor, part-is, waiting-mem, mem-waiting, first-alone}
+use Rattle.ends.specs.Asked.{lentFor, first-mem, mem-waiting, first-alone, part-is}
 use Rattle.ends.specs.Laying.{lineIn, linesIn, Laying}
-use Rattle.ends.specs.Numbers.{Reached, Numbers, usable-same, Ivs, sealed-ivs}
+use Rattle.ends.specs.Numbers.{Numbers, usable-same, Ivs, sealed-ivs}
 use Rattle.ends.specs.Sender.{Line, done, due, Books, finish, AllDone, sealedAs}
 
 -- a record as it is logged
@@ -59,7 +56,7 @@ sealed-tests s q ds h k d =
     (subst (λ a. isSealed a ≡ true) (seal-told s q ds h k) d)
 
 -- no content type is 0
-pub typed : (e t : ℕ) → isContentType e t ≡ true → t ≡ 0 → ⊥
+typed : (e t : ℕ) → isContentType e t ≡ true → t ≡ 0 → ⊥
 unfolding isContentType isType either choose
 typed e t h z =
     let f : isContentType e 0 ≡ true = subst (λ (x : ℕ). isContentType e x ≡ true) z h in
@@ -123,9 +120,6 @@ module _ (s : Sending) (q : List ℕ) (ds : List (List Queued)) (h : Holds s q d
   pub sealed-is : sealedAs (lentFor s e t n x) q q′ ≡ logged e t n x m p
   sealed-is = same-log type-is content-is (part-is s q ds h e t n x p us y) wire-is
 
-  sound-one : Mem (waits e t n x p) (flat ds)
-  sound-one = waiting-mem (waits e t n x p) (flat ds) (subst (Mem (waits e t n x p)) (sym y) (here refl))
-
   mask-same : (v : List ℕ) → getD m 0 0 ≡ getD v 0 0 → getD m 1 0 ≡ getD v 1 0 → (len : ℕ) → maskedHeader e n len m ≡ maskedHeader e n len v
   unfolding maskedHeader
   mask-same v one two len = rw (one, two)
@@ -133,7 +127,7 @@ module _ (s : Sending) (q : List ℕ) (ds : List (List Queued)) (h : Holds s q d
   -- with the sender's mask it has the form of a sealed record
   pub shape-is : (masks : Masks) → getD m 0 0 ≡ getD (masks e (take 16 p)) 0 0 → getD m 1 0 ≡ getD (masks e (take 16 p)) 1 0 → Shape masks e (logged e t n x m p)
   shape-is masks one two =
-      let r = each-lies s q ds h (waits e t n x p) sound-one .stands .sound in
+      let r = each-lies s q ds h (waits e t n x p) (first-mem (flat ds) us y) .stands .sound in
       record {
         typed = typed e t (r .kind);
         size = r .part;
@@ -154,7 +148,7 @@ still-waits m e t n x p (waits a b c d f ∷ rs) o =
 still-waits m e t n x p (sealed a b c d f g ∷ rs) o = mem-by o (λ (q : waits e t n x p ≡ sealed a b c d f g). here q) (λ o′. there (still-waits m e t n x p rs o′))
 
 -- the line of the first that waits is finished
-pub lines-sealed : (m : List ℕ) (e t n : ℕ) (x p : List ℕ) (us rs : List Queued) → waitingOf rs ≡ waits e t n x p ∷ us
+lines-sealed : (m : List ℕ) (e t n : ℕ) (x p : List ℕ) (us rs : List Queued) → waitingOf rs ≡ waits e t n x p ∷ us
     → finish e n (maskedHeader e n (length x + 17) m ++ p) (linesIn rs) ≡ linesIn (firstIn (sealWith m) rs)
 lines-sealed m e t n x p us [] y = absurd (let z : _≡_ {A = ℕ} 0 1 = cc in omega arith)
 lines-sealed m e t n x p us (plain a b c ∷ rs) y = ap (λ (l : List Line). lineIn (plain a b c) ∷ l) (lines-sealed m e t n x p us rs y)
@@ -167,12 +161,12 @@ lines-sealed m e t n x p us (waits a b c d f ∷ rs) y =
 lines-sealed m e t n x p us (sealed a b c d f g ∷ rs) y = ap (λ (l : List Line). lineIn (sealed a b c d f g) ∷ l) (lines-sealed m e t n x p us rs y)
 
 -- lines that are finished
-pub finish-behind : (e n : ℕ) (b : List ℕ) (gone ls : List Line) → AllDone gone → finish e n b (gone ++ ls) ≡ gone ++ finish e n b ls
+finish-behind : (e n : ℕ) (b : List ℕ) (gone ls : List Line) → AllDone gone → finish e n b (gone ++ ls) ≡ gone ++ finish e n b ls
 finish-behind e n b [] ls a = refl
 finish-behind e n b (done c ∷ gone) ls a = ap (λ (l : List Line). done c ∷ l) (finish-behind e n b gone ls a)
 finish-behind e n b (due k m ∷ gone) ls a = absurd a
 
-pub same-numbers : (k l : SendKeys) (sent : ℕ → List Handed) → l .handshake .epoch ≡ k .handshake .epoch → l .application .epoch ≡ k .application .epoch
+same-numbers : (k l : SendKeys) (sent : ℕ → List Handed) → l .handshake .epoch ≡ k .handshake .epoch → l .application .epoch ≡ k .application .epoch
     → ((x : ℕ) → nextOf l x ≡ nextOf k x) → Numbers k sent → Numbers l sent
 same-numbers k l sent a b c i = record {
   once = i .once;
@@ -206,12 +200,9 @@ module _ (log : ℕ → List Sealed) (gone : List Line) (ivs : ℕ → List ℕ)
   flat-is : flat (afterReply (sealAnswer s (length q) k) m ds) ≡ firstIn (sealWith m) (flat ds)
   flat-is = ap flat (if-true _ _ d) ∙ flat-first (sealWith m) ds
 
-  first-one : Mem (waits e t n x p) (flat ds)
-  first-one = waiting-mem (waits e t n x p) (flat ds) (subst (Mem (waits e t n x p)) (sym y) (here refl))
-
   -- the number was not sealed before
   pub not-sealed : (r : Sealed) → Mem r (log e) → r .num ≡ n → ⊥
-  not-sealed r o z = i .apart e t n x p first-one r o z
+  not-sealed r o z = i .apart e t n x p (first-mem (flat ds) us y) r o z
 
   -- no other that waits has it
   none-with : (e′ t′ n′ : ℕ) (x′ p′ : List ℕ) → Mem (waits e′ t′ n′ x′ p′) (firstIn (sealWith m) (flat ds)) → e′ ≡ e → n′ ≡ n → ⊥
@@ -246,7 +237,7 @@ module _ (log : ℕ → List Sealed) (gone : List Line) (ivs : ℕ → List ℕ)
         upd-by log e (new ∷ log e) (λ c l. Mem r l → Mem (asHanded r) (b .sent c)) c
         (λ same o.
         subst (λ (v : ℕ). Mem (asHanded r) (b .sent v)) (sym same)
-        (mem-by o (λ (z : r ≡ new). subst (λ (v : Sealed). Mem (asHanded v) (b .sent e)) (sym z) (i .waiting-sent e t n x p first-one)) (λ o′. i .sealed-sent e r o′)))
+        (mem-by o (λ (z : r ≡ new). subst (λ (v : Sealed). Mem (asHanded v) (b .sent e)) (sym z) (i .waiting-sent e t n x p (first-mem (flat ds) us y))) (λ o′. i .sealed-sent e r o′)))
         (λ other o. i .sealed-sent c r o);
     apart = λ e′ t′ n′ x′ p′ o r.
         let f = subst (Mem (waits e′ t′ n′ x′ p′)) flat-is o in

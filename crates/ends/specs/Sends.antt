@@ -1,98 +1,58 @@
 -- The sending half through each of its calls: what waits, what was sent, sealed and taken. Assumes nothing.
-use Prim.Native.Nat.{ℕ, zero, suc, _+_, _-_, _*_, _<_, _≤_}
-use borrow.Author.Tests.{eqb-true, eqb-false, eq-eqb, ne-eqb}
-use lib.Dec.{eqb}
+use Prim.Native.Nat.{ℕ, _+_, _*_, _<_, _≤_}
+use borrow.Author.Tests.{eq-eqb, ne-eqb}
 use lib.ListN.{length, take, getD}
-use mathlib.Core.Bool.{Bool, true, false, true≢false, false≢true}
+use mathlib.Core.Bool.{true, false, true≢false, false≢true}
 use mathlib.Core.List.{List, [], _∷_, _++_, append-assoc, append-nil, List·Memᴰ as Mem, List·Memᴰ·head as here, List·Memᴰ·tail as there, Memᴰ·append-right as mem-right}
-use mathlib.Core.Logic.{_⊎_, inl, inr, ⊎-elim}
+use mathlib.Core.Logic.{⊎-elim}
 use mathlib.Core.Option.{Option, none, some}
 use mathlib.Core.Path.{_≡_, refl, sym, ap, subst, _∙_}
 use native.Mathlib.Omega.{arith}
-use Rattle.base.specs.Choose.{choose, if-true, if-false, by-test, test-cases, eq-or-ne}
+use Rattle.base.specs.Choose.{if-true, if-false, by-test, test-cases, eq-or-ne}
 use Rattle.base.specs.Parts.{part, part-first, splice, splice-here}
 use Rattle.dtls_aead.specs.Nonce.{nonceOf}
 use Rattle.queue.specs.Queue.{isSetting, isSound}
-use Rattle.send_keys.specs.declared.SendKeys.{SendKeys}
 use Rattle.send_keys.specs.declared.KeyAnswer.{KeyAnswer}
-use Rattle.send_keys.specs.Keys.{isUsable, nextOf, next-handshake, ivOf, keyAnswer, keyed, noEpoch, noKeys}
+use Rattle.send_keys.specs.declared.SendKeys.{SendKeys}
+use Rattle.send_keys.specs.Keys.{nextOf, next-handshake, ivOf, keyAnswer, noEpoch, noKeys}
 use Rattle.outgoing.specs.declared.Sending.{Sending}
-use Rattle.outgoing.specs.State.{freshSending, isKeyedNow, withKeys, keyingState}
-use Rattle.outgoing.specs.Send.{sendAnswer}
-use Rattle.flight.specs.Save.{saveAnswer}
-use Rattle.messages.specs.Message.{messageAnswer}
-use Rattle.resend.specs.declared.ResendAnswer.{ResendAnswer}
-use Rattle.resend.specs.Tests.{resendAnswer}
+use Rattle.outgoing.specs.State.{freshSending, keyingState}
 use Rattle.sealing.specs.declared.SealAnswer.{SealAnswer}
-use Rattle.taking.specs.declared.TakeAnswer.the-variants as took
-use Rattle.taking.specs.declared.TakeAnswer.{TakeAnswer}
 use Rattle.sealing.specs.Laws.{refused-state, refused-memory}
+use Rattle.sealing.specs.Sealing.{partStart, maskedHeader, isPut, putMemory, sealAnswer, isSealed, sealedMemory}
+use Rattle.taking.specs.declared.TakeAnswer.{TakeAnswer}
+use Rattle.taking.specs.declared.TakeAnswer.the-variants as took
 use Rattle.taking.specs.Laws.{kept-state}
-use Rattle.sealing.specs.Sealing.{partStart, maskedHeader, isPut, putMemory, sealAnswer, isSealed, sealedState, sealedMemory}
 use Rattle.taking.specs.Take.{frontLen, takeAnswer, isTaken, takeState, takeBuffer, takes}
+use Rattle.messages.specs.Message.{messageAnswer}
+use Rattle.resend.specs.Tests.{resendAnswer}
 use Rattle.waiting.specs.Calls as call
-use Rattle.waiting.specs.Calls.Call.{key as keyCall, send as sendCall, save as saveCall, message as messageCall, begin as beginCall, put as putCall, reply as replyCall, take as takeCall}
-use Rattle.waiting.specs.Effects.{adds, Waited, oldest-first}
+use Rattle.waiting.specs.Calls.Call.{key as keyCall, send as sendCall, save as saveCall, message as messageCall, begin as beginCall, put as putCall, reply as replyCall, take as takeCall, resend as resendCall, act as actCall, ack as ackCall}
+use Rattle.waiting.specs.Effects.{Waited, oldest-first}
 use Rattle.waiting.specs.Facts.{each-lies, waits-between, waits-under}
-use Rattle.waiting.specs.First.{sealWith, putWith, firstIn, flat-first}
+use Rattle.waiting.specs.First.{putWith, firstIn, flat-first}
 use Rattle.waiting.specs.Fresh.{fresh-holds}
 use Rattle.waiting.specs.Keying.{keying-holds}
-use Rattle.waiting.specs.Oldest.{First, first-of, names-first}
-use Rattle.waiting.specs.Pieces.{Behind}
+use Rattle.waiting.specs.Oldest.{first-of, names-first}
 use Rattle.waiting.specs.Queued.{Queued, plain, waits, sealed, bytesOf, bytes, flat, waitingOf, waitsIn, sealedOf, Holds}
 use Rattle.waiting.specs.Seals.{afterPut, put-holds, afterReply}
 use Rattle.waiting.specs.Takes.{front-size, take-told, afterTaken, taken-settled, take-holds, take-bytes}
 use Rattle.history.specs.Account.{upd}
-use Rattle.history.specs.Claim.{Masks}
+use Rattle.history.specs.Claim.{Masks, nonceFor}
+use Rattle.history.specs.Cut.{nonce-own}
 use Rattle.history.specs.Direction.{Shaped}
 use Rattle.history.specs.Half.{Shape}
-use Rattle.history.specs.Lists.{by-both, upd-same, upd-by, some-inj, some≢none, mem-by}
-use Rattle.history.specs.Receiver.{Sealed, Handed}
-use Rattle.ends.specs.Asked.{lentFor, LentIs, waiting-cases, waiting-mem, part-is, lends-is, shows-after}
+use Rattle.history.specs.Lists.{by-both, upd-by, some-inj, some≢none, mem-by}
+use Rattle.history.specs.Receiver.{Sealed}
+use Rattle.ends.specs.Asked.{lentFor, LentIs, waiting-cases, first-mem, part-is, lends-is, shows-after}
+use Rattle.ends.specs.Books.{sendsBy}
+use Rattle.ends.specs.Calls.{Stores, SendCall, keySend·, send·, save·, message·, beginFlight·, resend·, note·, sendAck·, ack·, fill·, sealed·, take·, stored}
+use Rattle.ends.specs.Laws.{upd-grows}
 use Rattle.ends.specs.Laying.{lineIn, linesIn, lines-append, Laying, send-lays, save-lays, message-lays}
-use Rattle.ends.specs.Numbers.{Numbers, NewEpoch, new-epoch, keyed-numbers, Ivs, keyed-ivs}
+use Rattle.ends.specs.Numbers.{Numbers, new-epoch, keyed-numbers, Ivs, keyed-ivs}
 use Rattle.ends.specs.Replies.{logged, sealed-tests, sealed-is, shape-is, not-sealed, reply-lays}
-use Rattle.ends.specs.Resends.{afterResend, ackDs, resend-lays, resend-behind, ack-lays, ack-behind}
-use Rattle.ends.specs.Sender.{
-  Stores,
-  Line,
-  done,
-  due,
-  Books,
-  Lent,
-  lends,
-  finished,
-  AllDone,
-  joined,
-  datagrams,
-  Taken,
-  Sender,
-  sealedAs,
-  finish,
-  FairSeal,
-  FairSend,
-  SendCall,
-  keySend·,
-  send·,
-  save·,
-  message·,
-  beginFlight·,
-  resend·,
-  note·,
-  sendAck·,
-  ack·,
-  fill·,
-  sealed·,
-  take·,
-  turns,
-  keyedBy,
-  sealedBy,
-  finishedBy,
-  takenBy,
-  stored,
-  sends,
-  newSender,
-}
+use Rattle.ends.specs.Resends.{resend-lays, ack-lays}
+use Rattle.ends.specs.Sender.{Line, done, due, Books, Lent, lends, finished, AllDone, joined, datagrams, Taken, Sender, sealedAs, finish, FairSeal, FairSend, turns, keyedBy, sealedBy, finishedBy, takenBy, newSender}
 
 -- no number is sealed twice in an epoch
 abbrev pub SealedOnce : (ℕ → List Sealed) → Type 0
@@ -240,41 +200,36 @@ module _ (masks : Masks) (x : Sender) (i : Sends masks x) where
   effect : (c : call.Call) → Waited (flat (i .ds)) (flat (call.after (endOf (x .stores)) c (i .ds)))
   effect c = oldest-first _ _ (call.call-effect (endOf (x .stores)) c (i .ds) (i .laying .holds))
 
-  send-keeps : (e t : ℕ) (c : List ℕ) → Sends masks (sends x (send· e t c))
+  send-keeps : (e t : ℕ) (c : List ℕ) → Sends masks (sendsBy x (send· e t c))
   send-keeps e t c = simple _ _ _ (x .ivs) (send-lays (i .laying) e t c) (effect (sendCall e t c))
 
-  save-keeps : (e t : ℕ) (c : List ℕ) → Sends masks (sends x (save· e t c))
+  save-keeps : (e t : ℕ) (c : List ℕ) → Sends masks (sendsBy x (save· e t c))
   save-keeps e t c = simple _ _ _ (x .ivs) (save-lays (i .laying) e t c (x .stores .flight) (length (x .stores .kept))) (effect (saveCall e t c))
 
-  message-keeps : (kind : ℕ) (body : List ℕ) → Sends masks (sends x (message· kind body))
+  message-keeps : (kind : ℕ) (body : List ℕ) → Sends masks (sendsBy x (message· kind body))
   message-keeps kind body =
       simple _ _ _ (x .ivs)
       (message-lays (x .sealed) (i .gone) (x .ivs)
       (messageAnswer (w .state) (w .flight) (length (w .queue)) (length (w .kept)) kind (length body)) w kind body (i .ds) (x .books) (i .laying))
       (effect (messageCall kind body))
 
-  begin-keeps : Sends masks (sends x beginFlight·)
+  begin-keeps : Sends masks (sendsBy x beginFlight·)
   begin-keeps = simple _ (i .ds) _ (x .ivs) (i .laying) (effect beginCall)
 
-  -- ---- what is laid behind the others, and what touches no queue
-
-  added : (us : List (List Queued)) → Behind (flat (i .ds)) (flat us) → Waited (flat (i .ds)) (flat us)
-  added us b = oldest-first _ _ (adds (b .more) (b .laid) (b .all))
-
-  resend-keeps : Sends masks (sends x resend·)
+  resend-keeps : Sends masks (sendsBy x resend·)
   resend-keeps =
-      let a : ResendAnswer = resendAnswer (w .state) (w .flight) (length (w .queue)) (length (w .kept)) in
-      simple _ _ _ (x .ivs) (resend-lays (x .sealed) (i .gone) (x .ivs) a w (i .ds) (x .books) (i .laying)) (added (afterResend a w (i .ds)) (resend-behind (x .sealed) (i .gone) (x .ivs) a w (i .ds)))
+      simple _ _ _ (x .ivs)
+      (resend-lays (x .sealed) (i .gone) (x .ivs)
+      (resendAnswer (w .state) (w .flight) (length (w .queue)) (length (w .kept))) w (i .ds) (x .books) (i .laying)) (effect resendCall)
 
-  sendAck-keeps : Sends masks (sends x sendAck·)
-  sendAck-keeps =
-      simple _ _ _ (x .ivs) (ack-lays (x .sealed) (i .gone) (x .ivs) w (i .ds) (x .books) (i .laying)) (added (ackDs w (i .ds)) (ack-behind (x .sealed) (i .gone) (x .ivs) w (i .ds)))
+  sendAck-keeps : Sends masks (sendsBy x sendAck·)
+  sendAck-keeps = simple _ _ _ (x .ivs) (ack-lays (x .sealed) (i .gone) (x .ivs) w (i .ds) (x .books) (i .laying)) (effect (ackCall (x .stores .notes)))
 
-  note-keeps : (e n : ℕ) → Sends masks (sends x (note· e n))
+  note-keeps : (e n : ℕ) → Sends masks (sendsBy x (note· e n))
   note-keeps e n = simple _ (i .ds) _ (x .ivs) (i .laying) (effect beginCall)
 
-  ack-keeps : (d : List ℕ) → Sends masks (sends x (ack· d))
-  ack-keeps d = simple _ (i .ds) _ (x .ivs) (i .laying) (effect beginCall)
+  ack-keeps : (d : List ℕ) → Sends masks (sendsBy x (ack· d))
+  ack-keeps d = simple _ (i .ds) _ (x .ivs) (i .laying) (effect (actCall d))
 
   -- stores as they were
   pub turned : (v : Stores) → v ≡ x .stores → Sends masks (turns x v (x .books) (x .ivs) (x .sealed) (x .taken))
@@ -307,12 +262,12 @@ module _ (masks : Masks) (x : Sender) (i : Sends masks x) where
           by-test (λ (us : List (List Queued)). linesIn (flat us) ≡ linesIn (flat (i .ds)))
           (λ z. ap linesIn (flat-first (putWith v) (i .ds)) ∙ put-lines v (flat (i .ds))) (λ z. refl)
 
-  fill-keeps : (v : List ℕ) → Sends masks (sends x (fill· v))
+  fill-keeps : (v : List ℕ) → Sends masks (sendsBy x (fill· v))
   fill-keeps v = simple _ _ _ (x .ivs) (put-lays v) (effect (putCall v))
 
   -- ---- keying
 
-  key-keeps : (e : ℕ) (iv : List ℕ) → e < 65536 → Sends masks (sends x (keySend· e iv))
+  key-keeps : (e : ℕ) (iv : List ℕ) → e < 65536 → Sends masks (sendsBy x (keySend· e iv))
   key-keeps e iv small =
       simple _ (i .ds) _ _ (record {
         holds = keying-holds (w .state) (w .queue) (i .ds) (i .laying .holds) e iv small;
@@ -357,7 +312,7 @@ module _ (masks : Masks) (x : Sender) (i : Sends masks x) where
     taken = i .taken;
   }
 
-  refused-reply : (k : ℕ) (m : List ℕ) → isSealed (sealAnswer (w .state) (length (w .queue)) k) ≡ false → Sends masks (sends x (sealed· k m))
+  refused-reply : (k : ℕ) (m : List ℕ) → isSealed (sealAnswer (w .state) (length (w .queue)) k) ≡ false → Sends masks (sendsBy x (sealed· k m))
   refused-reply k m f =
       let a : SealAnswer = sealAnswer (w .state) (length (w .queue)) k in
       subst (λ (b : Books). Sends masks (turns x (stored w (sealed· k m)) b (x .ivs) (sealedBy a (x .lent) (w .queue) (sealedMemory a (w .state) m (w .queue)) (x .sealed)) (x .taken)))
@@ -412,7 +367,7 @@ module _ (masks : Masks) (x : Sender) (i : Sends masks x) where
         shape-is (w .state) (w .queue) (i .ds) (i .laying .holds) k m d e t n c p us y masks
         (mine .0 ∙ ap (λ (l : List ℕ). getD (masks e l) 0 0) sample) (mine .1 ∙ ap (λ (l : List ℕ). getD (masks e l) 1 0) sample)
 
-    accepted-reply : Sends masks (sends x (sealed· k m))
+    accepted-reply : Sends masks (sendsBy x (sealed· k m))
     accepted-reply =
         subst (λ (b : Books). Sends masks (turns x (stored w (sealed· k m)) b (x .ivs) (sealedBy answer (x .lent) (w .queue) behind (x .sealed)) (x .taken))) (sym books-then)
         (subst (λ (log : ℕ → List Sealed). Sends masks (turns x (stored w (sealed· k m))
@@ -423,7 +378,7 @@ module _ (masks : Masks) (x : Sender) (i : Sends masks x) where
         (λ r o z. not-sealed (x .sealed) (i .gone) (x .ivs) (i .over) (w .state) (w .queue) (i .ds) (x .books) (i .laying) k m d e t n c p us y r o z))
         (more-shaped masks (x .sealed) (i .shaped) e (logged e t n c m p) shape)))
 
-  reply-keeps : (k : ℕ) (m : List ℕ) → FairSeal masks (x .lent) (w .queue) k m → Sends masks (sends x (sealed· k m))
+  reply-keeps : (k : ℕ) (m : List ℕ) → FairSeal masks (x .lent) (w .queue) k m → Sends masks (sendsBy x (sealed· k m))
   reply-keeps k m fair =
       test-cases (isSealed (sealAnswer (w .state) (length (w .queue)) k))
       (λ d.
@@ -433,7 +388,7 @@ module _ (masks : Masks) (x : Sender) (i : Sends masks x) where
 
   -- ---- taking a datagram
 
-  same-take : (buffer : List ℕ) → isTaken (takeAnswer (w .state) (length (w .queue)) (length buffer)) ≡ false → Sends masks (sends x (take· buffer))
+  same-take : (buffer : List ℕ) → isTaken (takeAnswer (w .state) (length (w .queue)) (length buffer)) ≡ false → Sends masks (sendsBy x (take· buffer))
   same-take buffer f =
       let a : TakeAnswer = takeAnswer (w .state) (length (w .queue)) (length buffer) in
       subst (λ (ts : List (List ℕ)). Sends masks (turns x (stored w (take· buffer)) (x .books) (x .ivs) (x .sealed) ts))
@@ -492,7 +447,7 @@ module _ (masks : Masks) (x : Sender) (i : Sends masks x) where
         keys-same : (P : SendKeys → Type 0) → P (w .state .keys) → P (stored w (take· buffer) .state .keys)
         keys-same P h = unfold takeState in (by-test (λ (s : Sending). P (s .keys)) (λ z. h) (λ z. h))
 
-    taken-keeps : Sends masks (sends x (take· buffer))
+    taken-keeps : Sends masks (sendsBy x (take· buffer))
     taken-keeps =
         subst (λ (ts : List (List ℕ)). Sends masks (turns x (stored w (take· buffer)) (x .books) (x .ivs) (x .sealed) ts)) (sym taken-then) (record {
           ds = us;
@@ -510,19 +465,19 @@ module _ (masks : Masks) (x : Sender) (i : Sends masks x) where
         })
 
   take-by : (buffer : List ℕ) (ds : List (List Queued)) → i .ds ≡ ds → isTaken (takeAnswer (w .state) (length (w .queue)) (length buffer)) ≡ true
-      → Sends masks (sends x (take· buffer))
+      → Sends masks (sendsBy x (take· buffer))
   take-by buffer [] is t =
       absurd (false≢true
       (sym (ap isTaken (take-told (w .state) (w .queue) [] (subst (Holds (w .state) (w .queue)) is (i .laying .holds)) (length buffer))) ∙ t))
   take-by buffer (d ∷ us) is t = taken-keeps buffer d us is t
 
-  take-keeps : (buffer : List ℕ) → Sends masks (sends x (take· buffer))
+  take-keeps : (buffer : List ℕ) → Sends masks (sendsBy x (take· buffer))
   take-keeps buffer =
       test-cases (isTaken (takeAnswer (w .state) (length (w .queue)) (length buffer))) (λ t. take-by buffer (i .ds) refl t) (λ t. same-take buffer t)
 
 -- ---- all calls
 
-pub sends-keep : (masks : Masks) (x : Sender) (c : SendCall) → Sends masks x → FairSend masks x c → Sends masks (sends x c)
+pub sends-keep : (masks : Masks) (x : Sender) (c : SendCall) → Sends masks x → FairSend masks x c → Sends masks (sendsBy x c)
 sends-keep masks x (keySend· e iv) i h = key-keeps masks x i e iv h
 sends-keep masks x (send· e t c) i h = send-keeps masks x i e t c
 sends-keep masks x (save· e t c) i h = save-keeps masks x i e t c
@@ -540,11 +495,9 @@ sends-keep masks x (take· buffer) i h = take-keeps masks x i buffer
 sealed-more : (a : SealAnswer) (o : Option Lent) (before behind : List ℕ) (f : ℕ → List Sealed) (e : ℕ) (r : Sealed) → Mem r (f e) → Mem r (sealedBy a o before behind f e)
 sealed-more a none before behind f e r m = m
 sealed-more a (some l) before behind f e r m =
-    by-test (λ (g : ℕ → List Sealed). Mem r (g e))
-    (λ d. upd-by f (l .epoch) (sealedAs l before behind ∷ f (l .epoch)) (λ e s. Mem r (f e) → Mem r s) e (λ same m. there (subst (λ (v : ℕ). Mem r (f v)) same m)) (λ other m. m) m)
-    (λ d. m)
+    by-test (λ (g : ℕ → List Sealed). Mem r (g e)) (λ d. upd-grows f (l .epoch) (sealedAs l before behind) e r m) (λ d. m)
 
-pub sealed-grows : (x : Sender) (c : SendCall) (e : ℕ) (r : Sealed) → Mem r (x .sealed e) → Mem r (sends x c .sealed e)
+pub sealed-grows : (x : Sender) (c : SendCall) (e : ℕ) (r : Sealed) → Mem r (x .sealed e) → Mem r (sendsBy x c .sealed e)
 sealed-grows x (keySend· k iv) e r m = m
 sealed-grows x (send· k t c) e r m = m
 sealed-grows x (save· k t c) e r m = m
@@ -613,14 +566,15 @@ module _ (masks : Masks) (x : Sender) (i : Sends masks x) where
       if-false _ _ (ne-eqb e 2 (λ v. omega arith)) ∙ i .laying .same-ivs .application y ∙ ap (x .ivs) (sym z)) (a .epoch))
       (waits-under s (x .stores .queue) (i .ds) h e t n c p m)
 
-  pub nonce-is : (l : Lent) → x .lent ≡ some l → l .nonce ≡ nonceOf (x .ivs (l .epoch)) (l .num)
+  pub nonce-is : (l : Lent) → x .lent ≡ some l → l .nonce ≡ nonceFor (x .ivs (l .epoch)) (l .num)
   nonce-is l z =
       waiting-cases (flat (i .ds)) (waitingOf (flat (i .ds))) refl
       (λ y. some≢none (sym z ∙ subst (LentIs (x .stores .state) (x .lent)) y (i .lent)))
       (λ e t n c p us y v.
       let same : lentFor (x .stores .state) e t n c ≡ l = some-inj (sym (subst (LentIs (x .stores .state) (x .lent)) v (i .lent)) ∙ z) in
-      subst (λ (r : Lent). r .nonce ≡ nonceOf (x .ivs (r .epoch)) (r .num)) same
-      (ap (λ (w : List ℕ). nonceOf w n) (iv-is e t n c p (waiting-mem (waits e t n c p) (flat (i .ds)) (subst (Mem (waits e t n c p)) (sym y) (here refl))))))
+      subst (λ (r : Lent). r .nonce ≡ nonceFor (x .ivs (r .epoch)) (r .num)) same
+      (ap (λ (w : List ℕ). nonceOf w n) (iv-is e t n c p (first-mem (flat (i .ds)) us y))
+      ∙ nonce-own (x .ivs e) n))
 
 -- ---- what was taken
 

@@ -1,70 +1,29 @@
--- No call changes the MTU, and every call's log of records sent only grows. Assumes nothing.
-use Prim.Native.Nat.{ℕ, zero, suc, _+_, _-_}
-use lib.Dec.{eqb}
+-- No call changes the MTU or the queue's limit. Assumes nothing.
+use Prim.Native.Nat.{ℕ, zero, suc}
 use lib.ListN.{length}
-use mathlib.Core.Bool.{Bool, true, false}
-use mathlib.Core.List.{List, [], _∷_, _++_, List·Memᴰ as Mem}
-use mathlib.Core.Path.{_≡_, refl, sym, ap, subst, _∙_}
-use Rattle.base.specs.Choose.{choose, if-true, if-false, by-test}
+use mathlib.Core.List.{List}
+use mathlib.Core.Path.{_≡_, refl, ap, _∙_}
+use Rattle.base.specs.Choose.{by-test}
 use Rattle.queue.specs.Queue.{laid}
-use Rattle.send_keys.specs.Keys.{nextOf}
 use Rattle.outgoing.specs.declared.SendAnswer.{SendAnswer}
 use Rattle.outgoing.specs.declared.Sending.{Sending}
-use Rattle.outgoing.specs.State.{isDone, keyingState}
 use Rattle.outgoing.specs.Send.{laidState, sendState}
-use Rattle.flight.specs.declared.Flight.{Flight}
-use Rattle.flight.specs.declared.Saved.{Saved as SavedState}
-use Rattle.flight.specs.Flight.{entryAt}
-use Rattle.flight.specs.Save.{saveAnswer, saveState}
-use Rattle.acks.specs.declared.AckSent.{AckSent}
-use Rattle.acks.specs.Acks.{noticeState, ackSent, sentAck}
-use Rattle.messages.specs.Message.{Laid, pieceOf, sendAll, beginning, messageState}
-use Rattle.resend.specs.declared.Resent.{Resent}
-use Rattle.resend.specs.declared.ResendAnswer.{ResendAnswer}
-use Rattle.resend.specs.Resend.{Laying as Again, contentAt, sentAgain, againAnswer, againAt, againAfter, resendState}
-use Rattle.resend.specs.Tests.{closedState}
+use Rattle.outgoing.specs.State.{keyingState}
 use Rattle.sealing.specs.Sealing.{sealedState}
 use Rattle.taking.specs.Take.{takeState}
-use Rattle.history.specs.Receiver.{Handed}
-use Rattle.ends.specs.Again.{lays-grows}
-use Rattle.ends.specs.Marks.{Grows}
-use Rattle.ends.specs.Sender.{
-  Stores,
-  Books,
-  lays,
-  piece,
-  pieceBooks,
-  laysAll,
-  messageBooks,
-  againBooks,
-  closing,
-  resendBooks,
-  ackBooks,
-  finishedBy,
-  Sender,
-  Lent,
-  SendCall,
-  keySend·,
-  send·,
-  save·,
-  message·,
-  beginFlight·,
-  resend·,
-  note·,
-  sendAck·,
-  ack·,
-  fill·,
-  sealed·,
-  take·,
-  stored,
-  sends,
-}
-use mathlib.Core.Option.{Option, none, some}
-use Rattle.sealing.specs.declared.SealAnswer.{SealAnswer}
+use Rattle.flight.specs.declared.Flight.{Flight}
+use Rattle.flight.specs.declared.Saved.{Saved as SavedState}
+use Rattle.flight.specs.Save.{saveState}
+use Rattle.messages.specs.Message.{Laid, pieceOf, sendAll, beginning, messageState}
+use Rattle.acks.specs.declared.AckSent.{AckSent}
+use Rattle.acks.specs.Acks.{noticeState, ackSent, sentAck}
+use Rattle.resend.specs.declared.Resent.{Resent}
+use Rattle.resend.specs.Resend.{Laying as Again, sentAgain, againAnswer, againAt, againAfter, resendState}
+use Rattle.resend.specs.Tests.{closedState}
+use Rattle.ends.specs.Books.{piece, closing}
+use Rattle.ends.specs.Calls.{Stores, SendCall, keySend·, send·, save·, message·, beginFlight·, resend·, note·, sendAck·, ack·, fill·, sealed·, take·, stored}
 
--- ---- the MTU
-
--- and the limit
+-- the MTU and the limit
 abbrev widthOf : Sending → ℕ × ℕ
 widthOf s = (s .queue .mtu, s .queue .limit)
 
@@ -140,54 +99,3 @@ same-width w c = ap (λ (p : ℕ × ℕ). p .0) (same-size w c)
 
 pub same-limit : (w : Stores) (c : SendCall) → stored w c .state .queue .limit ≡ w .state .queue .limit
 same-limit w c = ap (λ (p : ℕ × ℕ). p .1) (same-size w c)
-
-pub piece-width : (kind : ℕ) (body : List ℕ) (at : ℕ) (l : Laid) → piece kind body at l .saved .state .queue .mtu ≡ l .saved .state .queue .mtu
-piece-width kind body at l = ap (λ (p : ℕ × ℕ). p .0) (piece-size kind body at l)
-
--- ---- the log
-
-pub all-grows : (k kind : ℕ) (body : List ℕ) (at : ℕ) (l : Laid) (b : Books) → Grows (b .sent) (laysAll k kind body at l b .sent)
-unfolding laysAll
-all-grows zero kind body at l b e h m = m
-all-grows (suc k) kind body at l b e h m =
-    let one = lays-grows (saveAnswer (l .saved .state) (l .saved .flight) (length (l .queue)) (length (l .kept)) _ 22 _) (l .saved .state) _ 22 _ b e h m in
-    by-test (λ (c : Books). Mem h (c .sent e)) (λ z. one) (λ z. all-grows k kind body _ (piece kind body at l) (pieceBooks kind body at l b) e h one)
-
-pub again-grows : (kept : List ℕ) (l : Again) (n : ℕ) (b : Books) → Grows (b .sent) (againBooks kept l n b .sent)
-unfolding againBooks
-again-grows kept l zero b e h m = m
-again-grows kept l (suc n) b e h m =
-    by-test (λ (c : Books). Mem h (c .sent e)) (λ z. again-grows kept l n b e h m) (λ z. lays-grows (againAnswer kept n (againAfter kept l n)) (againAfter kept l n .state) _ _ (contentAt kept n (againAfter kept l n)) (againBooks kept l n b) e h (again-grows kept l n b e h m))
-
-message-grows : (a : SendAnswer) (w : Stores) (kind : ℕ) (body : List ℕ) (b : Books) → Grows (b .sent) (messageBooks a w kind body b .sent)
-unfolding messageBooks
-message-grows a w kind body b e h m =
-    by-test (λ (c : Books). Mem h (c .sent e)) (λ z. all-grows 13 kind body 0 (beginning (w .state) (w .flight) (w .queue) (w .kept)) b e h m) (λ z. m)
-
-ack-grows : (w : Stores) (b : Books) → Grows (b .sent) (ackBooks w b .sent)
-unfolding ackBooks
-ack-grows w b e h m =
-    let P : Books → Type 0 = λ c. Mem h (c .sent e) in
-    by-test P (λ z. by-test P (λ y. m) (λ y. lays-grows _ (w .state) _ 26 _ b e h m)) (λ z. m)
-
-finished-same : (a : SealAnswer) (o : Option Lent) (p q : List ℕ) (b : Books) → finishedBy a o p q b .sent ≡ b .sent
-finished-same a none p q b = refl
-finished-same a (some l) p q b = by-test (λ (c : Books). c .sent ≡ b .sent) (λ z. refl) (λ z. refl)
-
-resend-grows : (a : ResendAnswer) (w : Stores) (b : Books) → Grows (b .sent) (resendBooks a w b .sent)
-unfolding resendBooks
-resend-grows a w b e h m = by-test (λ (c : Books). Mem h (c .sent e)) (λ z. again-grows (w .kept) (closing w) (w .flight .saved) b e h m) (λ z. m)
-
-pub sent-grows : (x : Sender) (c : SendCall) → Grows (x .books .sent) (sends x c .books .sent)
-sent-grows x (keySend· k iv) e h m = m
-sent-grows x (send· k t c) e h m = lays-grows _ (x .stores .state) k t c (x .books) e h m
-sent-grows x (save· k t c) e h m = lays-grows _ (x .stores .state) k t c (x .books) e h m
-sent-grows x (message· kind body) e h m = message-grows _ (x .stores) kind body (x .books) e h m
-sent-grows x beginFlight· e h m = m
-sent-grows x resend· e h m = resend-grows _ (x .stores) (x .books) e h m
-sent-grows x (note· k n) e h m = m
-sent-grows x sendAck· e h m = ack-grows (x .stores) (x .books) e h m
-sent-grows x (ack· d) e h m = m
-sent-grows x (fill· v) e h m = m
-sent-grows x (sealed· k n) e h m = subst (λ (f : ℕ → List Handed). Mem h (f e)) (sym (finished-same _ (x .lent) _ _ (x .books))) m
-sent-grows x (take· b) e h m = m

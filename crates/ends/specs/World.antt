@@ -1,29 +1,16 @@
 -- Two ends that talk: each sends and receives, and each call gets state, queue, flight and datagram as the last call at its end left them,
 -- refused or not.
 use Prim.Native.Nat.{ℕ}
-use mathlib.Core.List.{List, [], _∷_}
+use lib.ListN.{length}
+use mathlib.Core.List.{List, [], _∷_, _++_}
 use Rattle.send_keys.specs.declared.SendKeys.{SendKeys}
 use Rattle.history.specs.Claim.{Masks, FairCall}
-use Rattle.history.specs.Receiver.{
-  Inbound,
-  newInbound,
-  Call,
-  key·,
-  remove·,
-  encrypt·,
-  release·,
-  begin·,
-  read·,
-  mask·,
-  write·,
-  open·,
-  readOver·,
-  maskOver·,
-  openOver·,
-  does,
-}
-use Rattle.ends.specs.Flights.{Saves, noSaves, savesBy, FairNames}
-use Rattle.ends.specs.Sender.{Sender, newSender, SendCall, sends, sendsOver, Short, FairSend}
+use Rattle.history.specs.Receiver.{Inbound, newInbound, Call, key·, remove·, encrypt·, release·, begin·, read·, mask·, write·, open·, readOver·, maskOver·, openOver·, does}
+use Rattle.ends.specs.Answers.{answered}
+use Rattle.ends.specs.Calls.{SendCall, lending, Short}
+use Rattle.ends.specs.Flights.{FairNames}
+use Rattle.ends.specs.Ledger.{Kept, Ledger, newLedger, Reply, owed, after, sentBy, shortReply, clears}
+use Rattle.ends.specs.Sender.{Sender, newSender, sends, sendsOver, FairSend}
 
 pub data Side : Type 0 where
   post gateway : Side
@@ -38,12 +25,20 @@ pub record Count : Type 0 where
   pub before : SendKeys
   pub behind : SendKeys
 
--- the MTU and the queue's limit it was created with, what it sends, the claim's account of what it saved, what it receives, and the counts of its readings
+-- what a sending call was answered, and what the claim's account owes it
+pub record Said : Type 0 where
+  pub reply : Reply
+  pub owed : Reply
+
+-- the MTU and the queue's limit it was created with, what it sends, the claim's account of it, what its calls were answered, the saved records that
+-- went with a flight which an ACK emptied, what it receives, and the counts of its readings
 pub record End : Type 0 where
   pub mtu : ℕ
   pub limit : ℕ
   pub out : Sender
-  pub saves : Saves
+  pub ledger : Ledger
+  pub said : List Said
+  pub cleared : List Kept
   pub into : Inbound
   pub counts : List Count
 
@@ -67,7 +62,16 @@ abbrev pub counted : End → End → ℕ → List Count
 counted e e′ k = record { datagram = k; before = e .out .stores .state .keys; behind = e′ .out .stores .state .keys } ∷ e .counts
 
 abbrev pub takesIn : End → Inbound → List Count → End
-takesIn e i cs = record { mtu = e .mtu; limit = e .limit; out = e .out; saves = e .saves; into = i; counts = cs }
+takesIn e i cs = record {
+  mtu = e .mtu;
+  limit = e .limit;
+  out = e .out;
+  ledger = e .ledger;
+  said = e .said;
+  cleared = e .cleared;
+  into = i;
+  counts = cs;
+}
 
 abbrev pub countsBy : End → End → Call → List Count
 countsBy e e′ (key· k iv) = e .counts
@@ -83,10 +87,30 @@ countsBy e e′ (readOver· d) = counted e e′ (e .into .serial)
 countsBy e e′ (maskOver· m d) = counted e e′ (e .into .serial)
 countsBy e e′ (openOver· p d) = counted e e′ (e .into .serial)
 
+-- a sending call: the records that the account then has as sent go into the books
 abbrev pub acts : End → End → Deed → End
 acts far-end e (sending c) =
-    record { mtu = e .mtu; limit = e .limit; out = sends (e .out) c; saves = savesBy (e .mtu) (e .out .stores) c (e .saves); into = e .into; counts = e .counts }
-acts far-end e (over c q k) = record { mtu = e .mtu; limit = e .limit; out = sendsOver (e .out) c q k; saves = e .saves; into = e .into; counts = e .counts }
+    record {
+      mtu = e .mtu;
+      limit = e .limit;
+      out = sends (e .out) (sentBy (e .ledger) c) c;
+      ledger = after (e .ledger) c;
+      said = record { reply = answered (e .out .stores) c; owed = owed (e .ledger) c } ∷ e .said;
+      cleared = clears (e .ledger) c ++ e .cleared;
+      into = e .into;
+      counts = e .counts;
+    }
+acts far-end e (over c q k) =
+    record {
+      mtu = e .mtu;
+      limit = e .limit;
+      out = sendsOver (e .out) c q k;
+      ledger = e .ledger;
+      said = record { reply = answered (lending (e .out .stores) q k) c; owed = shortReply c } ∷ e .said;
+      cleared = e .cleared;
+      into = e .into;
+      counts = e .counts;
+    }
 acts far-end e (receiving c) =
     let i = does (far-end .out .sealed) (e .into) c in
     takesIn e i (countsBy e (takesIn e i (e .counts)) c)
@@ -118,7 +142,9 @@ newEnd s = record {
   mtu = s .mtu;
   limit = s .limit;
   out = newSender (s .mtu) (s .limit) (s .queue) (s .kept);
-  saves = noSaves;
+  ledger = newLedger (s .mtu) (s .limit) (length (s .kept));
+  said = [];
+  cleared = [];
   into = newInbound (s .min);
   counts = [];
 }

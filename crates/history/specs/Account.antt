@@ -60,9 +60,15 @@ abbrev pub applications : List ℕ → ℕ
 applications [] = 0
 applications (e ∷ es) = choose (leb 3 e) (suc (applications es)) (applications es)
 
--- 13: 0, 1 or one not above every earlier one; 23: a fifth application epoch
-unfoldable pub unusable : Account → ℕ → Bool
-unusable a e = either (ltb e 2) (either (leb e (a .highest)) (both (leb 3 e) (leb 4 (applications (a .keyed)))))
+abbrev pub fifth : ℕ → List ℕ → Bool
+fifth e keyed = both (leb 3 e) (leb 4 (applications keyed))
+
+-- the number that keying is told: 13 for 0, 1 or one not above every earlier one; 23 for a fifth application epoch; else 0, it is done
+abbrev pub owedBy : ℕ → List ℕ → ℕ → ℕ
+owedBy highest keyed e = choose (either (ltb e 2) (leb e highest)) 13 (choose (fifth e keyed) 23 0)
+
+unfoldable pub keyOwed : Account → ℕ → ℕ
+keyOwed a e = owedBy (a .highest) (a .keyed) e
 
 abbrev pub withKey : Account → ℕ → List ℕ → Account
 withKey a e iv = record {
@@ -77,7 +83,7 @@ withKey a e iv = record {
 }
 
 unfoldable pub keys : Account → ℕ → List ℕ → Account
-keys a e iv = choose (unusable a e) a (withKey a e iv)
+keys a e iv = choose (eqb (keyOwed a e) 0) (withKey a e iv) a
 
 -- ---- epoch bits
 

@@ -1,5 +1,5 @@
--- Keying, removing, the flags, beginning, the host's writing and calls over other bytes keep what holds between state, account and history;
--- a fresh end has it. Assumes nothing.
+-- Keying, removing, the flags, beginning, the host's writing and calls over other bytes keep what holds between state, account and history, and
+-- are told the numbers that the account owes them; a fresh end has it. Assumes nothing.
 use Prim.Native.Nat.{ℕ, zero, suc, _+_, _-_, _<_, _≤_}
 use borrow.Author.Tests.{eqb-true, eqb-false, leb-true, leb-false, ltb-false, eq-eqb, ne-eqb}
 use lib.Dec.{eqb, leb, ltb}
@@ -24,7 +24,9 @@ use Rattle.opening_reply.specs.declared.Cancelled.{Cancelled}
 use Rattle.receiving.specs.Calls.Call.{keying, removing, encrypting, releasing, beginning}
 use Rattle.receiving.specs.Laws.{Made, fresh-made, after-made, made-sound}
 use Rattle.receiving.specs.Leads.{remove-none, remove-at}
-use Rattle.receiving.specs.Receiving.{sound, kept, made, freshOf, keyOf, leaving, removedBy, removeOf, encryptOf, releaseOf, beginOf}
+use Rattle.receiving.specs.Receiving.{answerNumber, sound, kept, made, freshOf, keyOf, leaving, removedBy, removeOf, encryptOf, releaseOf, beginOf}
+use Rattle.receiving.specs.declared.Answer.the-variants as answers
+use Rattle.receiving.specs.declared.Answer.{Answer}
 use Rattle.receiving.specs.declared.Kept.{Kept}
 use Rattle.receiving.specs.declared.Receiving.{Receiving}
 use Rattle.recv_keys.specs.Keeps.{found-epoch, installed-other, installed-last, left-keyed}
@@ -35,8 +37,8 @@ use Rattle.recv_keys.specs.declared.Found.{Found}
 use Rattle.recv_keys.specs.declared.RecvEpochEntry.{RecvEpochEntry}
 use Rattle.recv_keys.specs.declared.RecvKeys.{RecvKeys}
 use Rattle.window.specs.Window.{width, isFresh}
-use Rattle.history.specs.Account.{upd, Shown, nothing, aMask, anOpening, Account, isIn, without, applications, unusable, withKey, keys}
-use Rattle.history.specs.Lists.{by-both, mem-by}
+use Rattle.history.specs.Account.{upd, Shown, nothing, aMask, anOpening, Account, isIn, without, owedBy, keyOwed, withKey, keys}
+use Rattle.history.specs.Lists.{by-both, some≢none, mem-by, drops-on, splice-behind}
 use Rattle.history.specs.Reading.{is-found}
 use Rattle.history.specs.Receiver.{
   Trial,
@@ -50,13 +52,16 @@ use Rattle.history.specs.Receiver.{
   isThe,
   removedFrom,
   removed,
+  losesOwed,
+  removeOwed,
   startsOn,
   begun,
+  beginOwed,
   writtenIn,
   wrote,
   newInbound,
 }
-use Rattle.history.specs.Sound.{Tally, Asked, UnderWay, FreshAsked, Hands, Sound}
+use Rattle.history.specs.Sound.{Tally, Asked, UnderWay, FreshAsked, Hands, intactFrom, Intact, Sound}
 use Rattle.history.specs.Table.{epochsIn, keyedIn, find-in, Table, full-same, keyed-installed, installed-table, keyed-left, left-table, one-place, was, stood}
 
 -- what such a call leaves of the record under way: all, or nothing
@@ -103,13 +108,43 @@ module _ (y : Receiver) (i : Sound y) where
   same-sound s a p q = subst (λ x. Sound (withState y x a)) (sym p) (subst (λ x. Sound (withState y (y .state) x)) (sym q) i)
 
   module _ (e : ℕ) (iv : List ℕ) where
-    unusable-is : (c : Bool) → either (ltb e 2) (either (leb e (k .highest)) (both (leb 3 e) (leb 4 (applications (keyedIn k))))) ≡ c → unusable (y .account) e ≡ c
-    unfolding unusable
-    unusable-is c h = rw (i .tally .keyed, i .tally .highest) h
+    -- the number owed, over the table's epochs
+    owed-is : (n : ℕ) → owedBy (k .highest) (keyedIn k) e ≡ n → keyOwed (y .account) e ≡ n
+    unfolding keyOwed
+    owed-is n h = rw (i .tally .keyed, i .tally .highest) h
 
-    refused-key : unusable (y .account) e ≡ true → keyOf (y .state) e iv .state ≡ y .state → Sound (withState y (keyOf (y .state) e iv .state) (keys (y .account) e iv))
+    -- refused with a number that is owed, or done
+    key-cases : {C : Type 0}
+        → ((a : Answer) → keyOf (y .state) e iv ≡ kept (y .state) a → keyOwed (y .account) e ≡ answerNumber a → (answerNumber a ≡ 0 → ⊥) → C)
+        → (2 ≤ e → k .highest < e → isFull k e ≡ false → keyOwed (y .account) e ≡ 0
+        → keyOf (y .state) e iv ≡ made answers.Done (installed k e iv) b → C)
+        → C
+    unfolding keyOf
+    key-cases refuses keyed =
+        test-cases (ltb e 2)
+        (λ t. refuses answers.Unusable (if-true _ _ in-range ∙ if-true _ _ t) (owed-is 13 (if-true _ _ (either-true _ t))) (λ z. omega arith))
+        (λ t. test-cases (leb e (k .highest))
+        (λ u.
+        refuses answers.Unusable (if-true _ _ in-range ∙ if-false _ _ t ∙ if-true _ _ u) (owed-is 13 (if-true _ _ (either-false t ∙ u))) (λ z. omega arith))
+        (λ u.
+        let new = leb-false e (k .highest) u in
+        let full = full-same k (y .used) (y .account .ivs) (i .table) e new in
+        test-cases (isFull k e)
+        (λ v.
+        refuses answers.Full (if-true _ _ in-range ∙ if-false _ _ t ∙ if-false _ _ u ∙ if-true _ _ v)
+        (owed-is 23 (if-false _ _ (either-false t ∙ u) ∙ if-true _ _ (sym full ∙ v))) (λ z. omega arith))
+        (λ v.
+        keyed (ltb-false e 2 t) new v (owed-is 0 (if-false _ _ (either-false t ∙ u) ∙ if-false _ _ (sym full ∙ v)))
+        (if-true _ _ in-range ∙ if-false _ _ t ∙ if-false _ _ u ∙ if-false _ _ v))))
+
+    pub key-told : answerNumber (keyOf (y .state) e iv .answer) ≡ keyOwed (y .account) e
+    key-told =
+        key-cases (λ a s owed ne. ap (λ (r : Kept). answerNumber (r .answer)) s ∙ sym owed)
+        (λ low new room owed s. ap (λ (r : Kept). answerNumber (r .answer)) s ∙ sym owed)
+
+    refused-key : eqb (keyOwed (y .account) e) 0 ≡ false → keyOf (y .state) e iv .state ≡ y .state → Sound (withState y (keyOf (y .state) e iv .state) (keys (y .account) e iv))
     unfolding keys
-    refused-key u s = same-sound _ _ s (if-true _ _ u)
+    refused-key u s = same-sound _ _ s (if-false _ _ u)
 
     find-new : k .highest < e → isFull k e ≡ false → (x j : ℕ) → find (k .entries) x (k .count) ≡ found.At j
         → (m : ℕ) × (find (installed k e iv .entries) x (installed k e iv .count) ≡ found.At m) × (entryAt (installed k e iv) m ≡ entryAt k j)
@@ -126,12 +161,12 @@ module _ (y : Receiver) (i : Sound y) where
           installed-other k e iv long room j within,
         )
 
-    new-key : 2 ≤ e → k .highest < e → isFull k e ≡ false → unusable (y .account) e ≡ false
+    new-key : 2 ≤ e → k .highest < e → isFull k e ≡ false → eqb (keyOwed (y .account) e) 0 ≡ true
         → keyOf (y .state) e iv .state ≡ record { keys = installed k e iv; datagram = b }
         → Sound (withState y (keyOf (y .state) e iv .state) (keys (y .account) e iv))
     unfolding keys
     new-key low new room u s =
-        subst (λ x. Sound (withState y (keyOf (y .state) e iv .state) x)) (sym (if-false _ _ u))
+        subst (λ x. Sound (withState y (keyOf (y .state) e iv .state) x)) (sym (if-true _ _ u))
         (subst (λ x. Sound (withState y x (withKey (y .account) e iv))) (sym s) (record {
           made = subst Made s (after-made (keying e iv) (y .state) (i .made));
           table = installed-table k (y .used) (y .account .ivs) (i .table) e iv (i .made .long) room new low;
@@ -146,28 +181,22 @@ module _ (y : Receiver) (i : Sound y) where
             readings = i .tally .readings;
           };
           whole = i .whole;
+          intact = i .intact;
           under = i .under;
           proper = i .proper;
           nonces = i .nonces;
+          spared = i .spared;
           lost = i .lost;
           real = i .real;
+          shows = i .shows;
+          said = i .said;
+          later = i .later;
         }))
 
     pub key-sound : Sound (withState y (keyOf (y .state) e iv .state) (keys (y .account) e iv))
-    unfolding keyOf
     key-sound =
-        test-cases (ltb e 2) (λ t. refused-key (unusable-is true (either-true _ t)) (state (if-true _ _ in-range ∙ if-true _ _ t)))
-        (λ t. test-cases (leb e (k .highest))
-        (λ u. refused-key (unusable-is true (either-false t ∙ either-true _ u)) (state (if-true _ _ in-range ∙ if-false _ _ t ∙ if-true _ _ u)))
-        (λ u.
-        let new = leb-false e (k .highest) u in
-        let full = full-same k (y .used) (y .account .ivs) (i .table) e new in
-        test-cases (isFull k e)
-        (λ v.
-        refused-key (unusable-is true (either-false t ∙ either-false u ∙ sym full ∙ v)) (state (if-true _ _ in-range ∙ if-false _ _ t ∙ if-false _ _ u ∙ if-true _ _ v)))
-        (λ v.
-        new-key (ltb-false e 2 t) new v (unusable-is false (either-false t ∙ either-false u ∙ sym full ∙ v))
-        (state (if-true _ _ in-range ∙ if-false _ _ t ∙ if-false _ _ u ∙ if-false _ _ v)))))
+        key-cases (λ a s owed ne. refused-key (ne-eqb _ 0 (λ z. ne (sym owed ∙ z))) (state s))
+        (λ low new room owed s. new-key low new room (eq-eqb _ 0 owed) (state s))
       where
         state : {x z : Kept} → x ≡ z → x .state ≡ z .state
         state p = ap (λ (r : Kept). r .state) p
@@ -223,11 +252,16 @@ module _ (y : Receiver) (i : Sound y) where
         readings = i .tally .readings;
       };
       whole = i .whole;
+      intact = i .intact;
       under = i .under;
       proper = i .proper;
       nonces = i .nonces;
+      spared = i .spared;
       lost = i .lost;
       real = i .real;
+      shows = i .shows;
+      said = i .said;
+      later = i .later;
     }),
     as-was s _ (ap (λ (x : Receiving). x .datagram) e) refl,
   )
@@ -236,6 +270,14 @@ module _ (y : Receiver) (i : Sound y) where
   encrypt-fine =
       flags-fine true (k .released) true (y .account .released) (encryptOf (y .state) .state)
       (unfold encryptOf in (ap (λ (r : Kept). r .state) (if-true _ _ in-range))) (after-made encrypting (y .state) (i .made)) refl (i .tally .released)
+
+  pub encrypt-told : answerNumber (encryptOf (y .state) .answer) ≡ 0
+  unfolding encryptOf
+  encrypt-told = ap (λ (r : Kept). answerNumber (r .answer)) (if-true _ _ in-range)
+
+  pub release-told : answerNumber (releaseOf (y .state) .answer) ≡ 0
+  unfolding releaseOf
+  release-told = ap (λ (r : Kept). answerNumber (r .answer)) (if-true _ _ in-range)
 
   pub release-fine : Fine y (withState y (releaseOf (y .state) .state) (flagged (y .account) (y .account .encryption) true))
   release-fine =
@@ -267,11 +309,16 @@ module _ (y : Receiver) (i : Sound y) where
       readings = refl;
     };
     whole = refl;
+    intact = record { long = refl; lies = refl; flag = tt };
     under = (refl, refl);
     proper = i .proper;
     nonces = i .nonces;
+    spared = i .spared;
     lost = i .lost;
     real = i .real;
+    shows = i .shows;
+    said = i .said;
+    later = λ x p. some≢none (sym p);
   })
 
   pub begin-fine : (d : List ℕ) → Fine y (begun y d)
@@ -280,6 +327,12 @@ module _ (y : Receiver) (i : Sound y) where
       by-test (Fine y)
       (λ t. (same-sound _ _ (begin-long d t) refl, as-was _ _ (ap (λ (x : Receiving). x .datagram) (begin-long d t)) refl))
       (λ t. (starts-sound _ d (begin-is d t) (after-made (beginning (length d)) (y .state) (i .made)), no-more _ refl refl refl))
+
+  pub begin-told : (d : List ℕ) → answerNumber (beginOf (y .state) (length d) .answer) ≡ beginOwed d
+  unfolding beginOf beginOwed
+  begin-told d =
+      ap (λ (r : Kept). answerNumber (r .answer)) (if-true _ _ in-range)
+      ∙ by-both (λ (r : Kept) (n : ℕ). answerNumber (r .answer) ≡ n) refl (λ t. refl) (λ t. refl)
 
   -- ---- removing
 
@@ -343,19 +396,24 @@ module _ (y : Receiver) (i : Sound y) where
           readings = i .tally .readings;
         };
         whole = i .whole;
+        intact = i .intact;
         under = i .under;
         proper = i .proper;
         nonces = i .nonces;
+        spared = i .spared;
         lost = i .lost;
         real = i .real;
+        shows = i .shows;
+        said = i .said;
+        later = i .later;
       }),
       as-was s _ (ap (λ (x : Receiving). x .datagram) is) refl,
     )
 
     -- the question's epoch is removed: the cut goes on behind its record
     passes : (s : Receiving) (a : Ask) (t : Trial) → s ≡ record { keys = left k j; datagram = moved b (endAsked b a) (b .readings) } → Made s
-        → t .ends ≡ endAsked b a → t .resolved ≡ some e → Fine y (loses y s e t)
-    passes s a t is m ends to = (
+        → t .ends ≡ endAsked b a → t .resolved ≡ some e → intactFrom (b .question) (b .at) ≤ endAsked b a → Fine y (loses y s e t)
+    passes s a t is m ends to low = (
       subst (λ x. Sound (loses y x e t)) (sym is) (record {
         made = subst Made is m;
         table = left-table k (y .used) (y .account .ivs) (i .table) j count within;
@@ -370,11 +428,20 @@ module _ (y : Receiver) (i : Sound y) where
           readings = i .tally .readings;
         };
         whole = i .whole;
+        intact = record {
+          long = i .intact .long;
+          lies = drops-on (intactFrom (b .question) (b .at)) (endAsked b a) (y .datagram) (y .arrived) low (i .intact .lies);
+          flag = tt;
+        };
         under = (refl, refl);
         proper = i .proper;
         nonces = i .nonces;
+        spared = i .spared;
         lost = λ l o. mem-by o (λ (p : l ≡ record { trial = t; epoch = e }). subst (λ x. x .trial .resolved ≡ some (x .epoch)) (sym p) to) (λ o′. i .lost l o′);
         real = i .real;
+        shows = i .shows;
+        said = i .said;
+        later = λ x p. some≢none (sym p);
       }),
       no-more _ refl refl refl,
     )
@@ -391,16 +458,17 @@ module _ (y : Receiver) (i : Sound y) where
     -- a question about a record of the epoch of a
     asked-removed : (a : Ask) (t : Trial) → y .trial ≡ some t → t .resolved ≡ some (a .epoch) → t .ends ≡ endAsked b a
         → removeOf (y .state) e .state ≡ record { keys = left k j; datagram = cancelledAsk a b e .datagram }
-        → ((a .epoch ≡ e → ⊥) → FreshAsked (left k j) (b .question)) → Fine y (removedFrom y (removeOf (y .state) e .state) e (y .trial))
+        → ((a .epoch ≡ e → ⊥) → FreshAsked (left k j) (b .question)) → intactFrom (b .question) (b .at) ≤ endAsked b a
+        → Fine y (removedFrom y (removeOf (y .state) e .state) e (y .trial))
     unfolding removedFrom cancelledAsk
-    asked-removed a t tri to ends is asked =
+    asked-removed a t tri to ends is asked low =
         let m = after-made (removing e) (y .state) (i .made) in
         let keep : Datagram → Receiving = λ x. record { keys = left k j; datagram = x } in
         subst (λ x. Fine y (removedFrom y (removeOf (y .state) e .state) e x)) (sym tri)
         (test-cases (eqb (a .epoch) e)
         (λ u.
         subst (Fine y) (sym (if-true _ _ (ap (λ (o : Option ℕ). isThe o e) to ∙ u)))
-        (passes _ a t (is ∙ ap (λ (c : Cancelled). keep (c .datagram)) (if-true _ _ u)) m ends (to ∙ ap some (eqb-true _ _ u))))
+        (passes _ a t (is ∙ ap (λ (c : Cancelled). keep (c .datagram)) (if-true _ _ u)) m ends (to ∙ ap some (eqb-true _ _ u)) low))
         (λ u.
         subst (Fine y) (sym (if-false _ _ (ap (λ (o : Option ℕ). isThe o e) to ∙ u)))
         (stays _ (is ∙ ap (λ (c : Cancelled). keep (c .datagram)) (if-false _ _ u)) m (asked (eqb-false _ _ u)))))
@@ -414,22 +482,59 @@ module _ (y : Receiver) (i : Sound y) where
         (stays _ (leaves-state question.Nothing q) (after-made (removing e) (y .state) (i .made)) (subst (FreshAsked (left k j)) (sym q) tt)))
     under-removed (question.Mask a) q z =
         asked-removed a (z .0) (z .1) (z .2 .1) (z .2 .2) (leaves-state (question.Mask a) q) (λ ne. subst (FreshAsked (left k j)) (sym q) tt)
+        (subst (λ (x : Question). intactFrom x (b .at) ≤ endAsked b a) (sym q) (omega arith))
     under-removed (question.Opening a n) q z =
         asked-removed a (z .0) (z .1) (z .2 .5) (z .2 .6) (leaves-state (question.Opening a n) q)
         (λ ne.
         fresh-left (b .question) (i .asked)
         (λ x m w same. ne (let p : question.Opening a n ≡ question.Opening x m = sym q ∙ w in let s : a ≡ x = cc in ap (λ (r : Ask). r .epoch) s ∙ same)))
+        (subst (λ (x : Question). intactFrom x (b .at) ≤ endAsked b a) (sym q) (omega arith))
+
+    -- the number that it is told: 6 exactly where the record under way is lost
+    abbrev sixIf : Bool → ℕ
+    sixIf lost = choose lost 6 0
+
+    leaves-number : (c : Cancelled) → answerNumber (leaving c (left k j) .answer) ≡ sixIf (c .dropped)
+    unfolding leaving
+    leaves-number c = by-both (λ (r : Kept) (n : ℕ). answerNumber (r .answer) ≡ n) refl (λ t. refl) (λ t. refl)
+
+    asked-number : (a : Ask) (o : Option ℕ) → o ≡ some (a .epoch) → sixIf (cancelledAsk a b e .dropped) ≡ sixIf (isThe o e)
+    unfolding cancelledAsk
+    asked-number a o to =
+        by-both (λ (c : Cancelled) (n : ℕ). sixIf (c .dropped) ≡ n) (ap (λ (x : Option ℕ). isThe x e) to) (λ t. if-true _ _ refl)
+        (λ t. if-false _ _ refl)
+
+    under-number : (q : Question) → UnderWay q (b .at) (y .account .waits) (y .trial) → sixIf (cancelled q b e .dropped) ≡ losesOwed (y .trial) e
+    unfolding cancelled
+    under-number question.Nothing z = if-false _ _ refl ∙ ap (λ (x : Option Trial). losesOwed x e) (sym (z .1))
+    under-number (question.Mask a) z = asked-number a (z .0 .resolved) (z .2 .1) ∙ ap (λ (x : Option Trial). losesOwed x e) (sym (z .1))
+    under-number (question.Opening a n) z = asked-number a (z .0 .resolved) (z .2 .5) ∙ ap (λ (x : Option Trial). losesOwed x e) (sym (z .1))
+
+  -- the account's keyed epochs are the table's
+  keyed-is : (e : ℕ) (f : Found) → find (k .entries) e (k .count) ≡ f → isIn e (y .account .keyed) ≡ wasFound f
+  keyed-is e f q = ap (isIn e) (i .tally .keyed) ∙ sym (find-in (k .entries) e (k .count)) ∙ ap wasFound q
+
+  told-by : (e : ℕ) (f : Found) → find (k .entries) e (k .count) ≡ f → answerNumber (removeOf (y .state) e .answer) ≡ removeOwed y e
+  unfolding removeOwed wasFound
+  told-by e found.Nothing f =
+      ap (λ (r : Kept). answerNumber (r .answer)) (remove-none (y .state) e in-range f) ∙ sym (if-false _ _ (keyed-is e found.Nothing f))
+  told-by e (found.At j) f =
+      ap (λ (r : Kept). answerNumber (r .answer)) (remove-at (y .state) e j in-range f) ∙ leaves-number e j f _
+      ∙ under-number e j f (b .question) (i .under) ∙ sym (if-true _ _ (keyed-is e (found.At j) f))
+
+  pub remove-told : (e : ℕ) → answerNumber (removeOf (y .state) e .answer) ≡ removeOwed y e
+  remove-told e = told-by e _ refl
 
   removed-by : (e : ℕ) (f : Found) → find (k .entries) e (k .count) ≡ f → Fine y (removed y e)
   unfolding removed wasFound
   removed-by e found.Nothing f =
       let is : removeOf (y .state) e .state ≡ y .state = ap (λ (r : Kept). r .state) (remove-none (y .state) e in-range f) in
       subst (Fine y)
-      (sym (if-false _ _ (ap (isIn e) (i .tally .keyed) ∙ sym (find-in (k .entries) e (k .count)) ∙ ap wasFound f)))
+      (sym (if-false _ _ (keyed-is e found.Nothing f)))
       (same-sound _ _ is refl, as-was _ _ (ap (λ (x : Receiving). x .datagram) is) refl)
   removed-by e (found.At j) f =
       subst (Fine y)
-      (sym (if-true _ _ (ap (isIn e) (i .tally .keyed) ∙ sym (find-in (k .entries) e (k .count)) ∙ ap wasFound f)))
+      (sym (if-true _ _ (keyed-is e (found.At j) f)))
       (under-removed e j f (b .question) refl (i .under))
 
   pub remove-fine : (e : ℕ) → Fine y (removed y e)
@@ -437,18 +542,33 @@ module _ (y : Receiver) (i : Sound y) where
 
   -- ---- the host's writing, and calls that change nothing
 
-  written-long : (p : List ℕ) (q : Question) → b .question ≡ q → UnderWay q (b .at) (y .account .waits) (y .trial)
-      → length (writtenIn (y .account .waits) (y .datagram) p) ≡ length (y .datagram)
-  written-long p question.Nothing q z = ap (λ (w : Shown). length (writtenIn w (y .datagram) p)) (z .0)
-  written-long p (question.Mask a) q z = ap (λ (w : Shown). length (writtenIn w (y .datagram) p)) (z .2 .0)
-  written-long p (question.Opening a n) q z =
+  -- the bytes keep their number, and what lies behind the record stays
+  abbrev Writes : List ℕ → Type 0
+  Writes l = (length l ≡ length (y .datagram)) × Intact b l (y .arrived)
+
+  written : (p : List ℕ) (q : Question) → b .question ≡ q → UnderWay q (b .at) (y .account .waits) (y .trial)
+      → Writes (writtenIn (y .account .waits) (y .datagram) p)
+  written p question.Nothing q z = subst (λ (w : Shown). Writes (writtenIn w (y .datagram) p)) (sym (z .0)) (refl, i .intact)
+  written p (question.Mask a) q z = subst (λ (w : Shown). Writes (writtenIn w (y .datagram) p)) (sym (z .2 .0)) (refl, i .intact)
+  written p (question.Opening a n) q z =
       let h = held-open k b in-range a n q .1 in
-      ap (λ (w : Shown). length (writtenIn w (y .datagram) p)) (z .2 .2)
-      ∙ by-test (λ (l : List ℕ). length l ≡ length (y .datagram))
+      subst (λ (w : Shown). Writes (writtenIn w (y .datagram) p)) (sym (z .2 .2))
+      (by-test Writes
       (λ t.
-      length-splice (b .at + length (z .2 .0)) p (y .datagram)
-      (omega (arith, leb-true (length p) (length (z .2 .1)) t, z .2 .3, z .2 .4, h .head, h .fits, i .whole, i .made .ready .at)))
-      (λ t. refl)
+      let short = leb-true (length p) (length (z .2 .1)) t in
+      let fits : b .at + length (z .2 .0) + length p ≤ length (y .datagram) =
+      omega (arith, z .2 .3, z .2 .4, h .head, h .fits, i .whole, i .made .ready .at) in
+      let long = length-splice (b .at + length (z .2 .0)) p (y .datagram) fits in (
+        long,
+        record {
+          long = i .intact .long ∙ sym long;
+          lies = splice-behind (b .at + length (z .2 .0)) p (y .datagram) fits (intactFrom (b .question) (b .at))
+              (subst (λ (x : Question). b .at + length (z .2 .0) + length p ≤ intactFrom x (b .at)) (sym q) (omega (arith, z .2 .3, z .2 .4)))
+              ∙ i .intact .lies;
+          flag = i .intact .flag;
+        },
+      ))
+      (λ t. (refl, i .intact)))
 
   pub write-sound : (p : List ℕ) → Sound (wrote y p)
   write-sound p = record {
@@ -457,12 +577,17 @@ module _ (y : Receiver) (i : Sound y) where
     asked = i .asked;
     hands = i .hands;
     tally = i .tally;
-    whole = written-long p (b .question) refl (i .under) ∙ i .whole;
+    whole = written p (b .question) refl (i .under) .0 ∙ i .whole;
+    intact = written p (b .question) refl (i .under) .1;
     under = i .under;
     proper = i .proper;
     nonces = i .nonces;
+    spared = i .spared;
     lost = i .lost;
     real = i .real;
+    shows = i .shows;
+    said = i .said;
+    later = i .later;
   }
 
   pub unchanged : (s : Receiving) → s ≡ y .state → Fine y (withState y s (y .account))
@@ -489,9 +614,14 @@ new-sound min h = subst (λ s. Sound (withState (newInbound min .into) s (newInb
   hands = record { counted = λ e x m. elim m [ ]; once = λ e. tt };
   tally = record { keyed = refl; highest = refl; encryption = refl; released = refl; place = refl; readings = refl };
   whole = refl;
+  intact = record { long = refl; lies = refl; flag = tt };
   under = (refl, refl);
   proper = λ c m. elim m [ ];
   nonces = λ c m. elim m [ ];
+  spared = λ c m. elim m [ ];
   lost = λ l m. elim m [ ];
   real = λ d m. elim m [ ];
+  shows = λ d m. elim m [ ];
+  said = λ d m. elim m [ ];
+  later = λ t p. some≢none (sym p);
 })

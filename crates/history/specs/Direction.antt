@@ -32,7 +32,7 @@ use Rattle.opening_reply.specs.declared.Opening.the-variants as reply
 use Rattle.opening_reply.specs.declared.Opening.{Opening}
 use Rattle.datagram.specs.Keeps.{refused}
 use Rattle.receiving.specs.Calls.Call.{masking as answering, opening}
-use Rattle.receiving.specs.Laws.{made-sound, refused-stays, mask-writes-not}
+use Rattle.receiving.specs.Laws.{made-sound, refused-stays}
 use Rattle.receiving.specs.declared.Receiving.{Receiving}
 use Rattle.record.specs.Record.{unifiedHeader}
 use Rattle.records.specs.Records.{openingAsked, readStep}
@@ -48,8 +48,8 @@ use Rattle.history.specs.Calls.{Leaves, as-was, no-more}
 use Rattle.history.specs.Claim.{Masks, FairMask, Opens, FairOpen, asHanded, Due, SaysOpened}
 use Rattle.history.specs.Half.{Shape}
 use Rattle.history.specs.Lists.{upd-same, upd-by, some≢none, some-inj, option-cases, mem-by}
-use Rattle.history.specs.Reading.{refusal, sameAgain, is-found, mask-opening, open-idle, open-masked, masks-again, again-is, reached-to, idle-quiet, masked-quiet, opened-is, use-down}
-use Rattle.history.specs.Reads.{outBy}
+use Rattle.history.specs.Reading.{refusal, sameAgain, is-found, mask-opening, mask-refused, open-idle, open-masked, masks-again, again-is, rest-idle, rest-masked, reached-to, idle-quiet, masked-quiet, opened-is, use-down}
+use Rattle.history.specs.Reads.{outBy, readsOut, maskedOut}
 use Rattle.history.specs.Receiver.{
   Sealed,
   Handed,
@@ -78,6 +78,7 @@ use Rattle.history.specs.Receiver.{
   nextTrial,
   nextTried,
   nextAccount,
+  spokenBy,
   after,
   restOf,
   reached,
@@ -91,7 +92,7 @@ use Rattle.history.specs.Receiver.{
   openOut,
   afterOpen,
 }
-use Rattle.history.specs.Sound.{UnderWay, Sound, moves-on, settled≢down, underway≢down, underway≢settled, spokenBy}
+use Rattle.history.specs.Sound.{UnderWay, Sound, moves-on, settled≢down, underway≢down, underway≢settled}
 use Rattle.history.specs.Undamaged.{askFor, wire-long, flag-set, read-is, sample-is, header-is, cipher-is, mask-is}
 
 abbrev pub Shaped : Masks → (ℕ → List Sealed) → Type 0
@@ -219,12 +220,13 @@ module _ (sealed : ℕ → List Sealed) (y : Receiver) (o : Out) (t : Option Tri
   fate-trials : (f : Fate) → fateOf (o .reading) ≡ f → Trials sealed (record {
     state = o .state;
     datagram = o .datagram;
-    account = nextAccount f (y .account) (o .reading) (length (y .datagram)) t w;
+    arrived = y .arrived;
+    account = nextAccount f (y .account) (o .reading) (length (y .arrived)) t w;
     used = spent u (y .used);
     handed = handedBy (o .reading) (shownBy (o .reading) (o .datagram)) (y .handed);
     trial = nextTrial f (y .trial) t;
     tried = nextTried f (o .reading) (shownBy (o .reading) (o .datagram)) t (y .tried);
-    spoken = spokenBy y deed (o .reading) (o .nonce) ∷ y .spoken;
+    spoken = spokenBy y deed o ∷ y .spoken;
     lost = y .lost;
   })
   fate-trials turnedDown q = record {
@@ -318,17 +320,17 @@ module _ (masks : Masks) (sealed : ℕ → List Sealed) (shaped : Shaped masks s
   -- ---- a read
 
   abbrev asksMask : ℕ → Sealed → Out
-  asksMask e x = outBy k (told (questioned b (question.Mask (askFor e x))) (says.Mask e (b .at + 5))) d
+  asksMask e x = readsOut k (told (questioned b (question.Mask (askFor e x))) (says.Mask e (b .at + 5))) d
 
   -- the cut that comes to a record that is due asks for its mask
   due-asks : b .question ≡ question.Nothing → (e : ℕ) (x : Sealed) → Due (reached y sealed) e x
       → (part (b .at) (length (x .wire)) d ≡ x .wire) × (readOut (y .state) d ≡ asksMask e x)
   due-asks q e x due =
       let lie : part (b .at) (length (x .wire)) d ≡ x .wire =
-      subst (λ (n : ℕ). part n (length (x .wire)) d ≡ x .wire) (i .tally .place) (due .undamaged) in (
+      ap (take (length (x .wire))) (sym (rest-idle y i q)) ∙ due .undamaged in (
         lie,
-        ap (λ (t : Step). outBy k t d)
-            (read-is masks e x (shaped e x (due .sealed-then)) k b d in-range (i .whole) lie (sym (reached-to y i sealed) ∙ due .resolved) q
+        ap (λ (t : Step). readsOut k t d)
+            (read-is masks e x (shaped e x (due .sealed-then)) k b d in-range (i .whole) lie (sym (reached-to y i sealed q) ∙ due .resolved) q
             (sym (i .tally .encryption) ∙ due .encryption-on)),
       )
 
@@ -378,9 +380,6 @@ module _ (masks : Masks) (sealed : ℕ → List Sealed) (shaped : Shaped masks s
 
   -- ---- a mask reply
 
-  abbrev masksTo : Step × List ℕ → Out
-  masksTo p = outBy k (p .0) (p .1)
-
   -- the question under way, and the one asked by this step
   abbrev Opening′ : Trial → ℕ → Sealed → Out → Type 0
   Opening′ a e x o =
@@ -406,20 +405,20 @@ module _ (masks : Masks) (sealed : ℕ → List Sealed) (shaped : Shaped masks s
           let sample : masks e (part (b .at + 5) 16 d) ≡ masks e (take 16 (x .cipher)) =
           ap (masks e) (sample-is masks e x shape k b d in-range (i .whole) same) in
           let flag : getD (restOf y) 0 0 / 8 % 2 ≡ 1 =
-          ap (λ (n : ℕ). getD (drop n d) 0 0 / 8 % 2) (i .tally .place) ∙ flag-set masks e x shape k b d in-range (i .whole) same in
+          ap (λ (l : List ℕ). getD l 0 0 / 8 % 2) (rest-masked y i (askFor e x) q) ∙ flag-set masks e x shape k b d in-range (i .whole) same in
           let one = fair′ .0 ∙ ap (λ (l : List ℕ). getD l 0 0) sample in
           let two = fair′ .1 flag ∙ ap (λ (l : List ℕ). getD l 1 0) sample in
           let agrees : Agrees width (entryAt k h .replay) (a .used e) =
           subst (λ l. Agrees width (entryAt k h .replay) l) (ap (y .used) (found-epoch (k .entries) e (k .count) h f) ∙ z)
           (i .table .agrees h (found-keyed (k .entries) e (k .count) h f)) in
           inr
-          (subst (λ p. Opening′ a e x (masksTo p))
+          (subst (λ p. Opening′ a e x (maskedOut k p))
           (sym (mask-is masks e x shape k b d in-range (i .whole) same m one two h q f (a .used e) agrees (due .not-used) (due .not-old) (due .in-reach)))
           (opened h (header-is masks e x shape k b d in-range (i .whole) same m one two) (cipher-is masks e x shape k b d in-range (i .whole) same m one two)))
         where
           opened : (h : ℕ) → part (b .at) 5 (unmasked d (b .at) true m) ≡ x .header
               → part (b .at + 5) (length (x .cipher)) (unmasked d (b .at) true m) ≡ x .cipher
-              → Opening′ a e x (masksTo (openingAsked (entryAt k h) b (askFor e x) (x .num), unmasked d (b .at) true m))
+              → Opening′ a e x (maskedOut k (openingAsked (entryAt k h) b (askFor e x) (x .num), unmasked d (b .at) true m))
           opened h p r = unfold openingAsked in (
             refl,
             record {
@@ -438,7 +437,7 @@ module _ (masks : Masks) (sealed : ℕ → List Sealed) (shaped : Shaped masks s
       after-trials sealed y o (y .trial) unused (questionIn (o .reading) (o .datagram)) aMaskReply j
       (λ f. (
         refused-stays (answering m d) (y .state) (down-refused (o .reading) f),
-        mask-writes-not (y .state) m d (down-refused (o .reading) f),
+        mask-refused y i m f,
         refl,
       ))
       (λ f a p e x due. ⊎-elim (λ z. down≢ (sym z ∙ f)) (λ z. z .1) (mask-due m fair a e x due (j .under a p e x due)))

@@ -1,5 +1,5 @@
--- Worked lists whose premises are met, computed: records out of order, doubled and forged; a removal under a question; a sixteenth and a
--- seventeenth reading. Assumes nothing.
+-- Worked lists whose premises are met, computed: records out of order, doubled and forged; a doubled record in front of a new one; a removal
+-- under a question; a sixteenth and a seventeenth reading; a plaintext record and an unopened one; keys refused. Assumes nothing.
 use Prim.Native.Nat.{ℕ, zero, suc, _+_, _≤_}
 use borrow.Author.Tests.{eqb-false}
 use lib.Dec.{eqb}
@@ -14,6 +14,8 @@ use Rattle.base.specs.Choose.{choose, both, either, both-left, both-right, by-t
 use Rattle.base.specs.Parts.{part, splice}
 use Rattle.base.specs.Bits.{bit}
 use Rattle.datagram.specs.Datagram.{askSound, askKeyed, openingSound, questionSound, isSound, counted}
+use Rattle.datagram.specs.declared.Reading.the-variants as says
+use Rattle.datagram.specs.declared.Reading.{Reading}
 use Rattle.dtls_aead.specs.Nonce.{nonceOf}
 use Rattle.incoming.specs.Inner.{innerOf}
 use Rattle.mask_reply.specs.Mask.{unmasked, rebuilt, judged, maskedAt, maskedBy, masking, maskStep}
@@ -27,17 +29,21 @@ use Rattle.sealing.specs.Sealing.{maskedHeader}
 use Rattle.sequence.specs.Sequence.{own, below, above, nearest}
 use Rattle.window.specs.Used.{expected}
 use Rattle.window.specs.Window.{isFresh, marking}
-use Rattle.history.specs.Account.{upd, unusable, keys, resolvesTo, sealedSize, plainSize, recordSize, goodPlain}
-use Rattle.history.specs.Claim.{Masks, Opens}
+use Rattle.history.specs.Account.{upd, keyOwed, keys, resolvesTo, sealedSize, plainSize, recordSize, goodPlain}
+use Rattle.history.specs.Claim.{Masks, Opens, Due, PlainDue, UnopenedDue}
 use Rattle.history.specs.Half.{Shape, Event, here·, far·, Half, fresh-half, run, Honest}
 use Rattle.history.specs.Lists.{some-inj, mem-by, some≢none}
 use Rattle.history.specs.Receiver.{
   Sealed,
   Handed,
+  Tried,
   Lost,
+  Told,
   removedFrom,
   removed,
+  removeOwed,
   begun,
+  beginOwed,
   afterRead,
   afterMask,
   afterOpen,
@@ -127,6 +133,15 @@ abbrev epochsOf : List Lost → List ℕ
 epochsOf [] = []
 epochsOf (l ∷ ls) = l .epoch ∷ epochsOf ls
 
+-- the numbers told and owed, the last first
+abbrev answersOf : List Told → List ℕ
+answersOf [] = []
+answersOf (t ∷ ts) = t .answer ∷ answersOf ts
+
+abbrev owedOf : List Told → List ℕ
+owedOf [] = []
+owedOf (t ∷ ts) = t .owed ∷ owedOf ts
+
 -- ---- out of order, doubled, forged
 
 mixed : List Event
@@ -137,12 +152,50 @@ mixed =
 -- handed over in the order of arrival (the last first), each once
 mixed-hands : run (fresh-half 16) mixed .end .into .handed 2
     ≡ record { num = 1; type = 23; content = 11 ∷ [] } ∷ record { num = 0; type = 23; content = 10 ∷ [] } ∷ record { num = 2; type = 23; content = 12 ∷ [] } ∷ []
-unfolding mixed sealedAs arrives doubled forged choose both either splice bit askSound askKeyed openingSound questionSound isSound counted nonceOf innerOf unmasked rebuilt judged maskedAt maskedBy masking maskStep typed openedAt openedBy openings openedStep cancelledAsk cancelled freshOf keyOf leaving removedBy removeOf encryptOf releaseOf beginOf headerLen fragmentLen partialOf parseCiphertext isType isVersion isPlaintext plaintextHeader parsePlaintext parsed unifiedHeader lockedStep sealedStep stepOf openingAsked askedAgain asking readStep fits lastFit find orElse two resolve wasFound isKeyed marked appOne apps windowsSound keysSound isFull installed leftAt left maskedHeader own below above nearest expected isFresh marking upd unusable keys resolvesTo sealedSize plainSize recordSize goodPlain removedFrom removed begun afterRead afterMask afterOpen
+unfolding mixed sealedAs arrives doubled forged choose both either splice bit askSound askKeyed openingSound questionSound isSound counted nonceOf innerOf unmasked rebuilt judged maskedAt maskedBy masking maskStep typed openedAt openedBy openings openedStep cancelledAsk cancelled freshOf keyOf leaving removedBy removeOf encryptOf releaseOf beginOf headerLen fragmentLen partialOf parseCiphertext isType isVersion isPlaintext plaintextHeader parsePlaintext parsed unifiedHeader lockedStep sealedStep stepOf openingAsked askedAgain asking readStep fits lastFit find orElse two resolve wasFound isKeyed marked appOne apps windowsSound keysSound isFull installed leftAt left maskedHeader own below above nearest expected isFresh marking upd keyOwed keys resolvesTo sealedSize plainSize recordSize goodPlain removedFrom removed removeOwed begun beginOwed afterRead afterMask afterOpen
 mixed-hands = refl
 
 mixed-honest : Honest oneMask (fresh-half 16) mixed
-unfolding oneMask mixed sealedAs arrives doubled forged choose both either splice bit askSound askKeyed openingSound questionSound isSound counted nonceOf innerOf unmasked rebuilt judged maskedAt maskedBy masking maskStep typed openedAt openedBy openings openedStep cancelledAsk cancelled freshOf keyOf leaving removedBy removeOf encryptOf releaseOf beginOf headerLen fragmentLen partialOf parseCiphertext isType isVersion isPlaintext plaintextHeader parsePlaintext parsed unifiedHeader lockedStep sealedStep stepOf openingAsked askedAgain asking readStep fits lastFit find orElse two resolve wasFound isKeyed marked appOne apps windowsSound keysSound isFull installed leftAt left maskedHeader own below above nearest expected isFresh marking upd unusable keys resolvesTo sealedSize plainSize recordSize goodPlain removedFrom removed begun afterRead afterMask afterOpen
+unfolding oneMask mixed sealedAs arrives doubled forged choose both either splice bit askSound askKeyed openingSound questionSound isSound counted nonceOf innerOf unmasked rebuilt judged maskedAt maskedBy masking maskStep typed openedAt openedBy openings openedStep cancelledAsk cancelled freshOf keyOf leaving removedBy removeOf encryptOf releaseOf beginOf headerLen fragmentLen partialOf parseCiphertext isType isVersion isPlaintext plaintextHeader parsePlaintext parsed unifiedHeader lockedStep sealedStep stepOf openingAsked askedAgain asking readStep fits lastFit find orElse two resolve wasFound isKeyed marked appOne apps windowsSound keysSound isFull installed leftAt left maskedHeader own below above nearest expected isFresh marking upd keyOwed keys resolvesTo sealedSize plainSize recordSize goodPlain removedFrom removed removeOwed begun beginOwed afterRead afterMask afterOpen
 mixed-honest = (tt, (tt, (shape 2 0 10 (omega arith), (shape 2 1 11 (omega arith), (shape 2 2 12 (omega arith), (tt, (tt, ((refl, λ s. refl), (tt, (λ right. yes-fair (sealedAs 2 2 12 ∷ sealedAs 2 1 11 ∷ sealedAs 2 0 10 ∷ []) (sealedAs 2 2 12) (here refl) refl _ refl, (tt, (tt, ((refl, λ s. refl), (tt, (λ right. yes-fair (sealedAs 2 2 12 ∷ sealedAs 2 1 11 ∷ sealedAs 2 0 10 ∷ []) (sealedAs 2 0 10) (there (there (here refl))) refl _ refl, (tt, (tt, ((refl, λ s. refl), (tt, (tt, ((refl, λ s. refl), (λ right. no-fair (sealedAs 2 2 12 ∷ sealedAs 2 1 11 ∷ sealedAs 2 0 10 ∷ []) 9 _ _ refl, (tt, (tt, ((refl, λ s. refl), (tt, (λ right. yes-fair (sealedAs 2 2 12 ∷ sealedAs 2 1 11 ∷ sealedAs 2 0 10 ∷ []) (sealedAs 2 1 11) (there (here refl)) refl _ refl, tt)))))))))))))))))))))))))))
+
+-- ---- a doubled record in front of a new one
+
+-- record 0, then one datagram of records 0 and 1
+behind : List Event
+behind =
+    here· (key· 2 (replicate 12 0)) ∷ here· encrypt· ∷ far· 2 (sealedAs 2 0 10) ∷ far· 2 (sealedAs 2 1 11)
+    ∷ arrives (sealedAs 2 0 10) 10
+    (here· (begin· (sealedAs 2 0 10 .wire ++ sealedAs 2 1 11 .wire)) ∷ here· read· ∷ here· (mask· (1 ∷ 2 ∷ [])) ∷ here· read· ∷ here· (mask· (1 ∷ 2 ∷ []))
+    ∷ here· (write· (11 ∷ 23 ∷ [])) ∷ here· (open· (reply.Yes 2)) ∷ [])
+
+-- the mask reply that shows 0 as doubled leaves 1 as it arrived, and 1 is handed over
+behind-hands : run (fresh-half 16) behind .end .into .handed 2
+    ≡ record { num = 1; type = 23; content = 11 ∷ [] } ∷ record { num = 0; type = 23; content = 10 ∷ [] } ∷ []
+unfolding behind arrives sealedAs choose both either splice bit askSound askKeyed openingSound questionSound isSound counted nonceOf innerOf unmasked rebuilt judged maskedAt maskedBy masking maskStep typed openedAt openedBy openings openedStep cancelledAsk cancelled freshOf keyOf leaving removedBy removeOf encryptOf releaseOf beginOf headerLen fragmentLen partialOf parseCiphertext isType isVersion isPlaintext plaintextHeader parsePlaintext parsed unifiedHeader lockedStep sealedStep stepOf openingAsked askedAgain asking readStep fits lastFit find orElse two resolve wasFound isKeyed marked appOne apps windowsSound keysSound isFull installed leftAt left maskedHeader own below above nearest expected isFresh marking upd keyOwed keys resolvesTo sealedSize plainSize recordSize goodPlain removedFrom removed removeOwed begun beginOwed afterRead afterMask afterOpen
+behind-hands = refl
+
+-- and 1 was due: the last record that the cut came to
+abbrev lastOf : List Tried → Tried → Tried
+lastOf [] z = z
+lastOf (t ∷ ts) z = t
+
+behind-due : (z : Tried) → Due (lastOf (run (fresh-half 16) behind .end .into .tried) z .trial) 2 (sealedAs 2 1 11)
+unfolding behind arrives sealedAs choose both either splice bit askSound askKeyed openingSound questionSound isSound counted nonceOf innerOf unmasked rebuilt judged maskedAt maskedBy masking maskStep typed openedAt openedBy openings openedStep cancelledAsk cancelled freshOf keyOf leaving removedBy removeOf encryptOf releaseOf beginOf headerLen fragmentLen partialOf parseCiphertext isType isVersion isPlaintext plaintextHeader parsePlaintext parsed unifiedHeader lockedStep sealedStep stepOf openingAsked askedAgain asking readStep fits lastFit find orElse two resolve wasFound isKeyed marked appOne apps windowsSound keysSound isFull installed leftAt left maskedHeader own below above nearest expected isFresh marking upd keyOwed keys resolvesTo sealedSize plainSize recordSize goodPlain removedFrom removed removeOwed begun beginOwed afterRead afterMask afterOpen
+behind-due z = record {
+  sealed-then = here refl;
+  undamaged = refl;
+  encryption-on = refl;
+  among-16 = omega arith;
+  resolved = refl;
+  not-used = λ m. mem-by m (λ (p : _≡_ {A = ℕ} 1 0). omega arith) (λ o. elim o [ ]);
+  not-old = omega arith;
+  in-reach = omega arith;
+}
+
+behind-honest : Honest oneMask (fresh-half 16) behind
+unfolding oneMask behind arrives sealedAs choose both either splice bit askSound askKeyed openingSound questionSound isSound counted nonceOf innerOf unmasked rebuilt judged maskedAt maskedBy masking maskStep typed openedAt openedBy openings openedStep cancelledAsk cancelled freshOf keyOf leaving removedBy removeOf encryptOf releaseOf beginOf headerLen fragmentLen partialOf parseCiphertext isType isVersion isPlaintext plaintextHeader parsePlaintext parsed unifiedHeader lockedStep sealedStep stepOf openingAsked askedAgain asking readStep fits lastFit find orElse two resolve wasFound isKeyed marked appOne apps windowsSound keysSound isFull installed leftAt left maskedHeader own below above nearest expected isFresh marking upd keyOwed keys resolvesTo sealedSize plainSize recordSize goodPlain removedFrom removed removeOwed begun beginOwed afterRead afterMask afterOpen
+behind-honest = (tt, (tt, (shape 2 0 10 (omega arith), (shape 2 1 11 (omega arith), (tt, (tt, ((refl, λ s. refl), (tt, (λ right. yes-fair (sealedAs 2 1 11 ∷ sealedAs 2 0 10 ∷ []) (sealedAs 2 0 10) (there (here refl)) refl _ refl, (tt, (tt, ((refl, λ s. refl), (tt, ((refl, λ s. refl), (tt, (λ right. yes-fair (sealedAs 2 1 11 ∷ sealedAs 2 0 10 ∷ []) (sealedAs 2 1 11) (here refl) refl _ refl, tt))))))))))))))))
 
 -- ---- a removal under a question
 
@@ -156,11 +209,13 @@ removal =
 removal-hands : (run (fresh-half 16) removal .end .into .handed 7 ≡ [])
     × (run (fresh-half 16) removal .end .into .handed 3 ≡ record { num = 0; type = 23; content = 30 ∷ [] } ∷ [])
     × (epochsOf (run (fresh-half 16) removal .end .into .lost) ≡ 7 ∷ [])
-unfolding removal sealedAs choose both either splice bit askSound askKeyed openingSound questionSound isSound counted nonceOf innerOf unmasked rebuilt judged maskedAt maskedBy masking maskStep typed openedAt openedBy openings openedStep cancelledAsk cancelled freshOf keyOf leaving removedBy removeOf encryptOf releaseOf beginOf headerLen fragmentLen partialOf parseCiphertext isType isVersion isPlaintext plaintextHeader parsePlaintext parsed unifiedHeader lockedStep sealedStep stepOf openingAsked askedAgain asking readStep fits lastFit find orElse two resolve wasFound isKeyed marked appOne apps windowsSound keysSound isFull installed leftAt left maskedHeader own below above nearest expected isFresh marking upd unusable keys resolvesTo sealedSize plainSize recordSize goodPlain removedFrom removed begun afterRead afterMask afterOpen
-removal-hands = (refl, refl, refl)
+    × (answersOf (run (fresh-half 16) removal .end .told) ≡ 6 ∷ 0 ∷ 0 ∷ 0 ∷ 0 ∷ [])
+    × (owedOf (run (fresh-half 16) removal .end .told) ≡ 6 ∷ 0 ∷ 0 ∷ 0 ∷ 0 ∷ [])
+unfolding removal sealedAs choose both either splice bit askSound askKeyed openingSound questionSound isSound counted nonceOf innerOf unmasked rebuilt judged maskedAt maskedBy masking maskStep typed openedAt openedBy openings openedStep cancelledAsk cancelled freshOf keyOf leaving removedBy removeOf encryptOf releaseOf beginOf headerLen fragmentLen partialOf parseCiphertext isType isVersion isPlaintext plaintextHeader parsePlaintext parsed unifiedHeader lockedStep sealedStep stepOf openingAsked askedAgain asking readStep fits lastFit find orElse two resolve wasFound isKeyed marked appOne apps windowsSound keysSound isFull installed leftAt left maskedHeader own below above nearest expected isFresh marking upd keyOwed keys resolvesTo sealedSize plainSize recordSize goodPlain removedFrom removed removeOwed begun beginOwed afterRead afterMask afterOpen
+removal-hands = (refl, refl, refl, refl, refl)
 
 removal-honest : Honest oneMask (fresh-half 16) removal
-unfolding oneMask removal sealedAs choose both either splice bit askSound askKeyed openingSound questionSound isSound counted nonceOf innerOf unmasked rebuilt judged maskedAt maskedBy masking maskStep typed openedAt openedBy openings openedStep cancelledAsk cancelled freshOf keyOf leaving removedBy removeOf encryptOf releaseOf beginOf headerLen fragmentLen partialOf parseCiphertext isType isVersion isPlaintext plaintextHeader parsePlaintext parsed unifiedHeader lockedStep sealedStep stepOf openingAsked askedAgain asking readStep fits lastFit find orElse two resolve wasFound isKeyed marked appOne apps windowsSound keysSound isFull installed leftAt left maskedHeader own below above nearest expected isFresh marking upd unusable keys resolvesTo sealedSize plainSize recordSize goodPlain removedFrom removed begun afterRead afterMask afterOpen
+unfolding oneMask removal sealedAs choose both either splice bit askSound askKeyed openingSound questionSound isSound counted nonceOf innerOf unmasked rebuilt judged maskedAt maskedBy masking maskStep typed openedAt openedBy openings openedStep cancelledAsk cancelled freshOf keyOf leaving removedBy removeOf encryptOf releaseOf beginOf headerLen fragmentLen partialOf parseCiphertext isType isVersion isPlaintext plaintextHeader parsePlaintext parsed unifiedHeader lockedStep sealedStep stepOf openingAsked askedAgain asking readStep fits lastFit find orElse two resolve wasFound isKeyed marked appOne apps windowsSound keysSound isFull installed leftAt left maskedHeader own below above nearest expected isFresh marking upd keyOwed keys resolvesTo sealedSize plainSize recordSize goodPlain removedFrom removed removeOwed begun beginOwed afterRead afterMask afterOpen
 removal-honest = (tt, (tt, (tt, (shape 7 0 20 (omega arith), (shape 3 0 30 (omega arith), (tt, (tt, (tt, (tt, ((refl, λ s. refl), (tt, (λ right. yes-fair (sealedAs 3 0 30 ∷ []) (sealedAs 3 0 30) (here refl) refl _ refl, tt))))))))))))
 
 -- ---- a sixteenth and a seventeenth reading
@@ -185,12 +240,70 @@ seventeen =
 -- the sixteenth is handed over; the seventeenth ends the datagram, its number used
 seventeen-hands : (run (fresh-half 16) seventeen .end .into .handed 2 ≡ record { num = 0; type = 23; content = 10 ∷ [] } ∷ [])
     × (run (fresh-half 16) seventeen .end .into .used 2 ≡ 1 ∷ 0 ∷ [])
-unfolding seventeen sealedAs choose both either splice bit askSound askKeyed openingSound questionSound isSound counted nonceOf innerOf unmasked rebuilt judged maskedAt maskedBy masking maskStep typed openedAt openedBy openings openedStep cancelledAsk cancelled freshOf keyOf leaving removedBy removeOf encryptOf releaseOf beginOf headerLen fragmentLen partialOf parseCiphertext isType isVersion isPlaintext plaintextHeader parsePlaintext parsed unifiedHeader lockedStep sealedStep stepOf openingAsked askedAgain asking readStep fits lastFit find orElse two resolve wasFound isKeyed marked appOne apps windowsSound keysSound isFull installed leftAt left maskedHeader own below above nearest expected isFresh marking upd unusable keys resolvesTo sealedSize plainSize recordSize goodPlain removedFrom removed begun afterRead afterMask afterOpen
+unfolding seventeen sealedAs choose both either splice bit askSound askKeyed openingSound questionSound isSound counted nonceOf innerOf unmasked rebuilt judged maskedAt maskedBy masking maskStep typed openedAt openedBy openings openedStep cancelledAsk cancelled freshOf keyOf leaving removedBy removeOf encryptOf releaseOf beginOf headerLen fragmentLen partialOf parseCiphertext isType isVersion isPlaintext plaintextHeader parsePlaintext parsed unifiedHeader lockedStep sealedStep stepOf openingAsked askedAgain asking readStep fits lastFit find orElse two resolve wasFound isKeyed marked appOne apps windowsSound keysSound isFull installed leftAt left maskedHeader own below above nearest expected isFresh marking upd keyOwed keys resolvesTo sealedSize plainSize recordSize goodPlain removedFrom removed removeOwed begun beginOwed afterRead afterMask afterOpen
 seventeen-hands = (refl, refl)
 
 seventeen-honest : Honest oneMask (fresh-half 16) seventeen
-unfolding oneMask seventeen sealedAs choose both either splice bit askSound askKeyed openingSound questionSound isSound counted nonceOf innerOf unmasked rebuilt judged maskedAt maskedBy masking maskStep typed openedAt openedBy openings openedStep cancelledAsk cancelled freshOf keyOf leaving removedBy removeOf encryptOf releaseOf beginOf headerLen fragmentLen partialOf parseCiphertext isType isVersion isPlaintext plaintextHeader parsePlaintext parsed unifiedHeader lockedStep sealedStep stepOf openingAsked askedAgain asking readStep fits lastFit find orElse two resolve wasFound isKeyed marked appOne apps windowsSound keysSound isFull installed leftAt left maskedHeader own below above nearest expected isFresh marking upd unusable keys resolvesTo sealedSize plainSize recordSize goodPlain removedFrom removed begun afterRead afterMask afterOpen
+unfolding oneMask seventeen sealedAs choose both either splice bit askSound askKeyed openingSound questionSound isSound counted nonceOf innerOf unmasked rebuilt judged maskedAt maskedBy masking maskStep typed openedAt openedBy openings openedStep cancelledAsk cancelled freshOf keyOf leaving removedBy removeOf encryptOf releaseOf beginOf headerLen fragmentLen partialOf parseCiphertext isType isVersion isPlaintext plaintextHeader parsePlaintext parsed unifiedHeader lockedStep sealedStep stepOf openingAsked askedAgain asking readStep fits lastFit find orElse two resolve wasFound isKeyed marked appOne apps windowsSound keysSound isFull installed leftAt left maskedHeader own below above nearest expected isFresh marking upd keyOwed keys resolvesTo sealedSize plainSize recordSize goodPlain removedFrom removed removeOwed begun beginOwed afterRead afterMask afterOpen
 seventeen-honest = (tt, (tt, (shape 2 0 10 (omega arith), (shape 2 1 11 (omega arith), (tt, (tt, (tt, (tt, (tt, (tt, (tt, (tt, (tt, (tt, (tt, (tt, (tt, (tt, (tt, (tt, (tt, ((refl, λ s. refl), (tt, (λ right. yes-fair (sealedAs 2 1 11 ∷ sealedAs 2 0 10 ∷ []) (sealedAs 2 0 10) (there (here refl)) refl _ refl, (tt, ((refl, λ s. refl), (tt, (λ right. yes-fair (sealedAs 2 1 11 ∷ sealedAs 2 0 10 ∷ []) (sealedAs 2 1 11) (here refl) refl _ refl, tt))))))))))))))))))))))))))))
+
+-- ---- a plaintext record and an unopened one
+
+-- a handshake record with number 5, and a sealed record behind it, peer encryption off
+plainly : List Event
+plainly = here· (begin· (plaintextHeader 22 5 3 ++ (1 ∷ 2 ∷ 3 ∷ sealedAs 2 0 10 .wire))) ∷ here· read· ∷ here· read· ∷ []
+
+-- both are due
+abbrev earlier : List Tried → List Tried
+earlier [] = []
+earlier (t ∷ ts) = ts
+
+plainly-due : (z : Tried) → PlainDue (lastOf (earlier (run (fresh-half 16) plainly .end .into .tried)) z .trial)
+    × UnopenedDue (lastOf (run (fresh-half 16) plainly .end .into .tried) z .trial)
+unfolding plainly sealedAs choose both either splice bit askSound askKeyed openingSound questionSound isSound counted nonceOf innerOf unmasked rebuilt judged maskedAt maskedBy masking maskStep typed openedAt openedBy openings openedStep cancelledAsk cancelled freshOf keyOf leaving removedBy removeOf encryptOf releaseOf beginOf headerLen fragmentLen partialOf parseCiphertext isType isVersion isPlaintext plaintextHeader parsePlaintext parsed unifiedHeader lockedStep sealedStep stepOf openingAsked askedAgain asking readStep fits lastFit find orElse two resolve wasFound isKeyed marked appOne apps windowsSound keysSound isFull installed leftAt left maskedHeader own below above nearest expected isFresh marking upd keyOwed keys resolvesTo sealedSize plainSize recordSize goodPlain removedFrom removed removeOwed begun beginOwed afterRead afterMask afterOpen
+plainly-due z = (
+  record { in-order = refl; whole = omega arith; among-16 = omega arith },
+  record {
+    sealed-form = refl;
+    goes-on = refl;
+    header = omega arith;
+    whole = omega arith;
+    bits = omega arith;
+    encryption-off = refl;
+    among-16 = omega arith;
+  },
+)
+
+-- and read as what they are
+abbrev readsOf : List Tried → List (Reading × List ℕ)
+readsOf [] = []
+readsOf (t ∷ ts) = (t .reading, t .shown) ∷ readsOf ts
+
+plainly-reads : readsOf (run (fresh-half 16) plainly .end .into .tried)
+    ≡ (says.Unopened 2 258 21 18, sealedAs 2 0 10 .cipher) ∷ (says.Plaintext 22 5 13 3, 1 ∷ 2 ∷ 3 ∷ []) ∷ []
+unfolding plainly sealedAs choose both either splice bit askSound askKeyed openingSound questionSound isSound counted nonceOf innerOf unmasked rebuilt judged maskedAt maskedBy masking maskStep typed openedAt openedBy openings openedStep cancelledAsk cancelled freshOf keyOf leaving removedBy removeOf encryptOf releaseOf beginOf headerLen fragmentLen partialOf parseCiphertext isType isVersion isPlaintext plaintextHeader parsePlaintext parsed unifiedHeader lockedStep sealedStep stepOf openingAsked askedAgain asking readStep fits lastFit find orElse two resolve wasFound isKeyed marked appOne apps windowsSound keysSound isFull installed leftAt left maskedHeader own below above nearest expected isFresh marking upd keyOwed keys resolvesTo sealedSize plainSize recordSize goodPlain removedFrom removed removeOwed begun beginOwed afterRead afterMask afterOpen
+plainly-reads = refl
+
+plainly-honest : Honest oneMask (fresh-half 16) plainly
+unfolding oneMask plainly sealedAs choose both either splice bit askSound askKeyed openingSound questionSound isSound counted nonceOf innerOf unmasked rebuilt judged maskedAt maskedBy masking maskStep typed openedAt openedBy openings openedStep cancelledAsk cancelled freshOf keyOf leaving removedBy removeOf encryptOf releaseOf beginOf headerLen fragmentLen partialOf parseCiphertext isType isVersion isPlaintext plaintextHeader parsePlaintext parsed unifiedHeader lockedStep sealedStep stepOf openingAsked askedAgain asking readStep fits lastFit find orElse two resolve wasFound isKeyed marked appOne apps windowsSound keysSound isFull installed leftAt left maskedHeader own below above nearest expected isFresh marking upd keyOwed keys resolvesTo sealedSize plainSize recordSize goodPlain removedFrom removed removeOwed begun beginOwed afterRead afterMask afterOpen
+plainly-honest = (tt, (tt, (tt, tt)))
+
+-- ---- keys refused
+
+-- 2 is keyed once; 3 to 6, and 7 is a fifth; 1 never; with 3 removed, and only then, 7 is keyed
+refusals : List Event
+refusals =
+    here· (key· 2 []) ∷ here· (key· 2 []) ∷ here· (key· 3 []) ∷ here· (key· 4 []) ∷ here· (key· 5 []) ∷ here· (key· 6 []) ∷ here· (key· 7 []) ∷ here· (key· 1 [])
+    ∷ here· (remove· 3) ∷ here· (remove· 3) ∷ here· (key· 7 []) ∷ []
+
+refusals-told : (answersOf (run (fresh-half 16) refusals .end .told) ≡ 0 ∷ 13 ∷ 0 ∷ 13 ∷ 23 ∷ 0 ∷ 0 ∷ 0 ∷ 0 ∷ 13 ∷ 0 ∷ [])
+    × (owedOf (run (fresh-half 16) refusals .end .told) ≡ 0 ∷ 13 ∷ 0 ∷ 13 ∷ 23 ∷ 0 ∷ 0 ∷ 0 ∷ 0 ∷ 13 ∷ 0 ∷ [])
+unfolding refusals sealedAs choose both either splice bit askSound askKeyed openingSound questionSound isSound counted nonceOf innerOf unmasked rebuilt judged maskedAt maskedBy masking maskStep typed openedAt openedBy openings openedStep cancelledAsk cancelled freshOf keyOf leaving removedBy removeOf encryptOf releaseOf beginOf headerLen fragmentLen partialOf parseCiphertext isType isVersion isPlaintext plaintextHeader parsePlaintext parsed unifiedHeader lockedStep sealedStep stepOf openingAsked askedAgain asking readStep fits lastFit find orElse two resolve wasFound isKeyed marked appOne apps windowsSound keysSound isFull installed leftAt left maskedHeader own below above nearest expected isFresh marking upd keyOwed keys resolvesTo sealedSize plainSize recordSize goodPlain removedFrom removed removeOwed begun beginOwed afterRead afterMask afterOpen
+refusals-told = (refl, refl)
+
+refusals-honest : Honest oneMask (fresh-half 16) refusals
+unfolding oneMask refusals sealedAs choose both either splice bit askSound askKeyed openingSound questionSound isSound counted nonceOf innerOf unmasked rebuilt judged maskedAt maskedBy masking maskStep typed openedAt openedBy openings openedStep cancelledAsk cancelled freshOf keyOf leaving removedBy removeOf encryptOf releaseOf beginOf headerLen fragmentLen partialOf parseCiphertext isType isVersion isPlaintext plaintextHeader parsePlaintext parsed unifiedHeader lockedStep sealedStep stepOf openingAsked askedAgain asking readStep fits lastFit find orElse two resolve wasFound isKeyed marked appOne apps windowsSound keysSound isFull installed leftAt left maskedHeader own below above nearest expected isFresh marking upd keyOwed keys resolvesTo sealedSize plainSize recordSize goodPlain removedFrom removed removeOwed begun beginOwed afterRead afterMask afterOpen
+refusals-honest = (tt, (tt, (tt, (tt, (tt, (tt, (tt, (tt, (tt, (tt, (tt, tt)))))))))))
 
 -- ---- the edges of the reach
 
@@ -204,9 +317,9 @@ edges =
 
 edges-hands : run (fresh-half 16) edges .end .into .handed 2
     ≡ record { num = 32868; type = 23; content = 4 ∷ [] } ∷ record { num = 37; type = 23; content = 2 ∷ [] } ∷ record { num = 100; type = 23; content = 1 ∷ [] } ∷ []
-unfolding edges sealedAs arrives doubled choose both either splice bit askSound askKeyed openingSound questionSound isSound counted nonceOf innerOf unmasked rebuilt judged maskedAt maskedBy masking maskStep typed openedAt openedBy openings openedStep cancelledAsk cancelled freshOf keyOf leaving removedBy removeOf encryptOf releaseOf beginOf headerLen fragmentLen partialOf parseCiphertext isType isVersion isPlaintext plaintextHeader parsePlaintext parsed unifiedHeader lockedStep sealedStep stepOf openingAsked askedAgain asking readStep fits lastFit find orElse two resolve wasFound isKeyed marked appOne apps windowsSound keysSound isFull installed leftAt left maskedHeader own below above nearest expected isFresh marking upd unusable keys resolvesTo sealedSize plainSize recordSize goodPlain removedFrom removed begun afterRead afterMask afterOpen
+unfolding edges sealedAs arrives doubled choose both either splice bit askSound askKeyed openingSound questionSound isSound counted nonceOf innerOf unmasked rebuilt judged maskedAt maskedBy masking maskStep typed openedAt openedBy openings openedStep cancelledAsk cancelled freshOf keyOf leaving removedBy removeOf encryptOf releaseOf beginOf headerLen fragmentLen partialOf parseCiphertext isType isVersion isPlaintext plaintextHeader parsePlaintext parsed unifiedHeader lockedStep sealedStep stepOf openingAsked askedAgain asking readStep fits lastFit find orElse two resolve wasFound isKeyed marked appOne apps windowsSound keysSound isFull installed leftAt left maskedHeader own below above nearest expected isFresh marking upd keyOwed keys resolvesTo sealedSize plainSize recordSize goodPlain removedFrom removed removeOwed begun beginOwed afterRead afterMask afterOpen
 edges-hands = refl
 
 edges-honest : Honest oneMask (fresh-half 16) edges
-unfolding oneMask edges sealedAs arrives doubled choose both either splice bit askSound askKeyed openingSound questionSound isSound counted nonceOf innerOf unmasked rebuilt judged maskedAt maskedBy masking maskStep typed openedAt openedBy openings openedStep cancelledAsk cancelled freshOf keyOf leaving removedBy removeOf encryptOf releaseOf beginOf headerLen fragmentLen partialOf parseCiphertext isType isVersion isPlaintext plaintextHeader parsePlaintext parsed unifiedHeader lockedStep sealedStep stepOf openingAsked askedAgain asking readStep fits lastFit find orElse two resolve wasFound isKeyed marked appOne apps windowsSound keysSound isFull installed leftAt left maskedHeader own below above nearest expected isFresh marking upd unusable keys resolvesTo sealedSize plainSize recordSize goodPlain removedFrom removed begun afterRead afterMask afterOpen
+unfolding oneMask edges sealedAs arrives doubled choose both either splice bit askSound askKeyed openingSound questionSound isSound counted nonceOf innerOf unmasked rebuilt judged maskedAt maskedBy masking maskStep typed openedAt openedBy openings openedStep cancelledAsk cancelled freshOf keyOf leaving removedBy removeOf encryptOf releaseOf beginOf headerLen fragmentLen partialOf parseCiphertext isType isVersion isPlaintext plaintextHeader parsePlaintext parsed unifiedHeader lockedStep sealedStep stepOf openingAsked askedAgain asking readStep fits lastFit find orElse two resolve wasFound isKeyed marked appOne apps windowsSound keysSound isFull installed leftAt left maskedHeader own below above nearest expected isFresh marking upd keyOwed keys resolvesTo sealedSize plainSize recordSize goodPlain removedFrom removed removeOwed begun beginOwed afterRead afterMask afterOpen
 edges-honest = (tt, (tt, (shape 2 100 1 (omega arith), (shape 2 37 2 (omega arith), (shape 2 36 3 (omega arith), (shape 2 32868 4 (omega arith), (shape 2 65637 5 (omega arith), (tt, (tt, ((refl, λ s. refl), (tt, (λ right. yes-fair (sealedAs 2 65637 5 ∷ sealedAs 2 32868 4 ∷ sealedAs 2 36 3 ∷ sealedAs 2 37 2 ∷ sealedAs 2 100 1 ∷ []) (sealedAs 2 100 1) (there (there (there (there (here refl))))) refl _ refl, (tt, (tt, ((refl, λ s. refl), (tt, (λ right. yes-fair (sealedAs 2 65637 5 ∷ sealedAs 2 32868 4 ∷ sealedAs 2 36 3 ∷ sealedAs 2 37 2 ∷ sealedAs 2 100 1 ∷ []) (sealedAs 2 37 2) (there (there (there (here refl)))) refl _ refl, (tt, (tt, ((refl, λ s. refl), (tt, (tt, ((refl, λ s. refl), (tt, (λ right. yes-fair (sealedAs 2 65637 5 ∷ sealedAs 2 32868 4 ∷ sealedAs 2 36 3 ∷ sealedAs 2 37 2 ∷ sealedAs 2 100 1 ∷ []) (sealedAs 2 32868 4) (there (here refl)) refl _ refl, (tt, (tt, ((refl, λ s. refl), tt))))))))))))))))))))))))))))

@@ -1,14 +1,17 @@
 -- Small laws that the proofs share: updates, options, lists, two choices by one test. Assumes nothing.
-use Prim.Native.Nat.{ℕ}
+use Prim.Native.Nat.{ℕ, _+_, _-_, _<_, _≤_}
 use borrow.Author.Tests.{eqb-true, eqb-false, eq-eqb, ne-eqb}
 use lib.Dec.{eqb}
+use lib.ListN.{length, drop, getD, length-drop}
+use lib.Seq.{drop-drop, take-all}
 use mathlib.Core.Bool.{Bool, true, false, true≢false, false≢true}
 use mathlib.Core.List.{List, [], _∷_, List·Memᴰ as Mem, List·Memᴰ·head as here, List·Memᴰ·cases-cons as mem-cases}
 use mathlib.Core.Logic.{⊎-elim}
 use mathlib.Core.Option.{Option, none, some}
-use mathlib.Core.Path.{_≡_, refl, sym, _∙_, subst}
+use mathlib.Core.Path.{_≡_, refl, sym, ap, _∙_, subst}
 use native.Mathlib.Omega.{arith}
-use Rattle.base.specs.Choose.{choose, both, either, if-true, if-false, by-test, test-cases}
+use Rattle.base.specs.Choose.{choose, both, either, if-true, if-false, by-test, test-cases, lt-or-ge}
+use Rattle.base.specs.Parts.{part, part-at, splice, length-splice, splice-before, splice-after}
 use Rattle.history.specs.Account.{upd}
 
 module _ {A : Type 0} (f : ℕ → A) (e : ℕ) (a : A) where
@@ -50,6 +53,32 @@ by-both P {t} {u} {x} {y} {x′} {y′} e f g =
     test-cases t
     (λ z. subst (λ v. P v (choose u x′ y′)) (sym (if-true x y z)) (subst (λ v. P x v) (sym (if-true x′ y′ (e ∙ z))) (f z)))
     (λ z. subst (λ v. P v (choose u x′ y′)) (sym (if-false x y z)) (subst (λ v. P y v) (sym (if-false x′ y′ (e ∙ z))) (g z)))
+
+-- ---- what lies behind a place
+
+pub drops-on : (n m : ℕ) (d w : List ℕ) → n ≤ m → drop n d ≡ drop n w → drop m d ≡ drop m w
+drops-on n m d w h e =
+    let split : m ≡ n + (m - n) = omega arith in
+    ap (λ (k : ℕ). drop k d) split ∙ sym (drop-drop (m - n) n d) ∙ ap (drop (m - n)) e ∙ drop-drop (m - n) n w ∙ ap (λ (k : ℕ). drop k w) (sym split)
+
+module _ (p : ℕ) (v d : List ℕ) (fits : p + length v ≤ length d) where
+  pub splice-behind : (a : ℕ) → p + length v ≤ a → drop a (splice p v d) ≡ drop a d
+  splice-behind a h =
+      sym (take-all (length d) (drop a (splice p v d)) (omega (arith, length-drop a (splice p v d), length-splice p v d fits)))
+      ∙ splice-after p v d fits a (length d) h ∙ take-all (length d) (drop a d) (omega (arith, length-drop a d))
+
+  -- a byte beside what is written
+  pub splice-other : (j : ℕ) → (p ≤ j → j < p + length v → ⊥) → getD (splice p v d) j 0 ≡ getD d j 0
+  splice-other j off =
+      let here : j ≡ j + 0 = omega arith in
+      ap (λ (n : ℕ). getD (splice p v d) n 0) here ∙ sym (part-at j 1 (splice p v d) 0 (omega arith)) ∙ ap (λ (l : List ℕ). getD l 0 0) same
+      ∙ part-at j 1 d 0 (omega arith) ∙ ap (λ (n : ℕ). getD d n 0) (sym here)
+    where
+      same : part j 1 (splice p v d) ≡ part j 1 d
+      same = ⊎-elim (λ l. splice-before p v d fits j 1 (omega arith)) (λ g. splice-after p v d fits j 1 (after g)) (lt-or-ge j p)
+        where
+          after : p ≤ j → p + length v ≤ j
+          after g = ⊎-elim (λ l. absurd (off g l)) (λ h. h) (lt-or-ge j (p + length v))
 
 -- ---- two tests
 

@@ -25,7 +25,7 @@ use Rattle.recv_keys.specs.declared.RecvKeys.{RecvKeys}
 use Rattle.window.specs.Used.{fresh-unused}
 use Rattle.window.specs.Window.{width, isFresh}
 use Rattle.history.specs.Account.{upd}
-use Rattle.history.specs.Claim.{Real, RightNonce}
+use Rattle.history.specs.Claim.{Real, Shows, RightNonce}
 use Rattle.history.specs.Reads.{outBy}
 use Rattle.history.specs.Receiver.{Handed, Out, settled, fateOf, handedBy}
 use Rattle.history.specs.Sound.{FreshAsked, Hands, spend-hands, hand-hands, Moves, SameKeys}
@@ -39,6 +39,7 @@ pub record Settles (l : RecvKeys) (ivs : ℕ → List ℕ) (b : Datagram) (d : L
   pub asked : FreshAsked l (o .state .datagram .question)
   pub nonce : RightNonce (o .reading) ivs (o .nonce)
   pub real : (good on : Bool) → Real (o .reading) good on
+  pub shows : (rest shown : List ℕ) → Shows (o .reading) rest shown
 
 module _ (l : RecvKeys) (ivs : ℕ → List ℕ) (b : Datagram) (a : Ask) (n : ℕ) (d : List ℕ) (whole : length d ≡ b .size) (to : Option ℕ) (end : ℕ)
     (e : end ≡ endAsked b a) where
@@ -50,6 +51,7 @@ module _ (l : RecvKeys) (ivs : ℕ → List ℕ) (b : Datagram) (a : Ask) (n : �
     asked = tt;
     nonce = tt;
     real = λ g o. tt;
+    shows = λ r s. tt;
   }
   typed-settles (inner.Found t len) =
       by-test (λ x. Settles l ivs b d to end (outBy l x d))
@@ -59,6 +61,7 @@ module _ (l : RecvKeys) (ivs : ℕ → List ℕ) (b : Datagram) (a : Ask) (n : �
         asked = tt;
         nonce = tt;
         real = λ g o. tt;
+        shows = λ r s. tt;
       })
       (λ f. record {
         moves = record { size = refl; long = refl; goes = (refl, sym e, refl) };
@@ -66,6 +69,7 @@ module _ (l : RecvKeys) (ivs : ℕ → List ℕ) (b : Datagram) (a : Ask) (n : �
         asked = tt;
         nonce = tt;
         real = λ g o. tt;
+        shows = λ r s. tt;
       })
 
   module _ (used : ℕ → List ℕ) (handed : ℕ → List Handed) (h : Hands used handed) (new : Mem n (used (a .epoch)) → ⊥) where

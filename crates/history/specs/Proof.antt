@@ -3,8 +3,9 @@ use Prim.Native.Nat.{ℕ, _≤_}
 use mathlib.Core.Bool.{true, false}
 use mathlib.Core.List.{List, [], _∷_, List·Memᴰ as Mem, List·Memᴰ·tail as there}
 use mathlib.Core.Path.{_≡_, refl, sym, ap, subst, _∙_}
+use Rattle.datagram.specs.declared.Reading.the-variants as says
 use Rattle.history.specs.Account.{upd}
-use Rattle.history.specs.Calls.{Leaves, Fine, key-fine, encrypt-fine, release-fine, begin-fine, remove-fine, write-sound, unchanged, new-sound}
+use Rattle.history.specs.Calls.{Leaves, Fine, key-fine, key-told, encrypt-fine, encrypt-told, release-fine, release-told, begin-fine, begin-told, remove-fine, remove-told, write-sound, unchanged, new-sound}
 use Rattle.history.specs.Claim.{Masks, FairCall, Moved, Turned, Received}
 use Rattle.history.specs.Direction.{
   Shaped,
@@ -22,12 +23,13 @@ use Rattle.history.specs.Direction.{
 }
 use Rattle.history.specs.Half.{Shape, Event, here·, far·, Half, fresh-half, step, run, Fair, Honest, EveryList}
 use Rattle.history.specs.Lists.{upd-by, some≢none, mem-by}
-use Rattle.history.specs.Reading.{read-sound, mask-sound, open-sound, read-hands, mask-hands}
+use Rattle.history.specs.Reading.{rest-unasked, read-sound, mask-sound, open-sound, read-hands, mask-hands}
 use Rattle.history.specs.Receiver.{
   Sealed,
   Receiver,
   Move,
   Stray,
+  Told,
   Inbound,
   newInbound,
   Call,
@@ -57,6 +59,7 @@ pub record Link (masks : Masks) (sealed : ℕ → List Sealed) (i : Inbound) : T
   pub trials : Trials sealed (i .into)
   pub moves : (m : Move) → Mem m (i .moves) → Moved m (m .spends)
   pub strays : (t : Stray) → Mem t (i .strays) → Turned t
+  pub told : (a : Told) → Mem a (i .told) → a .answer ≡ a .owed
 
 more-moves : (m : Move) (ms : List Move) → Moved m (m .spends) → ((k : Move) → Mem k ms → Moved k (k .spends))
     → (k : Move) → Mem k (m ∷ ms) → Moved k (k .spends)
@@ -64,6 +67,10 @@ more-moves m ms new old k o = mem-by o (λ (p : k ≡ m). subst (λ v. Moved v (
 
 more-strays : (t : Stray) (ts : List Stray) → Turned t → ((k : Stray) → Mem k ts → Turned k) → (k : Stray) → Mem k (t ∷ ts) → Turned k
 more-strays t ts new old k o = mem-by o (λ (p : k ≡ t). subst Turned (sym p) new) (λ o′. old k o′)
+
+more-told : (t : Told) (ts : List Told) → t .answer ≡ t .owed → ((a : Told) → Mem a ts → a .answer ≡ a .owed)
+    → (a : Told) → Mem a (t ∷ ts) → a .answer ≡ a .owed
+more-told t ts new old a o = mem-by o (λ (p : a ≡ t). subst (λ v. v .answer ≡ v .owed) (sym p) new) (λ o′. old a o′)
 
 module _ (masks : Masks) (sealed : ℕ → List Sealed) (i : Inbound) (l : Link masks sealed i) where
   -- ---- the far end seals a record
@@ -80,6 +87,7 @@ module _ (masks : Masks) (sealed : ℕ → List Sealed) (i : Inbound) (l : Link 
     trials = trials-grow sealed (upd sealed e (r ∷ sealed e)) more (i .into) (l .trials);
     moves = l .moves;
     strays = l .strays;
+    told = l .told;
   }
     where
       more : (k : ℕ) (q : Sealed) → Mem q (sealed k) → Mem q (upd sealed e (r ∷ sealed e) k)
@@ -94,24 +102,30 @@ module _ (masks : Masks) (sealed : ℕ → List Sealed) (i : Inbound) (l : Link 
 
   -- one that reads nothing
   fine-keeps : (j : Inbound) → Fine (i .into) (j .into) → ((m : Move) → Mem m (j .moves) → Moved m (m .spends))
-      → ((t : Stray) → Mem t (j .strays) → Turned t) → Link masks sealed j
-  fine-keeps j f ms ts = record {
+      → ((t : Stray) → Mem t (j .strays) → Turned t) → ((a : Told) → Mem a (j .told) → a .answer ≡ a .owed) → Link masks sealed j
+  fine-keeps j f ms ts ns = record {
     shaped = l .shaped;
     sound = f .0;
     as-sealed = subst (AsSealed sealed) (sym (leaves-handed (f .1))) (l .as-sealed);
     trials = leaves-trials sealed (i .into) (j .into) (f .1) (l .trials);
     moves = ms;
     strays = ts;
+    told = ns;
   }
 
   pub call-keeps : (c : Call) → FairCall masks sealed i c → Link masks sealed (does sealed i c)
-  call-keeps (key· k iv) h = fine-keeps _ (key-fine y (l .sound) k iv) (l .moves) (l .strays)
-  call-keeps (remove· k) h = fine-keeps _ (remove-fine y (l .sound) k) (l .moves) (l .strays)
-  call-keeps encrypt· h = fine-keeps _ (encrypt-fine y (l .sound)) (l .moves) (l .strays)
-  call-keeps release· h = fine-keeps _ (release-fine y (l .sound)) (l .moves) (l .strays)
+  call-keeps (key· k iv) h =
+      fine-keeps _ (key-fine y (l .sound) k iv) (l .moves) (l .strays) (more-told _ (i .told) (key-told y (l .sound) k iv) (l .told))
+  call-keeps (remove· k) h =
+      fine-keeps _ (remove-fine y (l .sound) k) (l .moves) (l .strays) (more-told _ (i .told) (remove-told y (l .sound) k) (l .told))
+  call-keeps encrypt· h =
+      fine-keeps _ (encrypt-fine y (l .sound)) (l .moves) (l .strays) (more-told _ (i .told) (encrypt-told y (l .sound)) (l .told))
+  call-keeps release· h =
+      fine-keeps _ (release-fine y (l .sound)) (l .moves) (l .strays) (more-told _ (i .told) (release-told y (l .sound)) (l .told))
   call-keeps (begin· d) h =
       fine-keeps _ (begin-fine y (l .sound) d)
       (more-moves _ (i .moves) (same-moved 0 unused _ _ refl (begin-keys y (l .sound) 0 d)) (l .moves)) (l .strays)
+      (more-told _ (i .told) (begin-told y (l .sound) d) (l .told))
   call-keeps read· h = record {
     shaped = l .shaped;
     sound = read-sound y (l .sound) sealed;
@@ -119,6 +133,7 @@ module _ (masks : Masks) (sealed : ℕ → List Sealed) (i : Inbound) (l : Link 
     trials = read-trials masks sealed (l .shaped) y (l .sound) (l .trials);
     moves = more-moves _ (i .moves) (same-moved 0 unused _ _ refl (read-keys y (l .sound) 0 sealed)) (l .moves);
     strays = l .strays;
+    told = l .told;
   }
   call-keeps (mask· m) h = record {
     shaped = l .shaped;
@@ -127,6 +142,7 @@ module _ (masks : Masks) (sealed : ℕ → List Sealed) (i : Inbound) (l : Link 
     trials = mask-trials masks sealed (l .shaped) y (l .sound) (l .trials) m h;
     moves = more-moves _ (i .moves) (same-moved 0 unused _ _ refl (mask-keys y (l .sound) 0 m)) (l .moves);
     strays = l .strays;
+    told = l .told;
   }
   call-keeps (write· p) h = record {
     shaped = l .shaped;
@@ -135,6 +151,7 @@ module _ (masks : Masks) (sealed : ℕ → List Sealed) (i : Inbound) (l : Link 
     trials = write-trials sealed y (l .trials) p;
     moves = l .moves;
     strays = l .strays;
+    told = l .told;
   }
   call-keeps (open· p) h = record {
     shaped = l .shaped;
@@ -143,16 +160,17 @@ module _ (masks : Masks) (sealed : ℕ → List Sealed) (i : Inbound) (l : Link 
     trials = open-trials masks sealed (l .shaped) y (l .sound) (l .trials) p h;
     moves = more-moves _ (i .moves) (open-moved y (l .sound) (i .serial) p) (l .moves);
     strays = l .strays;
+    told = l .told;
   }
   call-keeps (readOver· d) h =
       let t = read-turned y (l .sound) 0 d h in
-      fine-keeps _ (unchanged y (l .sound) _ (t .state)) (l .moves) (more-strays _ (i .strays) t (l .strays))
+      fine-keeps _ (unchanged y (l .sound) _ (t .state)) (l .moves) (more-strays _ (i .strays) t (l .strays)) (l .told)
   call-keeps (maskOver· m d) h =
       let t = mask-turned y (l .sound) 0 m d h in
-      fine-keeps _ (unchanged y (l .sound) _ (t .state)) (l .moves) (more-strays _ (i .strays) t (l .strays))
+      fine-keeps _ (unchanged y (l .sound) _ (t .state)) (l .moves) (more-strays _ (i .strays) t (l .strays)) (l .told)
   call-keeps (openOver· p d) h =
       let t = open-turned y (l .sound) 0 p d h in
-      fine-keeps _ (unchanged y (l .sound) _ (t .state)) (l .moves) (more-strays _ (i .strays) t (l .strays))
+      fine-keeps _ (unchanged y (l .sound) _ (t .state)) (l .moves) (more-strays _ (i .strays) t (l .strays)) (l .told)
 
   -- ---- what follows
 
@@ -165,10 +183,17 @@ module _ (masks : Masks) (sealed : ℕ → List Sealed) (i : Inbound) (l : Link 
     moved-nothing = λ k none-accepted m o z. moved-unused m (m .spends) (none-accepted m o z) (l .moves m o);
     each-call = l .moves;
     real-readings = l .sound .real;
+    plain-read = λ d m. l .sound .said d m .plain;
+    unopened-read = λ d m. l .sound .said d m .unopened;
+    read-at-once = λ t p. (l .sound .later t p says.End .plain, l .sound .later t p says.End .unopened);
+    shows-arrived = l .sound .shows;
     answered = l .sound .proper;
     nonces = l .sound .nonces;
+    spared = l .sound .spared;
+    as-arrived = λ w. sym (rest-unasked y (l .sound) w);
     lost-removed = l .sound .lost;
     others-turned = l .strays;
+    told-right = l .told;
   }
 
 -- ---- a fresh end, and a list of events
@@ -181,6 +206,7 @@ new-link masks min h = record {
   trials = record { under = λ t q. some≢none (sym q); says = λ d m. elim m [ ]; handed = λ d m. elim m [ ] };
   moves = λ m o. elim o [ ];
   strays = λ t o. elim o [ ];
+  told = λ a o. elim o [ ];
 }
 
 step-keeps : (masks : Masks) (w : Half) (v : Event) → Link masks (w .sealed) (w .end) → Fair masks w v

@@ -1,5 +1,5 @@
 -- A read, a mask reply and an opening reply keep what holds between state, account and history. Assumes nothing.
-use Prim.Native.Nat.{ℕ, suc, _+_, _-_, _%_, _<_, _≤_}
+use Prim.Native.Nat.{ℕ, suc, _+_, _-_, _/_, _%_, _<_, _≤_}
 use borrow.Author.Tests.{eqb-true, eqb-false}
 use lib.Dec.{eqb}
 use lib.ListN.{length, getD, drop}
@@ -24,7 +24,7 @@ use Rattle.dtls_aead.specs.Nonce.{nonceOf}
 use Rattle.incoming.specs.Inner.{innerOf}
 use Rattle.incoming.specs.declared.Inner.{Inner}
 use Rattle.mask_reply.specs.Leads.{mask-asks}
-use Rattle.mask_reply.specs.Mask.{judged, maskedAt, maskedBy, masking, maskStep}
+use Rattle.mask_reply.specs.Mask.{unmasked, judged, maskedAt, maskedBy, masking, maskStep}
 use Rattle.opening_reply.specs.Leads.{opened-asks}
 use Rattle.opening_reply.specs.Opening.{still, typed, openedAt, openedBy, openings, openedStep, shownBy}
 use Rattle.opening_reply.specs.declared.Marked.{Marked}
@@ -45,11 +45,11 @@ use Rattle.recv_keys.specs.declared.RecvEpochEntry.{RecvEpochEntry}
 use Rattle.recv_keys.specs.declared.RecvKeys.{RecvKeys}
 use Rattle.window.specs.Window.{width, isFresh}
 use Rattle.history.specs.Account.{upd, Shown, nothing, aMask, anOpening, Account, resolvesTo, recordSize, goodPlain}
-use Rattle.history.specs.Claim.{Real, Proper, RightNonce}
-use Rattle.history.specs.Cut.{cut}
-use Rattle.history.specs.Lists.{by-both}
+use Rattle.history.specs.Claim.{Real, Shows, Proper, RightNonce, NumberByte, Spares}
+use Rattle.history.specs.Cut.{cut, nonce-own}
+use Rattle.history.specs.Lists.{by-both, drops-on}
 use Rattle.history.specs.Opening.{Settles, typed-settles, typed-hands, yes-keys, yes-table, yes-new}
-use Rattle.history.specs.Reads.{outBy, Quiet, passed-quiet, read-quiet, mask-quiet}
+use Rattle.history.specs.Reads.{outBy, readsOut, maskedOut, Quiet, passed-quiet, read-quiet, read-flag, read-shows, plain-says, unopened-says, masked-long, masked-behind, masked-other, mask-quiet}
 use Rattle.history.specs.Receiver.{
   Sealed,
   Handed,
@@ -73,6 +73,7 @@ use Rattle.history.specs.Receiver.{
   useBy,
   useOf,
   spent,
+  spokenBy,
   after,
   restOf,
   reached,
@@ -86,7 +87,27 @@ use Rattle.history.specs.Receiver.{
   openOut,
   afterOpen,
 }
-use Rattle.history.specs.Sound.{Asked, UnderWay, FreshAsked, Hands, Sound, Moves, moves-on, same-keys, more-proper, more-nonces, step-sound}
+use Rattle.history.specs.Sound.{
+  Asked,
+  UnderWay,
+  FreshAsked,
+  Hands,
+  intactFrom,
+  FlagAsked,
+  Intact,
+  Said,
+  Sound,
+  Moves,
+  moves-on,
+  same-keys,
+  more-proper,
+  more-nonces,
+  more-spared,
+  none-written,
+  step-intact,
+  settle-intact,
+  step-sound,
+}
 use Rattle.history.specs.Table.{epochAt, resolves, Table}
 
 -- ---- a call that is refused, and a question asked again
@@ -103,11 +124,16 @@ down-sound y i t w deed p = record {
   hands = i .hands;
   tally = i .tally;
   whole = i .whole;
+  intact = i .intact;
   under = i .under;
-  proper = more-proper y i deed says.Reply zeros p;
-  nonces = more-nonces y i deed says.Reply zeros tt;
+  proper = more-proper y i deed (refusal y) p;
+  nonces = more-nonces y i deed (refusal y) tt;
+  spared = more-spared y i deed (refusal y) (none-written y deed (refusal y) refl);
   lost = i .lost;
   real = i .real;
+  shows = i .shows;
+  said = i .said;
+  later = i .later;
 }
 
 abbrev pub sameAgain : Receiver → Reading → List ℕ → Out
@@ -123,11 +149,16 @@ again-sound y i x v w f h q p n = rw (f, q) (record {
   hands = rw h (i .hands);
   tally = i .tally;
   whole = i .whole;
+  intact = i .intact;
   under = i .under;
-  proper = more-proper y i aRead x v p;
-  nonces = more-nonces y i aRead x v n;
+  proper = more-proper y i aRead (sameAgain y x v) p;
+  nonces = more-nonces y i aRead (sameAgain y x v) n;
+  spared = more-spared y i aRead (sameAgain y x v) (none-written y aRead (sameAgain y x v) refl);
   lost = i .lost;
   real = i .real;
+  shows = i .shows;
+  said = i .said;
+  later = i .later;
 })
 
 -- the epoch of a question is found
@@ -149,6 +180,35 @@ masked-next : (j x s : ℕ) (k : RecvKeys) (b : Datagram) (a : Ask) (m d : List 
 unfolding maskedBy maskedAt
 masked-next j x s k b a m d = judged-next (entryAt k j) b a _ x s
 
+judged-quits : (e : RecvEpochEntry) (b : Datagram) (a : Ask) (n : ℕ) (x : Ask) → judged e b a n .datagram .question ≡ question.Mask x → ⊥
+unfolding judged openingAsked
+judged-quits e b a n x =
+    by-test (λ (t : Step). t .datagram .question ≡ question.Mask x → ⊥) (λ u g. let z : _≡_ {A = ℕ} 0 1 = cc in omega arith)
+    (λ u. by-test (λ (t : Step). t .datagram .question ≡ question.Mask x → ⊥) (λ v g. let z : _≡_ {A = ℕ} 0 1 = cc in omega arith)
+    (λ v g. let z : _≡_ {A = ℕ} 0 1 = cc in omega arith))
+
+masked-quits : (j : ℕ) (x : Ask) (k : RecvKeys) (b : Datagram) (a : Ask) (m d : List ℕ) → maskedBy (found.At j) k b a m d .0 .datagram .question ≡ question.Mask x → ⊥
+unfolding maskedBy maskedAt
+masked-quits j x k b a m d = judged-quits (entryAt k j) b a _ x
+
+not-mask-flag : (q : Question) (first : ℕ) → ((x : Ask) → q ≡ question.Mask x → ⊥) → FlagAsked q first
+not-mask-flag question.Nothing first h = tt
+not-mask-flag (question.Mask a) first h = absurd (h a refl)
+not-mask-flag (question.Opening a n) first h = tt
+
+masked-flag : (j first : ℕ) (k : RecvKeys) (b : Datagram) (a : Ask) (m d : List ℕ) → FlagAsked (maskedBy (found.At j) k b a m d .0 .datagram .question) first
+masked-flag j first k b a m d = not-mask-flag _ first (λ x. masked-quits j x k b a m d)
+
+-- nor does it read
+judged-shows : (e : RecvEpochEntry) (b : Datagram) (a : Ask) (n : ℕ) (rest shown : List ℕ) → Shows (judged e b a n .reading) rest shown
+unfolding judged openingAsked
+judged-shows e b a n rest shown =
+    by-test (λ (t : Step). Shows (t .reading) rest shown) (λ u. tt) (λ u. by-test (λ (t : Step). Shows (t .reading) rest shown) (λ v. tt) (λ v. tt))
+
+masked-shows : (j : ℕ) (k : RecvKeys) (b : Datagram) (a : Ask) (m d rest shown : List ℕ) → Shows (maskedBy (found.At j) k b a m d .0 .reading) rest shown
+unfolding maskedBy maskedAt
+masked-shows j k b a m d rest shown = judged-shows (entryAt k j) b a _ rest shown
+
 -- a refused reply uses nothing
 pub use-down : (w : Shown) (p : Opening) → useOf w p turnedDown ≡ unused
 use-down w reply.No = refl
@@ -169,10 +229,35 @@ module _ (y : Receiver) (i : Sound y) where
   in-range : isSound k b ≡ true
   in-range = made-sound (y .state) (i .made)
 
+  -- where no opening is asked, the record at the cursor and what follows lie as they arrived
+  rest-from : intactFrom (b .question) (b .at) ≡ b .at → restOf y ≡ drop (b .at) d
+  rest-from e =
+      ap (λ (n : ℕ). drop n (y .arrived)) (i .tally .place)
+      ∙ sym (subst (λ (n : ℕ). drop n d ≡ drop n (y .arrived)) e (i .intact .lies))
+
+  pub rest-idle : b .question ≡ question.Nothing → restOf y ≡ drop (b .at) d
+  rest-idle q = rest-from (ap (λ (x : Question). intactFrom x (b .at)) q)
+
+  pub rest-masked : (a : Ask) → b .question ≡ question.Mask a → restOf y ≡ drop (b .at) d
+  rest-masked a q = rest-from (ap (λ (x : Question). intactFrom x (b .at)) q)
+
+  -- and so where the host is shown no question
+  unasked : (q : Question) → b .question ≡ q → UnderWay q (b .at) (y .account .waits) (y .trial) → y .account .waits ≡ nothing → b .question ≡ question.Nothing
+  unasked question.Nothing q z w = q
+  unasked (question.Mask a) q z w =
+      let p : aMask (a .epoch) (b .at + a .«header_len») ≡ nothing = sym (z .2 .0) ∙ w in let n : _≡_ {A = ℕ} 0 1 = cc in absurd (omega arith)
+  unasked (question.Opening a n) q z w =
+      let p : anOpening (a .epoch) n (b .at) (z .2 .0) (z .2 .1) ≡ nothing = sym (z .2 .2) ∙ w in let m : _≡_ {A = ℕ} 0 1 = cc in absurd (omega arith)
+
+  pub rest-unasked : y .account .waits ≡ nothing → restOf y ≡ drop (y .account .place) d
+  rest-unasked w =
+      rest-idle (unasked (b .question) refl (i .under) w) ∙ ap (λ (n : ℕ). drop n d) (sym (i .tally .place))
+
   -- what the account comes to is what the state comes to
-  pub reached-to : (sealed : ℕ → List Sealed) → reached y sealed .resolved ≡ epochAt (k .entries) (resolve k (getD (drop (b .at) d) 0 0 % 4))
-  reached-to sealed =
-      ap (λ (n : ℕ). resolvesTo (y .account) (getD (drop n d) 0 0 % 4)) (i .tally .place)
+  pub reached-to : (sealed : ℕ → List Sealed) → b .question ≡ question.Nothing
+      → reached y sealed .resolved ≡ epochAt (k .entries) (resolve k (getD (drop (b .at) d) 0 0 % 4))
+  reached-to sealed q =
+      ap (λ (l : List ℕ). resolvesTo (y .account) (getD l 0 0 % 4)) (rest-idle q)
       ∙ resolves k (getD (drop (b .at) d) 0 0 % 4) (y .account) (i .tally .keyed) (i .tally .released)
 
   -- ---- a read
@@ -182,27 +267,64 @@ module _ (y : Receiver) (i : Sound y) where
       Quiet k (y .account .ivs) b d (t .resolved) (t .ends) (t .plain) (t .encrypted) (readOut (y .state) d)
   idle-quiet sealed q =
       let t = reached y sealed in
-      subst (λ s. Quiet k (y .account .ivs) b d (t .resolved) (t .ends) (t .plain) (t .encrypted) (outBy k s d))
+      subst (λ s. Quiet k (y .account .ivs) b d (t .resolved) (t .ends) (t .plain) (t .encrypted) (readsOut k s d))
       (sym (read-asks k b d question.Nothing in-range (i .whole) q))
       (unfold asking in
       (read-quiet k (y .used) (y .account .ivs) (i .table) b d (i .made .ready) (i .whole) _ _ _ _ (drop (b .at) d) refl (parsed (drop (b .at) d))
-      (recordSize (drop (b .at) d)) (cut (drop (b .at) d)) (ap (λ (n : ℕ). n + recordSize (drop n d)) (i .tally .place)) (reached-to sealed)
-      (i .tally .encryption) (ap (λ (n : ℕ). goodPlain (drop n d)) (i .tally .place))))
+      (recordSize (drop (b .at) d)) (cut (drop (b .at) d))
+      (ap (λ (n : ℕ). n + recordSize (restOf y)) (i .tally .place) ∙ ap (λ (l : List ℕ). b .at + recordSize l) (rest-idle q)) (reached-to sealed q)
+      (i .tally .encryption) (ap goodPlain (rest-idle q))))
+
+  idle-intact : (sealed : ℕ → List Sealed) → b .question ≡ question.Nothing → Intact (readOut (y .state) d .state .datagram) d (y .arrived)
+  idle-intact sealed q =
+      step-intact (idle-quiet sealed q .moves) (y .arrived) (i .intact .long) (b .at)
+      (subst (λ (x : Question). drop (intactFrom x (b .at)) d ≡ drop (intactFrom x (b .at)) (y .arrived)) q (i .intact .lies))
+      (omega (arith, i .tally .place)) (omega (arith, i .whole, i .made .ready .at)) (λ a e. omega arith)
+      (subst (λ (s : Step). FlagAsked (s .datagram .question) (getD (drop (b .at) (y .arrived)) 0 0)) (sym (read-asks k b d question.Nothing in-range (i .whole) q))
+      (subst (λ (l : List ℕ). FlagAsked (asking question.Nothing k b d .datagram .question) (getD l 0 0))
+      (sym (rest-idle q) ∙ ap (λ (n : ℕ). drop n (y .arrived)) (i .tally .place))
+      (unfold asking in
+      (read-flag k (y .used) (y .account .ivs) (i .table) b d (i .made .ready) (i .whole) none 0 true true (drop (b .at) d) (parsed (drop (b .at) d))
+      (recordSize (drop (b .at) d)) (cut (drop (b .at) d))))))
+
+  idle-shows : (sealed : ℕ → List Sealed) → b .question ≡ question.Nothing
+      → let o = readOut (y .state) d in Shows (o .reading) (reached y sealed .rest) (shownBy (o .reading) d)
+  idle-shows sealed q =
+      subst (λ (s : Step). Shows (readsOut k s d .reading) (restOf y) (shownBy (readsOut k s d .reading) d)) (sym (read-asks k b d question.Nothing in-range (i .whole) q))
+      (subst (λ (l : List ℕ). let o = readsOut k (asking question.Nothing k b d) d in Shows (o .reading) l (shownBy (o .reading) d)) (sym (rest-idle q))
+      (unfold asking in
+      (read-shows k (y .used) (y .account .ivs) (i .table) b d (i .made .ready) (i .whole) none 0 true true (drop (b .at) d) refl (parsed (drop (b .at) d))
+      (cut (drop (b .at) d)))))
+
+  idle-said : (sealed : ℕ → List Sealed) → b .question ≡ question.Nothing → Said (reached y sealed) (readOut (y .state) d .reading)
+  unfolding asking
+  idle-said sealed q =
+      let few : y .account .readings ≤ 15 → b .readings ≤ 15 = λ h. omega (arith, i .tally .readings) in
+      subst (λ (s : Step). Said (reached y sealed) (readsOut k s d .reading)) (sym (read-asks k b d question.Nothing in-range (i .whole) q))
+      (subst (λ (l : List ℕ). Said (reached y sealed) (readsOut k (stepOf (parsed l) k b) d .reading)) (rest-idle q) (record {
+        plain = λ p. plain-says k (y .used) (y .account .ivs) (i .table) b d (i .made .ready) (i .whole) none 0 true true (restOf y) (p .in-order) (p .whole) (few (p .among-16));
+        unopened = λ p. unopened-says k (y .used) (y .account .ivs) (i .table) b d (i .made .ready) (i .whole) none 0 true true (restOf y)
+            (p .sealed-form) (p .goes-on) (p .header) (p .whole) (p .bits) (sym (i .tally .encryption) ∙ p .encryption-off) (few (p .among-16));
+      }))
+
+  read-made : Made (readOut (y .state) d .state)
+  read-made = after-made (reading d) (y .state) (i .made)
 
   idle-sound : (sealed : ℕ → List Sealed) → b .question ≡ question.Nothing → y .account .waits ≡ nothing
       → Sound (readBy y sealed nothing (readOut (y .state) d))
   idle-sound sealed q z =
       let c = idle-quiet sealed q in
       let o = readOut (y .state) d in
-      step-sound y i o (reached y sealed) unused aRead (c .moves) same-keys (after-made (reading d) (y .state) (i .made)) (i .table) (c .asked)
+      step-sound y i o (reached y sealed) unused aRead (c .moves) same-keys read-made (i .table) (c .asked)
       (subst (λ f. Hands (y .used) f) (sym (c .hands (shownBy (o .reading) d) (y .handed))) (i .hands))
-      (subst (λ w. Proper aRead w (o .reading)) (sym z) (moves-on (c .moves))) (c .nonce) (c .real)
+      (subst (λ w. Proper aRead w (o .reading)) (sym z) (moves-on (c .moves))) (c .nonce) (c .real) (idle-intact sealed q) (none-written y aRead o refl)
+      (idle-shows sealed q) (idle-said sealed q)
 
   -- the mask question again
   pub masks-again : (a : Ask) → b .question ≡ question.Mask a
       → readOut (y .state) d ≡ sameAgain y (says.Mask (a .epoch) (b .at + a .«header_len»)) zeros
   unfolding asking
-  masks-again a q = ap (λ (s : Step). outBy k s d) (read-asks k b d (question.Mask a) in-range (i .whole) q)
+  masks-again a q = ap (λ (s : Step). readsOut k s d) (read-asks k b d (question.Mask a) in-range (i .whole) q)
 
   mask-again : (sealed : ℕ → List Sealed) (a : Ask) → b .question ≡ question.Mask a → UnderWay (question.Mask a) (b .at) (y .account .waits) (y .trial)
       → Sound (readBy y sealed (y .account .waits) (readOut (y .state) d))
@@ -218,10 +340,10 @@ module _ (y : Receiver) (i : Sound y) where
       → readOut (y .state) d
       ≡ sameAgain y (says.Opening (a .epoch) n (b .at) (a .«header_len») (a .length)) (nonceOf (entryAt k j .iv) n)
   again-is a n j q f =
-      ap (λ (s : Step). outBy k s d) (read-asks k b d (question.Opening a n) in-range (i .whole) q)
+      ap (λ (s : Step). readsOut k s d) (read-asks k b d (question.Opening a n) in-range (i .whole) q)
       ∙ (unfold asking askedAgain openingAsked in
-      (ap (λ (g : Found). outBy k (askedAgain g k b a n) d) f
-      ∙ ap (λ (u : Question). outBy k (record {
+      (ap (λ (g : Found). readsOut k (askedAgain g k b a n) d) f
+      ∙ ap (λ (u : Question). readsOut k (record {
         reading = says.Opening (a .epoch) n (b .at) (a .«header_len») (a .length);
         nonce = nonceOf (entryAt k j .iv) n;
         datagram = questioned b u;
@@ -242,7 +364,8 @@ module _ (y : Receiver) (i : Sound y) where
       ∙ ap (λ (l : ℕ). says.Opening (a .epoch) n (b .at) (length (u .0)) l) (sym (u .4))))
       (ap (λ (v : List ℕ). nonceOf v n)
       (i .table .iv j (found-keyed (k .entries) (a .epoch) (k .count) j f)
-      ∙ ap (y .account .ivs) (found-epoch (k .entries) (a .epoch) (k .count) j f)))))
+      ∙ ap (y .account .ivs) (found-epoch (k .entries) (a .epoch) (k .count) j f))
+      ∙ nonce-own (y .account .ivs (a .epoch)) n)))
 
   reads : (sealed : ℕ → List Sealed) (q : Question) → b .question ≡ q → UnderWay q (b .at) (y .account .waits) (y .trial)
       → Sound (readBy y sealed (y .account .waits) (readOut (y .state) d))
@@ -257,9 +380,6 @@ module _ (y : Receiver) (i : Sound y) where
 
   -- ---- a mask reply
 
-  abbrev masksTo : Step × List ℕ → Out
-  masksTo p = outBy k (p .0) (p .1)
-
   pub mask-idle : (m : List ℕ) → b .question ≡ question.Nothing → maskStep k b m d ≡ (told b says.Reply, d)
   unfolding masking
   mask-idle m q = mask-asks k b m d question.Nothing in-range (i .whole) q
@@ -270,7 +390,7 @@ module _ (y : Receiver) (i : Sound y) where
 
   mask-down : (m : List ℕ) → maskStep k b m d ≡ (told b says.Reply, d) → Proper aMaskReply (y .account .waits) says.Reply
       → Sound (maskBy y (maskOut (y .state) m d))
-  mask-down m e p = subst (λ x. Sound (maskBy y (masksTo x))) (sym e) (down-sound y i (y .trial) nothing aMaskReply p)
+  mask-down m e p = subst (λ x. Sound (maskBy y (maskedOut k x))) (sym e) (down-sound y i (y .trial) nothing aMaskReply p)
 
   module _ (m : List ℕ) (a : Ask) (q : b .question ≡ question.Mask a) where
     masked-is : maskStep k b m d ≡ maskedBy (find (k .entries) (a .epoch) (k .count)) k b a m d
@@ -280,15 +400,44 @@ module _ (y : Receiver) (i : Sound y) where
     pub masked-quiet : (to : Option ℕ) (end : ℕ) (good on : Bool) → to ≡ some (a .epoch) → end ≡ endAsked b a
         → Quiet k (y .account .ivs) b d to end good on (maskOut (y .state) m d)
     masked-quiet to end good on z e =
-        subst (λ x. Quiet k (y .account .ivs) b d to end good on (masksTo x)) (sym masked-is)
+        subst (λ x. Quiet k (y .account .ivs) b d to end good on (maskedOut k x)) (sym masked-is)
         (mask-quiet k (y .used) (y .account .ivs) (i .table) b d (i .made .ready) (i .whole) to end good on a m (held-mask k b in-range a q) z e _ refl)
+
+    masked-by : (P : Step × List ℕ → Type 0) → ((j : ℕ) → P (maskedBy (found.At j) k b a m d)) → P (maskStep k b m d)
+    masked-by P g =
+        subst P (sym masked-is)
+        (is-found k (a .epoch) _ refl (held-mask k b in-range a q .installed) λ j f. subst (λ x. P (maskedBy x k b a m d)) (sym f) (g j))
 
     -- no mask is asked again
     no-mask : (x s : ℕ) → maskOut (y .state) m d .reading ≡ says.Mask x s → ⊥
-    no-mask x s =
-        subst (λ p. p .0 .reading ≡ says.Mask x s → ⊥) (sym masked-is)
-        (is-found k (a .epoch) _ refl (held-mask k b in-range a q .installed) λ j f.
-        subst (λ g. maskedBy g k b a m d .0 .reading ≡ says.Mask x s → ⊥) (sym f) (masked-next j x s k b a m d))
+    no-mask x s = masked-by (λ p. p .0 .reading ≡ says.Mask x s → ⊥) (λ j. masked-next j x s k b a m d)
+
+    -- the number is unmasked, and nothing else
+    bytes-are : maskOut (y .state) m d .datagram ≡ unmasked d (b .at) (a .«s_flag») m
+    bytes-are = masked-by (λ p. maskedOut k p .datagram ≡ unmasked d (b .at) (a .«s_flag») m) (λ j. unfold maskedBy maskedAt in refl)
+
+    behind : drop (endAsked b a) (maskOut (y .state) m d .datagram) ≡ drop (endAsked b a) (y .arrived)
+    behind =
+        ap (drop (endAsked b a)) bytes-are
+        ∙ masked-behind k (y .used) (y .account .ivs) (i .table) b d (i .made .ready) (i .whole) none 0 true true a m (held-mask k b in-range a q)
+        ∙ drops-on (b .at) (endAsked b a) d (y .arrived) (omega arith)
+        (subst (λ (x : Question). drop (intactFrom x (b .at)) d ≡ drop (intactFrom x (b .at)) (y .arrived)) q (i .intact .lies))
+
+    flagged : a .«s_flag» ≡ eqb (getD (restOf y) 0 0 / 8 % 2) 1
+    flagged =
+        subst (λ (n : ℕ). a .«s_flag» ≡ eqb (getD (drop n (y .arrived)) 0 0 / 8 % 2) 1) (sym (i .tally .place))
+        (subst (λ (x : Question). FlagAsked x (getD (drop (b .at) (y .arrived)) 0 0)) q (i .intact .flag))
+
+    mask-spares : y .account .waits ≡ aMask (a .epoch) (b .at + a .«header_len») → Spares (spokenBy y aMaskReply (maskOut (y .state) m d))
+    mask-spares w = record {
+      long = ap length bytes-are ∙ masked-long k (y .used) (y .account .ivs) (i .table) b d (i .made .ready) (i .whole) none 0 true true a m (held-mask k b in-range a q);
+      bytes = λ j off.
+          ap (λ (l : List ℕ). getD l j 0) bytes-are
+          ∙ masked-other k (y .used) (y .account .ivs) (i .table) b d (i .made .ready) (i .whole) none 0 true true a m (held-mask k b in-range a q)
+          (getD (restOf y) 0 0) flagged j
+          (λ l u.
+          off (subst (λ v. NumberByte aMaskReply v (y .account .place) (getD (restOf y) 0 0) j) (sym w) (omega (arith, i .tally .place), omega (arith, i .tally .place))));
+    }
 
     mask-on : UnderWay (question.Mask a) (b .at) (y .account .waits) (y .trial) → Sound (maskBy y (maskOut (y .state) m d))
     mask-on z =
@@ -298,7 +447,14 @@ module _ (y : Receiver) (i : Sound y) where
         subst (λ v. Sound (after y o v unused (questionIn (o .reading) (o .datagram)) aMaskReply)) (sym (z .1))
         (step-sound y i o t unused aMaskReply (c .moves) same-keys (after-made (answering m d) (y .state) (i .made)) (i .table) (c .asked)
         (subst (λ f. Hands (y .used) f) (sym (c .hands (shownBy (o .reading) (o .datagram)) (y .handed))) (i .hands))
-        (subst (λ w. Proper aMaskReply w (o .reading)) (sym (z .2 .0)) (moves-on (c .moves), no-mask)) (c .nonce) (c .real))
+        (subst (λ w. Proper aMaskReply w (o .reading)) (sym (z .2 .0)) (moves-on (c .moves), no-mask)) (c .nonce) (c .real)
+        (step-intact (c .moves) (y .arrived) (i .intact .long) (endAsked b a) behind (omega (arith, z .2 .2))
+        (let h = held-mask k b in-range a q in omega (arith, h .head, h .fits, i .whole, i .made .ready .at))
+        (λ x e. absurd (masked-by (λ p. p .0 .datagram .question ≡ question.Mask x → ⊥) (λ j. masked-quits j x k b a m d) e))
+        (masked-by (λ p. FlagAsked (p .0 .datagram .question) (getD (drop (b .at) (y .arrived)) 0 0)) (λ j. masked-flag j _ k b a m d)))
+        (mask-spares (z .2 .0))
+        (masked-by (λ p. Shows (p .0 .reading) (t .rest) (shownBy (p .0 .reading) (maskedOut k p .datagram))) (λ j. masked-shows j k b a m d (t .rest) _))
+        (i .later t (z .1) (o .reading)))
 
   masks : (m : List ℕ) (q : Question) → b .question ≡ q → UnderWay q (b .at) (y .account .waits) (y .trial) → Sound (maskBy y (maskOut (y .state) m d))
   masks m question.Nothing q z =
@@ -308,6 +464,17 @@ module _ (y : Receiver) (i : Sound y) where
   masks m (question.Opening a n) q z =
       mask-down m (mask-opening m a n q)
       (subst (λ w. Proper aMaskReply w says.Reply) (sym (z .2 .2)) refl)
+
+  -- one that is refused writes nothing
+  refused-bytes : (m : List ℕ) (q : Question) → b .question ≡ q → UnderWay q (b .at) (y .account .waits) (y .trial)
+      → fateOf (maskOut (y .state) m d .reading) ≡ turnedDown → maskOut (y .state) m d .datagram ≡ d
+  refused-bytes m question.Nothing q z f = ap (λ (p : Step × List ℕ). maskedOut k p .datagram) (mask-idle m q)
+  refused-bytes m (question.Mask a) q z f =
+      absurd (moves-on (masked-quiet m a q (z .0 .resolved) (z .0 .ends) true true (z .2 .1) (z .2 .2) .moves) f)
+  refused-bytes m (question.Opening a n) q z f = ap (λ (p : Step × List ℕ). maskedOut k p .datagram) (mask-opening m a n q)
+
+  pub mask-refused : (m : List ℕ) → fateOf (maskOut (y .state) m d .reading) ≡ turnedDown → maskOut (y .state) m d .datagram ≡ d
+  mask-refused m f = refused-bytes m (b .question) refl (i .under) f
 
   pub mask-sound : (m : List ℕ) → Sound (afterMask y m)
   unfolding afterMask
@@ -343,6 +510,15 @@ module _ (y : Receiver) (i : Sound y) where
     held : Held k a (b .size - b .at)
     held = held-open k b in-range a n q .1
 
+    -- behind the record nothing was written
+    settled-intact : (o : Out) → Moves b d (t .resolved) (t .ends) o → fateOf (o .reading) ≡ settled → o .datagram ≡ d
+        → Intact (o .state .datagram) (o .datagram) (y .arrived)
+    settled-intact o st f e =
+        settle-intact st f (y .arrived) (i .intact .long) (endAsked b a)
+        (ap (drop (endAsked b a)) e
+        ∙ subst (λ (x : Question). drop (intactFrom x (b .at)) d ≡ drop (intactFrom x (b .at)) (y .arrived)) q (i .intact .lies))
+        (omega (arith, z .2 .6)) (omega (arith, held .head, held .fits, i .whole, i .made .ready .at))
+
     pub opened-is : (p : Opening) (j : ℕ) → find (k .entries) (a .epoch) (k .count) ≡ found.At j → openedStep k b p d ≡ openedAt j p k b a n d
     unfolding openings openedBy
     opened-is p j f =
@@ -361,7 +537,9 @@ module _ (y : Receiver) (i : Sound y) where
         subst (λ x. Sound (openBy y reply.No (opensTo x))) (sym e)
         (subst (λ v. Sound (after y (opensTo m) v unused nothing (anOpenReply reply.No))) (sym (z .1))
         (step-sound y i (opensTo m) t unused (anOpenReply reply.No) (c .moves) same-keys (opened-made reply.No m e) (i .table) tt (i .hands)
-        (subst (λ w. Proper (anOpenReply reply.No) w (says.Dropped reason.NotOpened)) (sym waits-is) refl) tt tt))
+        (subst (λ w. Proper (anOpenReply reply.No) w (says.Dropped reason.NotOpened)) (sym waits-is) refl) tt tt
+        (settled-intact (opensTo m) (c .moves) refl refl) (none-written y (anOpenReply reply.No) (opensTo m) refl) tt
+        (i .later t (z .1) (says.Dropped reason.NotOpened))))
 
     module _ (len j : ℕ) (f : find (k .entries) (a .epoch) (k .count) ≡ found.At j) where
       abbrev pub o : Out
@@ -403,7 +581,8 @@ module _ (y : Receiver) (i : Sound y) where
           (typed-hands (marked k j n) (y .account .ivs) b a n d (i .whole) (t .resolved) (t .ends) (z .2 .6) (y .used) (y .handed) (i .hands) new _))
           (subst (λ w. Proper (anOpenReply (reply.Yes len)) w (o .reading)) (sym waits-is)
           (λ r. settles .fate, λ wrong. absurd (wrong (right ∙ sym (z .2 .4)))))
-          (settles .nonce) (settles .real (t .plain) (t .encrypted))))
+          (settles .nonce) (settles .real (t .plain) (t .encrypted)) (settled-intact o (settles .moves) (settles .fate) refl)
+          (none-written y (anOpenReply (reply.Yes len)) o refl) (settles .shows (t .rest) _) (i .later t (z .1) (o .reading))))
 
       open-yes : Sound (openBy y (reply.Yes len) (openOut (y .state) (reply.Yes len) d))
       unfolding openedAt
@@ -453,11 +632,11 @@ module _ (y : Receiver) (i : Sound y) where
   quiet-masks : (m : List ℕ) (q : Question) → b .question ≡ q → UnderWay q (b .at) (y .account .waits) (y .trial)
       → let o = maskOut (y .state) m d in handedBy (o .reading) (shownBy (o .reading) (o .datagram)) (y .handed) ≡ y .handed
   quiet-masks m question.Nothing q z =
-      ap (λ (p : Step × List ℕ). handedBy (p .0 .reading) (shownBy (p .0 .reading) (p .1)) (y .handed)) (mask-idle m q)
+      ap (λ (p : Step × List ℕ). handedBy (p .0 .reading) (shownBy (p .0 .reading) (maskedOut k p .datagram)) (y .handed)) (mask-idle m q)
   quiet-masks m (question.Mask a) q z =
       masked-quiet m a q (z .0 .resolved) (z .0 .ends) true true (z .2 .1) (z .2 .2) .hands _ (y .handed)
   quiet-masks m (question.Opening a n) q z =
-      ap (λ (p : Step × List ℕ). handedBy (p .0 .reading) (shownBy (p .0 .reading) (p .1)) (y .handed)) (mask-opening m a n q)
+      ap (λ (p : Step × List ℕ). handedBy (p .0 .reading) (shownBy (p .0 .reading) (maskedOut k p .datagram)) (y .handed)) (mask-opening m a n q)
 
   pub mask-hands : (m : List ℕ) → afterMask y m .handed ≡ y .handed
   unfolding afterMask

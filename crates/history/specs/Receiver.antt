@@ -1,5 +1,5 @@
 -- A receiving end and its history: the real state and the begun datagram's bytes, as the last call left them, and what the claim speaks of,
--- written from the host's arguments, the bytes and the answers that the host sees.
+-- written from the host's arguments, the bytes as they arrived and the answers that the host sees.
 use Prim.Native.Nat.{ℕ, suc, _+_, _%_}
 use lib.Dec.{ltb, leb, eqb}
 use lib.ListN.{length, getD, drop}
@@ -17,11 +17,11 @@ use Rattle.recv_keys.specs.Keys.{entryAt, find}
 use Rattle.recv_keys.specs.declared.Found.the-variants as found
 use Rattle.recv_keys.specs.declared.Found.{Found}
 use Rattle.recv_keys.specs.declared.RecvKeys.{RecvKeys}
-use Rattle.receiving.specs.Receiving.{freshOf, keyOf, removeOf, encryptOf, releaseOf, beginOf, readOf, maskOf, openedOf}
+use Rattle.receiving.specs.Receiving.{answerNumber, freshOf, keyOf, removeOf, encryptOf, releaseOf, beginOf, readOf, maskOf, openedOf}
 use Rattle.receiving.specs.declared.Read.{Read}
 use Rattle.receiving.specs.declared.Receiving.{Receiving}
 use Rattle.window.specs.Window.{width, isFresh}
-use Rattle.history.specs.Account.{upd, Shown, nothing, aMask, anOpening, Account, newAccount, isIn, without, keys, resolvesTo, recordSize, goodPlain}
+use Rattle.history.specs.Account.{upd, Shown, nothing, aMask, anOpening, Account, newAccount, isIn, without, keyOwed, keys, resolvesTo, recordSize, goodPlain}
 
 -- ---- what the history holds
 
@@ -41,9 +41,9 @@ pub record Handed : Type 0 where
   pub type : ℕ
   pub content : List ℕ
 
--- the moment at which the cut came to a record, all from the claim's own account: the datagram from its first byte on, where it ends, whether
--- it is a plaintext record in order, the readings before, peer encryption, the epoch that its bits resolve to, the numbers used and the
--- records sealed by then
+-- the moment at which the cut came to a record, all from the claim's own account and the datagram as it arrived, whatever calls wrote into it
+-- since: its bytes from the record's first one on, where the record ends, whether it is a plaintext record in order, the readings before, peer
+-- encryption, the epoch that its bits resolve to, the numbers used and the records sealed by then
 pub record Trial : Type 0 where
   pub rest : List ℕ
   pub ends : ℕ
@@ -60,7 +60,8 @@ pub record Tried : Type 0 where
   pub reading : Reading
   pub shown : List ℕ
 
--- a reading call: what the host did, the question that waited, the IVs by then, and the answer
+-- a reading call: what the host did, the question that waited, the IVs by then, and the answer; where the cut stood, the byte that arrived
+-- there, and the bytes of the datagram as they were lent and left
 pub data Deed : Type 0 where
   aRead aMaskReply : Deed
   anOpenReply : Opening → Deed
@@ -71,6 +72,10 @@ pub record Spoken : Type 0 where
   pub ivs : ℕ → List ℕ
   pub reading : Reading
   pub nonce : List ℕ
+  pub place : ℕ
+  pub first : ℕ
+  pub lent : List ℕ
+  pub left : List ℕ
 
 -- a record whose question went with the removal of an epoch
 pub record Lost : Type 0 where
@@ -79,7 +84,9 @@ pub record Lost : Type 0 where
 
 pub record Receiver : Type 0 where
   pub state : Receiving
+  -- the begun datagram's bytes, as the last call left them and as they arrived
   pub datagram : List ℕ
+  pub arrived : List ℕ
   pub account : Account
   -- by epoch: the numbers used, the records handed over, the last first
   pub used : ℕ → List ℕ
@@ -96,6 +103,7 @@ abbrev pub withState : Receiver → Receiving → Account → Receiver
 withState y s a = record {
   state = s;
   datagram = y .datagram;
+  arrived = y .arrived;
   account = a;
   used = y .used;
   handed = y .handed;
@@ -159,6 +167,7 @@ abbrev pub loses : Receiver → Receiving → ℕ → Trial → Receiver
 loses y s e t = record {
   state = s;
   datagram = y .datagram;
+  arrived = y .arrived;
   account = goesTo (unkeyed (y .account) e) (t .ends) (y .account .readings);
   used = y .used;
   handed = y .handed;
@@ -183,10 +192,19 @@ removed y e =
     choose (isIn e (y .account .keyed)) (removedFrom y (removeOf (y .state) e .state) e (y .trial))
     (withState y (removeOf (y .state) e .state) (y .account))
 
+-- the number that removing is told: that 13; 6 where the record under way loses its question by it; else 0
+abbrev pub losesOwed : Option Trial → ℕ → ℕ
+losesOwed none e = 0
+losesOwed (some t) e = choose (isThe (t .resolved) e) 6 0
+
+unfoldable pub removeOwed : Receiver → ℕ → ℕ
+removeOwed y e = choose (isIn e (y .account .keyed)) (losesOwed (y .trial) e) 13
+
 abbrev pub startsOn : Receiver → Receiving → List ℕ → Receiver
 startsOn y s d = record {
   state = s;
   datagram = d;
+  arrived = d;
   account = goesTo (y .account) 0 0;
   used = y .used;
   handed = y .handed;
@@ -202,6 +220,10 @@ begun y d =
     choose (ltb 16384 (length d)) (withState y (beginOf (y .state) (length d) .state) (y .account))
     (startsOn y (beginOf (y .state) (length d) .state) d)
 
+-- the number that beginning is told: that 1, else 0
+unfoldable pub beginOwed : List ℕ → ℕ
+beginOwed d = choose (ltb 16384 (length d)) 1 0
+
 -- the host writes from the start of the protected part on, while its opening is asked, and not beyond its end
 abbrev pub writtenIn : Shown → List ℕ → List ℕ → List ℕ
 writtenIn nothing d p = d
@@ -212,6 +234,7 @@ abbrev pub wrote : Receiver → List ℕ → Receiver
 wrote y p = record {
   state = y .state;
   datagram = writtenIn (y .account .waits) (y .datagram) p;
+  arrived = y .arrived;
   account = y .account;
   used = y .used;
   handed = y .handed;
@@ -355,24 +378,37 @@ nextAccount turnedDown a r size t w = a
 nextAccount underway a r size t w = asks a w
 nextAccount settled a r size t w = settledAt a r size t
 
+-- "Reached: the cut comes to its first byte": the rest of the datagram from there on, as it arrived
+abbrev pub restOf : Receiver → List ℕ
+restOf y = drop (y .account .place) (y .arrived)
+
+abbrev pub spokenBy : Receiver → Deed → Out → Spoken
+spokenBy y deed o = record {
+  deed = deed;
+  waited = y .account .waits;
+  ivs = y .account .ivs;
+  reading = o .reading;
+  nonce = o .nonce;
+  place = y .account .place;
+  first = getD (restOf y) 0 0;
+  lent = y .datagram;
+  left = o .datagram;
+}
+
 -- t is the record that the call deals with, u the number it uses, w the question that waits where the record stays under way
 abbrev pub after : Receiver → Out → Option Trial → Use → Shown → Deed → Receiver
 after y o t u w deed = record {
   state = o .state;
   datagram = o .datagram;
-  account = nextAccount (fateOf (o .reading)) (y .account) (o .reading) (length (y .datagram)) t w;
+  arrived = y .arrived;
+  account = nextAccount (fateOf (o .reading)) (y .account) (o .reading) (length (y .arrived)) t w;
   used = spent u (y .used);
   handed = handedBy (o .reading) (shownBy (o .reading) (o .datagram)) (y .handed);
   trial = nextTrial (fateOf (o .reading)) (y .trial) t;
   tried = nextTried (fateOf (o .reading)) (o .reading) (shownBy (o .reading) (o .datagram)) t (y .tried);
-  spoken =
-      record { deed = deed; waited = y .account .waits; ivs = y .account .ivs; reading = o .reading; nonce = o .nonce } ∷ y .spoken;
+  spoken = spokenBy y deed o ∷ y .spoken;
   lost = y .lost;
 }
-
--- "Reached: the cut comes to its first byte"
-abbrev pub restOf : Receiver → List ℕ
-restOf y = drop (y .account .place) (y .datagram)
 
 abbrev pub reached : Receiver → (ℕ → List Sealed) → Trial
 reached y sealed = record {
@@ -400,8 +436,12 @@ keepsShown (anOpening e n at head body) w = anOpening e n at head body
 abbrev pub readBy : Receiver → (ℕ → List Sealed) → Shown → Out → Receiver
 readBy y sealed q o = after y o (comesTo q (y .trial) (reached y sealed)) unused (keepsShown q (questionIn (o .reading) (o .datagram))) aRead
 
+-- what a read answers
+abbrev pub readTo : Read → List ℕ → Out
+readTo r d = outOf r d
+
 abbrev pub readOut : Receiving → List ℕ → Out
-readOut s d = outOf (readOf s d) d
+readOut s d = readTo (readOf s d) d
 
 unfoldable pub afterRead : Receiver → (ℕ → List Sealed) → Receiver
 afterRead y sealed = readBy y sealed (y .account .waits) (readOut (y .state) (y .datagram))
@@ -409,8 +449,11 @@ afterRead y sealed = readBy y sealed (y .account .waits) (readOut (y .state) (y 
 abbrev pub maskBy : Receiver → Out → Receiver
 maskBy y o = after y o (y .trial) unused (questionIn (o .reading) (o .datagram)) aMaskReply
 
+abbrev pub maskedTo : Read × List ℕ → Out
+maskedTo p = outOf (p .0) (p .1)
+
 abbrev pub maskOut : Receiving → List ℕ → List ℕ → Out
-maskOut s m d = outOf (maskOf s m d .0) (maskOf s m d .1)
+maskOut s m d = maskedTo (maskOf s m d)
 
 unfoldable pub afterMask : Receiver → List ℕ → Receiver
 afterMask y m = maskBy y (maskOut (y .state) m (y .datagram))
@@ -453,6 +496,12 @@ pub record Stray : Type 0 where
   pub lent : List ℕ
   pub left : List ℕ
 
+-- keying, removing, peer encryption, release, beginning: 01's number of the program's answer, 0 where it is done, and the number that is owed by the
+-- claim's account
+pub record Told : Type 0 where
+  pub answer : ℕ
+  pub owed : ℕ
+
 pub record Inbound : Type 0 where
   pub into : Receiver
   -- the begun datagram's serial number and the last one given: a begin that is refused has one of its own
@@ -460,6 +509,7 @@ pub record Inbound : Type 0 where
   pub lastSerial : ℕ
   pub moves : List Move
   pub strays : List Stray
+  pub told : List Told
 
 -- ---- the calls
 
@@ -480,7 +530,18 @@ pub data Call : Type 0 where
   openOver· : Opening → List ℕ → Call
 
 abbrev pub takes : Inbound → Receiver → Inbound
-takes e y = record { into = y; serial = e .serial; lastSerial = e .lastSerial; moves = e .moves; strays = e .strays }
+takes e y = record { into = y; serial = e .serial; lastSerial = e .lastSerial; moves = e .moves; strays = e .strays; told = e .told }
+
+-- the same with the number that it is told and the number owed
+abbrev pub tells : Inbound → Receiver → ℕ → ℕ → Inbound
+tells e y n owed = record {
+  into = y;
+  serial = e .serial;
+  lastSerial = e .lastSerial;
+  moves = e .moves;
+  strays = e .strays;
+  told = record { answer = n; owed = owed } ∷ e .told;
+}
 
 abbrev pub logs : Inbound → Receiver → ℕ → Use → Inbound
 logs e y k u = record {
@@ -489,6 +550,7 @@ logs e y k u = record {
   lastSerial = e .lastSerial;
   moves = record { datagram = k; spends = u; before = e .into .state .keys; behind = y .state .keys } ∷ e .moves;
   strays = e .strays;
+  told = e .told;
 }
 
 abbrev pub begins : Inbound → List ℕ → Inbound
@@ -499,6 +561,7 @@ begins e d = record {
   moves =
       record { datagram = suc (e .lastSerial); spends = unused; before = e .into .state .keys; behind = begun (e .into) d .state .keys } ∷ e .moves;
   strays = e .strays;
+  told = record { answer = answerNumber (beginOf (e .into .state) (length d) .answer); owed = beginOwed d } ∷ e .told;
 }
 
 abbrev pub strays : Inbound → List ℕ → Out → Inbound
@@ -508,16 +571,21 @@ strays e d o = record {
   lastSerial = e .lastSerial;
   moves = e .moves;
   strays = record { reading = o .reading; before = e .into .state; behind = o .state; lent = d; left = o .datagram } ∷ e .strays;
+  told = e .told;
 }
 
 -- one call, the far end having sealed these records by then
 abbrev pub does : (ℕ → List Sealed) → Inbound → Call → Inbound
-does sealed e (key· k iv) = takes e (withState (e .into) (keyOf (e .into .state) k iv .state) (keys (e .into .account) k iv))
-does sealed e (remove· k) = takes e (removed (e .into) k)
+does sealed e (key· k iv) =
+    tells e (withState (e .into) (keyOf (e .into .state) k iv .state) (keys (e .into .account) k iv))
+    (answerNumber (keyOf (e .into .state) k iv .answer)) (keyOwed (e .into .account) k)
+does sealed e (remove· k) = tells e (removed (e .into) k) (answerNumber (removeOf (e .into .state) k .answer)) (removeOwed (e .into) k)
 does sealed e encrypt· =
-    takes e (withState (e .into) (encryptOf (e .into .state) .state) (flagged (e .into .account) true (e .into .account .released)))
+    tells e (withState (e .into) (encryptOf (e .into .state) .state) (flagged (e .into .account) true (e .into .account .released)))
+    (answerNumber (encryptOf (e .into .state) .answer)) 0
 does sealed e release· =
-    takes e (withState (e .into) (releaseOf (e .into .state) .state) (flagged (e .into .account) (e .into .account .encryption) true))
+    tells e (withState (e .into) (releaseOf (e .into .state) .state) (flagged (e .into .account) (e .into .account .encryption) true))
+    (answerNumber (releaseOf (e .into .state) .answer)) 0
 does sealed e (begin· d) = begins e d
 does sealed e read· = logs e (afterRead (e .into) sealed) (e .serial) unused
 does sealed e (mask· m) = logs e (afterMask (e .into) m) (e .serial) unused
@@ -534,6 +602,7 @@ newInbound min = record {
   into = record {
     state = freshOf min .state;
     datagram = [];
+    arrived = [];
     account = newAccount;
     used = λ e. [];
     handed = λ e. [];
@@ -546,4 +615,5 @@ newInbound min = record {
   lastSerial = 0;
   moves = [];
   strays = [];
+  told = [];
 }

@@ -30,7 +30,7 @@ use Rattle.recv_keys.specs.declared.RecvEpochEntry.{RecvEpochEntry}
 use Rattle.recv_keys.specs.declared.RecvKeys.{RecvKeys}
 use Rattle.window.specs.Used.{Agrees, agrees-new, agrees-marked}
 use Rattle.window.specs.Window.{width, unmarked}
-use Rattle.history.specs.Account.{upd, Account, isIn, without, applications, lastWith, orTwo, resolvesTo}
+use Rattle.history.specs.Account.{upd, Account, isIn, without, applications, fifth, lastWith, orTwo, resolvesTo}
 use Rattle.history.specs.Lists.{upd-same, upd-other, upd-by, empty-list, mem-by}
 
 -- ---- the epochs as a list
@@ -172,12 +172,12 @@ module _ (k : RecvKeys) (used ivs : ℕ → List ℕ) (t : Table k used ivs) whe
       omega arith
 
   -- no place is left exactly where a fifth application epoch would be keyed
-  pub full-same : (e : ℕ) → k .highest < e → isFull k e ≡ both (leb 3 e) (leb 4 (applications (keyedIn k)))
+  pub full-same : (e : ℕ) → k .highest < e → isFull k e ≡ fifth e (keyedIn k)
   unfolding isFull
   full-same e new =
-      by-test (λ (b : Bool). b ≡ both (leb 3 e) (leb 4 (applications (keyedIn k))))
+      by-test (λ (b : Bool). b ≡ fifth e (keyedIn k))
       (λ f. sym (both-true (le-leb 3 e (three (leb-true _ _ f))) ∙ le-leb 4 (applications (keyedIn k)) (four (leb-true _ _ f))))
-      (λ f. by-test (λ (b : Bool). b ≡ both (leb 3 e) (leb 4 (applications (keyedIn k))))
+      (λ f. by-test (λ (b : Bool). b ≡ fifth e (keyedIn k))
       (λ g. ap (leb 4) (apps-in (k .entries) (k .count)) ∙ sym (both-true g)) (λ g. sym (both-false _ g)))
     where
       three : 5 ≤ k .count → 3 ≤ e

@@ -66,7 +66,7 @@ use Rattle.history.specs.Receiver.{
   afterOpen,
   useIn,
 }
-use Rattle.history.specs.Reads.{outBy}
+use Rattle.history.specs.Reads.{outBy, readsOut, maskedOut}
 use Rattle.history.specs.Sound.{UnderWay, Sound}
 
 -- ---- marking one number of one epoch
@@ -189,15 +189,15 @@ module _ (y : Receiver) (i : Sound y) (s : ℕ) where
   other : (d : List ℕ) → OtherLength y d → length d ≡ b .size → ⊥
   other d ne e = ne (e ∙ sym (i .whole))
 
-  turned : (d : List ℕ) (t : Step) → t ≡ told b says.Reply → Turned (strayBy d (outBy k t d))
-  turned d t e = subst (λ x. Turned (strayBy d (outBy k x d))) (sym e) (record { answer = refl; state = refl; bytes = refl })
+  turned : (d : List ℕ) (t : Step) → t ≡ told b says.Reply → Turned (strayBy d (readsOut k t d))
+  turned d t e = subst (λ x. Turned (strayBy d (readsOut k x d))) (sym e) (record { answer = refl; state = refl; bytes = refl })
 
   pub read-turned : (d : List ℕ) → OtherLength y d → Turned (strayBy d (readOut (y .state) d))
   read-turned d ne = turned d _ (read-other k b d (made-sound (y .state) (i .made)) (other d ne))
 
   pub mask-turned : (m d : List ℕ) → OtherLength y d → Turned (strayBy d (maskOut (y .state) m d))
   mask-turned m d ne =
-      subst (λ p. Turned (strayBy d (outBy k (p .0) (p .1)))) (sym (mask-other k b m d (made-sound (y .state) (i .made)) (other d ne)))
+      subst (λ p. Turned (strayBy d (maskedOut k p))) (sym (mask-other k b m d (made-sound (y .state) (i .made)) (other d ne)))
       (record { answer = refl; state = refl; bytes = refl })
 
   pub open-turned : (p : Opening) (d : List ℕ) → OtherLength y d → Turned (strayBy d (openOut (y .state) p d))

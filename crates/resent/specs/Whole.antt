@@ -102,7 +102,7 @@ unfolding hasRoom
 room-few e h r = ltb-true (e .remembered) 32 (sym (if-true (ltb (e .remembered) 32) true r) ∙ h)
 
 module _ (f : Flight) (i number : ℕ) (within : i < length (f .entries)) where
-  renewed-own : entryAt (renewed f i number) i ≡ withNumber (entryAt f i) number (choose (canRemember (entryAt f i)) (entryAt f i .remembered + 1) (entryAt f i .remembered))
+  pub renewed-own : entryAt (renewed f i number) i ≡ withNumber (entryAt f i) number (choose (canRemember (entryAt f i)) (entryAt f i .remembered + 1) (entryAt f i .remembered))
   unfolding renewed
   renewed-own =
       test-cases (canRemember (entryAt f i))
@@ -112,12 +112,12 @@ module _ (f : Flight) (i number : ℕ) (within : i < length (f .entries)) where
       ∙ ap (λ (k : ℕ). withNumber (entryAt f i) number k) (sym (if-false _ _ c)))
 
 module _ (f : Flight) (i number : ℕ) where
-  renewed-cell : canRemember (entryAt f i) ≡ true → i * 32 + entryAt f i .remembered < length (f .numbers)
+  pub renewed-cell : canRemember (entryAt f i) ≡ true → i * 32 + entryAt f i .remembered < length (f .numbers)
       → getD (renewed f i number .numbers) (i * 32 + entryAt f i .remembered) 0 ≡ entryAt f i .number
   unfolding renewed
   renewed-cell c h = ap (λ (g : Flight). getD (g .numbers) (i * 32 + entryAt f i .remembered) 0) (if-true _ _ c) ∙ getD-set-same (f .numbers) (i * 32 + entryAt f i .remembered) _ 0 h
 
-  renewed-cells : (j : ℕ) → (canRemember (entryAt f i) ≡ true → j ≡ i * 32 + entryAt f i .remembered → ⊥) → getD (renewed f i number .numbers) j 0 ≡ getD (f .numbers) j 0
+  pub renewed-cells : (j : ℕ) → (canRemember (entryAt f i) ≡ true → j ≡ i * 32 + entryAt f i .remembered → ⊥) → getD (renewed f i number .numbers) j 0 ≡ getD (f .numbers) j 0
   unfolding renewed
   renewed-cells j ne = by-test (λ (g : Flight). getD (g .numbers) j 0 ≡ getD (f .numbers) j 0) (λ c. getD-set-other (f .numbers) (i * 32 + entryAt f i .remembered) j _ 0 (ne c)) (λ c. refl)
 

@@ -77,7 +77,7 @@ all-holds (suc k) kind body at l ds h g =
 -- ---- a message
 
 -- a message's number is no part of the meaning
-numbered-holds : (s : Sending) (q : List ℕ) (ds : List (List Queued)) (n : ℕ) → Holds s q ds → Holds (numbered s n) q ds
+pub numbered-holds : (s : Sending) (q : List ℕ) (ds : List (List Queued)) (n : ℕ) → Holds s q ds → Holds (numbered s n) q ds
 numbered-holds s q ds n h = record {
   range = h .range;
   room = h .room;

@@ -99,7 +99,7 @@ pub epoch-cases : (kind : ℕ) (P : ℕ → Type 0) → P 0 → P 2 → P (epoch
 unfolding epochOf
 epoch-cases kind P p0 p2 = by-test P (λ e. p0) (λ e. p2)
 
-usable : (k : SendKeys) (kind : ℕ) → isUsable k (epochOf kind) ≡ true
+pub usable : (k : SendKeys) (kind : ℕ) → isUsable k (epochOf kind) ≡ true
 unfolding isUsable either
 usable k kind = epoch-cases kind (λ (e : ℕ). isUsable k e ≡ true) refl refl
 
@@ -143,7 +143,7 @@ module _ (k kind : ℕ) (body : List ℕ) (at : ℕ) (l : Laid) (a : Able (suc k
   fits : recordLen e (12 + n) ≤ mtu
   fits = omega (arith, len-more e n, size-mtu mtu (overhead e) (lastLen (s .queue)) (length body - at), len-small e 12, a .ready .range .low)
 
-  ends : at + n ≤ length body
+  pub ends : at + n ≤ length body
   ends = omega (arith, size-rest mtu (overhead e) (lastLen (s .queue)) (length body - at), a .inside)
 
   long : length content ≡ 12 + n
@@ -225,7 +225,7 @@ module _ (k kind : ℕ) (body : List ℕ) (at : ℕ) (l : Laid) (a : Able (suc k
   unfolding layOne savedMemory
   kept-long = length-splice _ _ _ saved-fits
 
-  rest-next : cutNext mtu (overhead e) (cutAt body at l) .rest ≡ length body - (at + n)
+  pub rest-next : cutNext mtu (overhead e) (cutAt body at l) .rest ≡ length body - (at + n)
   unfolding cutNext tailOf
   rest-next = omega arith
 
@@ -244,7 +244,7 @@ module _ (k kind : ℕ) (body : List ℕ) (at : ℕ) (l : Laid) (a : Able (suc k
   last z = pieces-last mtu (overhead e) (cutAt body at l) k z ∙ ap (λ (x : ℕ). x ∷ []) sized
 
   module _ (more : cutNext mtu (overhead e) (cutAt body at l) .rest ≡ 0 → ⊥) where
-    sizes-on : sizesAt (suc k) kind body at l ≡ n ∷ sizesAt k kind body (at + n) (layOne kind body at n l)
+    pub sizes-on : sizesAt (suc k) kind body at l ≡ n ∷ sizesAt k kind body (at + n) (layOne kind body at n l)
     unfolding layOne laidState laid
     sizes-on =
         pieces-more mtu (overhead e) (cutAt body at l) k more

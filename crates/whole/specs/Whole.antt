@@ -57,7 +57,7 @@ laidWhole s f q m kind body = layAll kind body 0 (sizesOf s kind body) (beginnin
 all : (body : List ℕ) → length body - 0 ≡ length body
 all body = omega arith
 
-done-able : (s : Sending) (f : Flight) (q m : List ℕ) (kind : ℕ) (body : List ℕ) → length (s .queue .lengths) ≡ 16
+pub done-able : (s : Sending) (f : Flight) (q m : List ℕ) (kind : ℕ) (body : List ℕ) → length (s .queue .lengths) ≡ 16
     → isDone (answerTo s f q m kind body) ≡ true → Able 13 kind body 0 (beginning s f q m)
 unfolding messageAnswer isKept
 done-able s f q m kind body slots =
