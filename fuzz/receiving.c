@@ -3,7 +3,7 @@
 
 #include "fuzz.h"
 
-enum { LONGEST = 17000, WORDS = 89, TAG = 16 };
+enum { LONGEST = 17000, WORDS = 39, TAG = 16 };
 #define LAST_NUMBER 0xFFFFFFFFFFFFu
 
 /* The words (crates/link_words/specs/Words.antt). */

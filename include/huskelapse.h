@@ -45,7 +45,7 @@ extern "C" {
 
 /* The receive side: epochs with their IVs and windows, the begun datagram, the question that waits. */
 typedef struct {
-    uint64_t word[89];
+    uint64_t word[39];
 } LinkReceiving;
 
 enum {

@@ -14,8 +14,8 @@
 
 static_assert(sizeof(size_t) == 8 && sizeof(void *) == 8, "a host of 64 bits");
 
-SIZED(LinkReceiving, 89 * 8, 8);
-PLACED(LinkReceiving, word, 0, 89 * 8);
+SIZED(LinkReceiving, 39 * 8, 8);
+PLACED(LinkReceiving, word, 0, 39 * 8);
 
 SIZED(LinkReading, 56, 8);
 PLACED(LinkReading, kind, 0, 1);

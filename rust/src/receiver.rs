@@ -37,7 +37,7 @@ use crate::{ffi, Cipher, Refusal};
 /// The state is private, it comes from [`Receiver::new`] only:
 ///
 /// ```compile_fail,E0451
-/// let receiver = huskelapse::Receiver { state: [0; 89] };
+/// let receiver = huskelapse::Receiver { state: [0; 39] };
 /// ```
 ///
 /// What is read borrows the datagram, nothing else can write there meanwhile:

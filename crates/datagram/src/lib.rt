@@ -1,19 +1,6 @@
 // The begun datagram, after incoming.rs: the cursor, the readings made, the question that waits, and where a record leads.
 ghost use mathlib.Core.Path.{_≡_};
-ghost use Prim.Native.Nat.{_≤_};
-ghost use Rattle.datagram.specs.Datagram.{
-  askSound,
-  askKeyed,
-  openingSound,
-  questionSound,
-  isSound,
-  told,
-  moved,
-  ended,
-  passed,
-  counted,
-};
-use recv_keys::RecvKeys;
+ghost use Rattle.datagram.specs.Datagram.{askSound, told, moved, ended, passed, counted};
 
 // The sealed record at the cursor that a question is about: its epoch, whether its number has two bytes, and how long header and
 // protected part are.
@@ -120,59 +107,6 @@ pub fn ask_sound(a: Ask, room: usize) -> bool
         return false;
     }
     length <= room - head
-}
-
-fn ask_keyed(k: RecvKeys, a: Ask, room: usize) -> bool
-    requires { ⌜ k .count ≤ 5 ⌝ }
-    ensures { λ r. ⌜ r ≡ askKeyed k a room ⌝ }
-{
-    if ask_sound(a, room) {
-        return recv_keys::is_keyed(k, a.epoch);
-    }
-    false
-}
-
-fn opening_sound(k: RecvKeys, a: Ask, number: u64, room: usize) -> bool
-    requires { ⌜ k .count ≤ 5 ⌝ }
-    ensures { λ r. ⌜ r ≡ openingSound k a number room ⌝ }
-{
-    if 0xFFFF_FFFF_FFFF < number {
-        return false;
-    }
-    ask_keyed(k, a, room)
-}
-
-fn question_sound(k: RecvKeys, q: Question, room: usize) -> bool
-    requires { ⌜ k .count ≤ 5 ⌝ }
-    ensures { λ r. ⌜ r ≡ questionSound k q room ⌝ }
-{
-    match q {
-        Question::Nothing => true,
-        Question::Mask(a) => ask_keyed(k, a, room),
-        Question::Opening(a, n) => opening_sound(k, a, n, room),
-    }
-}
-
-// The fields that a call indexes or adds with are in range; else it answers 12.
-pub fn is_sound(k: RecvKeys, b: Datagram) -> bool
-    ensures { λ r. ⌜ r ≡ isSound k b ⌝ }
-{
-    let size = b.size;
-    let at = b.at;
-    if recv_keys::keys_sound(k) {
-        if 16384 < size {
-            return false;
-        }
-        if size < at {
-            return false;
-        }
-        if 16 < b.readings {
-            return false;
-        }
-        let q = b.question;
-        return question_sound(k, q, size - at);
-    }
-    false
 }
 
 // ---- where a record leads

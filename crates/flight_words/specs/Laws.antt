@@ -11,7 +11,7 @@ use lib.ListN.{length, getD, set, drop, length-set}
 use Rattle.base.specs.Choose.{choose, if-true, if-false}
 use Rattle.flight.specs.declared.Entry.{Entry}
 use Rattle.flight.specs.declared.Flight.{Flight}
-use Rattle.link_words.specs.Laws.{firstOf, whole}
+use Rattle.words.specs.Fields.{firstOf, whole}
 use Rattle.flight_words.specs.Words.{entryAt, entriesOf, flightOf, flatTo, bitOf, putEntry, LowEntry}
 
 pub cast-bit : (b : Bool) → boolByte b ≡ bitOf b

@@ -8,74 +8,85 @@ use link_receiving::LinkReading;
 use link_sending::LinkPart;
 use link_sending::LinkSealing;
 use link_sending::LinkTake;
+use link_words::WORDS;
 
 // ---- receiving
 
 #[no_mangle]
-pub extern "C" fn link_receiving(w: &mut [u64; 89], min_protected: usize) -> u8
+pub extern "C" fn link_receiving(w: &mut [u64; WORDS], min_protected: usize) -> u8
     ensures { λ r. ⌜ receive.FreshCall r (now (w .exit)) «min_protected» ⌝ }
 {
     link_receiving::fresh(w, min_protected)
 }
 
 #[no_mangle]
-pub extern "C" fn link_key_receive(w: &mut [u64; 89], epoch: u16, iv: &[u8; 12]) -> u8
+pub extern "C" fn link_key_receive(w: &mut [u64; WORDS], epoch: u16, iv: &[u8; 12]) -> u8
     ensures { λ r. ⌜ receive.KeyReceiveCall r (now (w .exit)) (now (w .entry)) epoch (now (iv .entry)) ⌝ }
 {
     link_receiving::key_receive(w, epoch, iv)
 }
 
 #[no_mangle]
-pub extern "C" fn link_remove_receive(w: &mut [u64; 89], epoch: u16) -> u8
+pub extern "C" fn link_remove_receive(w: &mut [u64; WORDS], epoch: u16) -> u8
     ensures { λ r. ⌜ receive.RemoveReceiveCall r (now (w .exit)) (now (w .entry)) epoch ⌝ }
 {
     link_receiving::remove_receive(w, epoch)
 }
 
 #[no_mangle]
-pub extern "C" fn link_enable_peer_encryption(w: &mut [u64; 89]) -> u8
+pub extern "C" fn link_enable_peer_encryption(w: &mut [u64; WORDS]) -> u8
     ensures { λ r. ⌜ receive.EnablePeerEncryptionCall r (now (w .exit)) (now (w .entry)) ⌝ }
 {
     link_receiving::enable_peer_encryption(w)
 }
 
 #[no_mangle]
-pub extern "C" fn link_release_application_data(w: &mut [u64; 89]) -> u8
+pub extern "C" fn link_release_application_data(w: &mut [u64; WORDS]) -> u8
     ensures { λ r. ⌜ receive.ReleaseApplicationDataCall r (now (w .exit)) (now (w .entry)) ⌝ }
 {
     link_receiving::release_application_data(w)
 }
 
 #[no_mangle]
-pub extern "C" fn link_begin(w: &mut [u64; 89], n: usize) -> u8
+pub extern "C" fn link_begin(w: &mut [u64; WORDS], n: usize) -> u8
     ensures { λ r. ⌜ receive.BeginCall r (now (w .exit)) (now (w .entry)) n ⌝ }
 {
     link_receiving::begin(w, n)
 }
 
 #[no_mangle]
-pub extern "C" fn link_read(w: &mut [u64; 89], d: &[u8]) -> LinkReading
+pub extern "C" fn link_read(w: &mut [u64; WORDS], d: &[u8]) -> LinkReading
     ensures { λ r. ⌜ receive.ReadCall r (now (w .exit)) (now (w .entry)) (now (d .entry)) ⌝ }
 {
     link_receiving::read(w, d)
 }
 
 #[no_mangle]
-pub extern "C" fn link_begin_read(w: &mut [u64; 89], d: &[u8]) -> LinkReading
+pub extern "C" fn link_begin_read(w: &mut [u64; WORDS], d: &[u8]) -> LinkReading
     ensures { λ r. ⌜ receive.BeginReadCall r (now (w .exit)) (now (w .entry)) (now (d .entry)) ⌝ }
 {
     link_receiving::begin_read(w, d)
 }
 
 #[no_mangle]
-pub extern "C" fn link_mask(w: &mut [u64; 89], mask_0: u8, mask_1: u8, d: &mut [u8]) -> LinkReading
+pub extern "C" fn link_mask(
+    w: &mut [u64; WORDS],
+    mask_0: u8,
+    mask_1: u8,
+    d: &mut [u8],
+) -> LinkReading
     ensures { λ r. ⌜ receive.MaskCall r (now (w .exit)) (now (w .entry)) «mask_0» «mask_1» (now (d .exit)) (now (d .entry)) ⌝ }
 {
     link_receiving::mask(w, mask_0, mask_1, d)
 }
 
 #[no_mangle]
-pub extern "C" fn link_opened(w: &mut [u64; 89], opened: u8, length: usize, d: &[u8]) -> LinkReading
+pub extern "C" fn link_opened(
+    w: &mut [u64; WORDS],
+    opened: u8,
+    length: usize,
+    d: &[u8],
+) -> LinkReading
     ensures { λ r. ⌜ receive.OpenedCall r (now (w .exit)) (now (w .entry)) opened length (now (d .entry)) ⌝ }
 {
     link_receiving::opened(w, opened, length, d)

@@ -10,11 +10,16 @@ ghost use Rattle.link_words.specs.Words.{keysOf, isFlat};
 ghost use Rattle.link_calls.specs.Kept.{stateOf, Kept-as};
 use datagram::Datagram;
 use datagram::Question;
+use link_words::COUNT;
+use link_words::ENCRYPTED;
+use link_words::HIGHEST;
+use link_words::RELEASED;
+use link_words::WORDS;
 use receiving::Answer;
 use recv_keys::Found;
 
 // Keys an epoch to receive, with its IV.
-pub fn key(w: &mut [u64; 89], epoch: u16, iv: [u8; 12]) -> Answer
+pub fn key(w: &mut [u64; WORDS], epoch: u16, iv: [u8; 12]) -> Answer
     ensures { λ r. ⌜ Kept-as r (now (w .exit)) (now (w .entry)) (keyOf (stateOf (now (w .entry))) epoch iv) ⌝ }
 {
     let b = link_words::datagram_of(w);
@@ -22,13 +27,13 @@ pub fn key(w: &mut [u64; 89], epoch: u16, iv: [u8; 12]) -> Answer
         if epoch < 2 {
             return Answer::Unusable;
         }
-        if epoch <= link_words::low(w[16]) {
+        if epoch <= words::low(w[HIGHEST]) {
             return Answer::Unusable;
         }
         if link_steps::is_full(w, epoch) {
             return Answer::Full;
         }
-        let count = w[15] as usize;
+        let count = w[COUNT] as usize;
         link_words::install(w, count, epoch, iv);
         return Answer::Done;
     }
@@ -36,7 +41,7 @@ pub fn key(w: &mut [u64; 89], epoch: u16, iv: [u8; 12]) -> Answer
 }
 
 // The entry at i removed, with the question under its epoch.
-fn leave(w: &mut [u64; 89], b: Datagram, i: usize, epoch: u16) -> Answer
+fn leave(w: &mut [u64; WORDS], b: Datagram, i: usize, epoch: u16) -> Answer
     requires { ⌜ (isSound (keysOf (now w)) b ≡ true) × (0 < keysOf (now w) .count) × (isFlat (now w) ≡ true) ⌝ }
     ensures { λ r. ⌜ Kept-as r (now (w .exit)) (now (w .entry)) (leaving (cancelled (b .question) b epoch) (left (keysOf (now (w .entry))) i)) ⌝ }
 {
@@ -52,13 +57,13 @@ fn leave(w: &mut [u64; 89], b: Datagram, i: usize, epoch: u16) -> Answer
 }
 
 // Removes a receive epoch, and the question under it.
-pub fn remove(w: &mut [u64; 89], epoch: u16) -> Answer
+pub fn remove(w: &mut [u64; WORDS], epoch: u16) -> Answer
     requires { ⌜ isFlat (now w) ≡ true ⌝ }
     ensures { λ r. ⌜ Kept-as r (now (w .exit)) (now (w .entry)) (removeOf (stateOf (now (w .entry))) epoch) ⌝ }
 {
     let b = link_words::datagram_of(w);
     if link_words::is_sound(w, b) {
-        let count = w[15] as usize;
+        let count = w[COUNT] as usize;
         let f = link_words::find_epoch(w, count, epoch);
         return match f {
             Found::Nothing => Answer::Unusable,
@@ -69,35 +74,35 @@ pub fn remove(w: &mut [u64; 89], epoch: u16) -> Answer
 }
 
 // Peer encryption on.
-pub fn encrypt(w: &mut [u64; 89]) -> Answer
+pub fn encrypt(w: &mut [u64; WORDS]) -> Answer
     requires { ⌜ isFlat (now w) ≡ true ⌝ }
     ensures { λ r. ⌜ Kept-as r (now (w .exit)) (now (w .entry)) (encryptOf (stateOf (now (w .entry)))) ⌝ }
 {
     link_words::sized(w);
     let b = link_words::datagram_of(w);
     if link_words::is_sound(w, b) {
-        w[17] = 1;
+        w[ENCRYPTED] = 1;
         return Answer::Done;
     }
     Answer::Setting
 }
 
 // Application data released.
-pub fn release(w: &mut [u64; 89]) -> Answer
+pub fn release(w: &mut [u64; WORDS]) -> Answer
     requires { ⌜ isFlat (now w) ≡ true ⌝ }
     ensures { λ r. ⌜ Kept-as r (now (w .exit)) (now (w .entry)) (releaseOf (stateOf (now (w .entry)))) ⌝ }
 {
     link_words::sized(w);
     let b = link_words::datagram_of(w);
     if link_words::is_sound(w, b) {
-        w[18] = 1;
+        w[RELEASED] = 1;
         return Answer::Done;
     }
     Answer::Setting
 }
 
 // Begins a datagram of n bytes.
-pub fn begin(w: &mut [u64; 89], n: usize) -> Answer
+pub fn begin(w: &mut [u64; WORDS], n: usize) -> Answer
     requires { ⌜ isFlat (now w) ≡ true ⌝ }
     ensures { λ r. ⌜ Kept-as r (now (w .exit)) (now (w .entry)) (beginOf (stateOf (now (w .entry))) n) ⌝ }
 {

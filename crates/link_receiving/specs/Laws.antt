@@ -28,7 +28,7 @@ use Rattle.receiving.specs.declared.Kept.{Kept}
 use Rattle.receiving.specs.declared.Receiving.{Receiving}
 use Rattle.window.specs.Window.{width, marking}
 use Rattle.window.specs.declared.ReplayWindow.{ReplayWindow}
-use Rattle.link_words.specs.Words.{windowAt, entriesOf, keysOf, datagramOf, isFlat, putWindow}
+use Rattle.link_words.specs.Words.{words, windowAt, entriesOf, keysOf, datagramOf, isFlat, putWindow}
 use Rattle.link_words.specs.Laws.{entry-at, mark-put}
 use Rattle.link_receiving.specs.Flat.{answerOf, bare, flatReading}
 use Rattle.link_calls.specs.Kept.{stateOf, Kept-as}
@@ -90,7 +90,7 @@ first-read r v w d t l f h =
     )
 
 -- a window that is marked
-pub marks-at : (i n : ℕ) (w : List ℕ) (u v : ReplayWindow) → i < 5 → length w ≡ 89 → u ≡ getD (entriesOf w) i noEntry .replay → v ≡ marking width u n
+pub marks-at : (i n : ℕ) (w : List ℕ) (u v : ReplayWindow) → i < 5 → length w ≡ words → u ≡ getD (entriesOf w) i noEntry .replay → v ≡ marking width u n
     → (keysOf (putWindow i v w) ≡ marked (keysOf w) i n) × (isFlat (putWindow i v w) ≡ isFlat w)
 marks-at i n w u v l h p q =
     subst (λ (x : ReplayWindow). (keysOf (putWindow i x w) ≡ marked (keysOf w) i n) × (isFlat (putWindow i x w) ≡ isFlat w))

@@ -1,4 +1,4 @@
-// The receive side of a link as a host calls it. The state is 89 words that the host keeps and lends; a call changes them in place and
+// The receive side of a link as a host calls it. The state is words that the host keeps and lends; a call changes them in place and
 // copies none of them. Whatever stands in them, a call ends with an answer.
 ghost use mathlib.Core.Path.{_≡_};
 ghost use Prim.Native.Nat.{_<_};
@@ -28,6 +28,7 @@ use datagram::Reading;
 use datagram::Reason;
 use datagram::Step;
 use link_steps::Opened;
+use link_words::WORDS;
 use opening_reply::Opening;
 use receiving::Answer;
 
@@ -201,7 +202,7 @@ fn opening_of(opened: u8, length: usize) -> Opening
 }
 
 // A step written, and what it says.
-fn settle(w: &mut [u64; 89], t: Step) -> LinkReading
+fn settle(w: &mut [u64; WORDS], t: Step) -> LinkReading
     requires { ⌜ isFlat (now w) ≡ true ⌝ }
     ensures { λ r. ⌜ Stepped r (now (w .exit)) (now (w .entry)) t ⌝ }
 {
@@ -217,7 +218,7 @@ fn settle(w: &mut [u64; 89], t: Step) -> LinkReading
 
 // A receive side with nothing keyed and no datagram begun, whatever stood in the words. A protected part has at least min_protected
 // bytes, 0 to 17.
-pub fn fresh(w: &mut [u64; 89], min_protected: usize) -> u8
+pub fn fresh(w: &mut [u64; WORDS], min_protected: usize) -> u8
     ensures { λ r. ⌜ FreshCall r (now (w .exit)) «min_protected» ⌝ }
 {
     link_words::put_fresh(w, min_protected);
@@ -228,7 +229,7 @@ pub fn fresh(w: &mut [u64; 89], min_protected: usize) -> u8
 }
 
 // Keys an epoch to receive, with its IV.
-pub fn key_receive(w: &mut [u64; 89], epoch: u16, iv: &[u8; 12]) -> u8
+pub fn key_receive(w: &mut [u64; WORDS], epoch: u16, iv: &[u8; 12]) -> u8
     ensures { λ r. ⌜ KeyReceiveCall r (now (w .exit)) (now (w .entry)) epoch (now (iv .entry)) ⌝ }
 {
     if link_words::is_flat(w) {
@@ -239,7 +240,7 @@ pub fn key_receive(w: &mut [u64; 89], epoch: u16, iv: &[u8; 12]) -> u8
 }
 
 // Removes a receive epoch, and the question under it: 6 where a record is dropped with it.
-pub fn remove_receive(w: &mut [u64; 89], epoch: u16) -> u8
+pub fn remove_receive(w: &mut [u64; WORDS], epoch: u16) -> u8
     ensures { λ r. ⌜ RemoveReceiveCall r (now (w .exit)) (now (w .entry)) epoch ⌝ }
 {
     if link_words::is_flat(w) {
@@ -249,7 +250,7 @@ pub fn remove_receive(w: &mut [u64; 89], epoch: u16) -> u8
 }
 
 // Peer encryption on, from the next record read.
-pub fn enable_peer_encryption(w: &mut [u64; 89]) -> u8
+pub fn enable_peer_encryption(w: &mut [u64; WORDS]) -> u8
     ensures { λ r. ⌜ EnablePeerEncryptionCall r (now (w .exit)) (now (w .entry)) ⌝ }
 {
     if link_words::is_flat(w) {
@@ -259,7 +260,7 @@ pub fn enable_peer_encryption(w: &mut [u64; 89]) -> u8
 }
 
 // Application data released.
-pub fn release_application_data(w: &mut [u64; 89]) -> u8
+pub fn release_application_data(w: &mut [u64; WORDS]) -> u8
     ensures { λ r. ⌜ ReleaseApplicationDataCall r (now (w .exit)) (now (w .entry)) ⌝ }
 {
     if link_words::is_flat(w) {
@@ -269,7 +270,7 @@ pub fn release_application_data(w: &mut [u64; 89]) -> u8
 }
 
 // Begins a datagram of n bytes; a question that waits is cancelled.
-pub fn begin(w: &mut [u64; 89], n: usize) -> u8
+pub fn begin(w: &mut [u64; WORDS], n: usize) -> u8
     ensures { λ r. ⌜ BeginCall r (now (w .exit)) (now (w .entry)) n ⌝ }
 {
     if link_words::is_flat(w) {
@@ -279,7 +280,7 @@ pub fn begin(w: &mut [u64; 89], n: usize) -> u8
 }
 
 // The record at the cursor of a datagram, where no question waits.
-fn read_on(w: &mut [u64; 89], b: Datagram, d: &[u8]) -> LinkReading
+fn read_on(w: &mut [u64; WORDS], b: Datagram, d: &[u8]) -> LinkReading
     requires { ⌜ (isFlat (now w) ≡ true) × Goes (keysOf (now w)) b (length (now d)) ⌝ }
     ensures { λ r. ⌜ Stepped r (now (w .exit)) (now (w .entry)) (readStep (keysOf (now (w .entry))) b (now (d .entry))) ⌝ }
 {
@@ -288,7 +289,7 @@ fn read_on(w: &mut [u64; 89], b: Datagram, d: &[u8]) -> LinkReading
 }
 
 // Begins a datagram and reads its first record, in one call. A refused beginning is told by its number, 1 or 12.
-pub fn begin_read(w: &mut [u64; 89], d: &[u8]) -> LinkReading
+pub fn begin_read(w: &mut [u64; WORDS], d: &[u8]) -> LinkReading
     ensures { λ r. ⌜ BeginReadCall r (now (w .exit)) (now (w .entry)) (now (d .entry)) ⌝ }
 {
     if link_words::is_flat(w) {
@@ -311,7 +312,7 @@ pub fn begin_read(w: &mut [u64; 89], d: &[u8]) -> LinkReading
 }
 
 // One record of the datagram begun, or the question that waits again.
-pub fn read(w: &mut [u64; 89], d: &[u8]) -> LinkReading
+pub fn read(w: &mut [u64; WORDS], d: &[u8]) -> LinkReading
     ensures { λ r. ⌜ ReadCall r (now (w .exit)) (now (w .entry)) (now (d .entry)) ⌝ }
 {
     if link_words::is_flat(w) {
@@ -326,7 +327,7 @@ pub fn read(w: &mut [u64; 89], d: &[u8]) -> LinkReading
 }
 
 // The mask that was asked for; the number bytes are unmasked in the datagram.
-pub fn mask(w: &mut [u64; 89], mask_0: u8, mask_1: u8, d: &mut [u8]) -> LinkReading
+pub fn mask(w: &mut [u64; WORDS], mask_0: u8, mask_1: u8, d: &mut [u8]) -> LinkReading
     ensures { λ r. ⌜ MaskCall r (now (w .exit)) (now (w .entry)) «mask_0» «mask_1» (now (d .exit)) (now (d .entry)) ⌝ }
 {
     if link_words::is_flat(w) {
@@ -338,7 +339,7 @@ pub fn mask(w: &mut [u64; 89], mask_0: u8, mask_1: u8, d: &mut [u8]) -> LinkRead
 }
 
 // A number marked where the reply to an opening question says so.
-fn mark(w: &mut [u64; 89], o: Opened)
+fn mark(w: &mut [u64; WORDS], o: Opened)
     requires { ⌜ (o .place < 5) × (isFlat (now w) ≡ true) ⌝ }
     ensures { λ _. ⌜ (keysOf (now (w .exit)) ≡ opens o (keysOf (now (w .entry))) .keys) × (isFlat (now (w .exit)) ≡ true) ⌝ }
 {
@@ -351,7 +352,7 @@ fn mark(w: &mut [u64; 89], o: Opened)
 }
 
 // Whether the record was opened, 0 or 1; its plaintext, of so many bytes, then stands at the start of the protected part.
-pub fn opened(w: &mut [u64; 89], opened: u8, length: usize, d: &[u8]) -> LinkReading
+pub fn opened(w: &mut [u64; WORDS], opened: u8, length: usize, d: &[u8]) -> LinkReading
     ensures { λ r. ⌜ OpenedCall r (now (w .exit)) (now (w .entry)) opened length (now (d .entry)) ⌝ }
 {
     if 1 < opened {

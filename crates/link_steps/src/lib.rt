@@ -19,6 +19,10 @@ use datagram::Question;
 use datagram::Reading;
 use datagram::Reason;
 use datagram::Step;
+use link_words::COUNT;
+use link_words::ENCRYPTED;
+use link_words::LEAST;
+use link_words::WORDS;
 use opening_reply::Cancelled;
 use opening_reply::Opening;
 use record::Ciphertext;
@@ -36,7 +40,7 @@ pub struct Opened {
 // ---- the cut, over the words
 
 // A sealed record while the peer encrypts: its epoch is resolved, before its mask is asked for.
-fn locked_step(w: &[u64; 89], b: Datagram, c: Ciphertext) -> Step
+fn locked_step(w: &[u64; WORDS], b: Datagram, c: Ciphertext) -> Step
     requires { ⌜ (keysOf (now w) .count ≤ 5) × (b .at + c .«header_len» + c .length ≤ 16384) ⌝ }
     ensures { λ t. ⌜ t ≡ lockedStep (resolve (keysOf (now (w .entry))) (c .«epoch_bits»)) (keysOf (now (w .entry))) b c ⌝ }
 {
@@ -49,7 +53,7 @@ fn locked_step(w: &[u64; 89], b: Datagram, c: Ciphertext) -> Step
             if length < 16 {
                 return datagram::pass(b, next, Reason::TooShort);
             }
-            if length < w[19] as usize {
+            if length < w[LEAST] as usize {
                 return datagram::pass(b, next, Reason::TooShort);
             }
             records::ask_mask(b, link_words::epoch_at(w, i), c)
@@ -57,11 +61,11 @@ fn locked_step(w: &[u64; 89], b: Datagram, c: Ciphertext) -> Step
     }
 }
 
-fn sealed_step(w: &[u64; 89], b: Datagram, c: Ciphertext) -> Step
+fn sealed_step(w: &[u64; WORDS], b: Datagram, c: Ciphertext) -> Step
     requires { ⌜ (keysOf (now w) .count ≤ 5) × (b .at + c .«header_len» + c .length ≤ 16384) ⌝ }
     ensures { λ t. ⌜ t ≡ sealedStep (keysOf (now (w .entry))) b c ⌝ }
 {
-    if w[17] == 1 {
+    if w[ENCRYPTED] == 1 {
         return locked_step(w, b, c);
     }
     let start = b.at + c.header_len;
@@ -83,7 +87,7 @@ fn sealed_step(w: &[u64; 89], b: Datagram, c: Ciphertext) -> Step
 }
 
 // One record, at the start of the rest of a datagram.
-fn one_record(w: &[u64; 89], b: Datagram, d: &[u8]) -> Step
+fn one_record(w: &[u64; WORDS], b: Datagram, d: &[u8]) -> Step
     requires { ⌜ (keysOf (now w) .count ≤ 5) × (b .at + length (now d) ≤ 16384) ⌝ }
     ensures { λ t. ⌜ t ≡ stepOf (parsed (now (d .entry))) (keysOf (now (w .entry))) b ⌝ }
 {
@@ -107,11 +111,11 @@ fn one_record(w: &[u64; 89], b: Datagram, d: &[u8]) -> Step
     }
 }
 
-fn ask_again(w: &[u64; 89], b: Datagram, a: Ask, number: u64) -> Step
+fn ask_again(w: &[u64; WORDS], b: Datagram, a: Ask, number: u64) -> Step
     requires { ⌜ keysOf (now w) .count ≤ 5 ⌝ }
     ensures { λ t. ⌜ t ≡ askedAgain (find (keysOf (now (w .entry)) .entries) (a .epoch) (keysOf (now (w .entry)) .count)) (keysOf (now (w .entry))) b a number ⌝ }
 {
-    let f = link_words::find_epoch(w, w[15] as usize, a.epoch);
+    let f = link_words::find_epoch(w, w[COUNT] as usize, a.epoch);
     match f {
         Found::Nothing => datagram::tell(b, Reading::Setting),
         Found::At(i) => records::ask_opening(link_words::entry_at(w, i), b, a, number),
@@ -119,7 +123,7 @@ fn ask_again(w: &[u64; 89], b: Datagram, a: Ask, number: u64) -> Step
 }
 
 // The record at the cursor, where no question waits.
-pub fn go_on(w: &[u64; 89], b: Datagram, d: &[u8]) -> Step
+pub fn go_on(w: &[u64; WORDS], b: Datagram, d: &[u8]) -> Step
     requires { ⌜ (keysOf (now w) .count ≤ 5) × (b .at ≤ length (now d)) × (length (now d) ≤ 16384) ⌝ }
     ensures { λ t. ⌜ t ≡ asking Question.Nothing (keysOf (now (w .entry))) b (now (d .entry)) ⌝ }
 {
@@ -127,7 +131,7 @@ pub fn go_on(w: &[u64; 89], b: Datagram, d: &[u8]) -> Step
 }
 
 // Whether the cut goes on: no question waits, and the datagram is the one begun.
-pub fn goes_on(w: &[u64; 89], b: Datagram, n: usize) -> bool
+pub fn goes_on(w: &[u64; WORDS], b: Datagram, n: usize) -> bool
     requires { ⌜ b ≡ datagramOf (now w) ⌝ }
     ensures { λ r. ⌜ r ≡ goesOn (keysOf (now (w .entry))) b n ⌝ }
 {
@@ -147,7 +151,7 @@ pub fn goes_on(w: &[u64; 89], b: Datagram, n: usize) -> bool
 }
 
 // What a read says where the cut does not go on: 12, 15, or the question that waits again.
-pub fn wait_step(w: &[u64; 89], b: Datagram, d: &[u8]) -> Step
+pub fn wait_step(w: &[u64; WORDS], b: Datagram, d: &[u8]) -> Step
     requires { ⌜ (b ≡ datagramOf (now w)) × (Goes (keysOf (now w)) b (length (now d)) → ⊥) ⌝ }
     ensures { λ t. ⌜ t ≡ readStep (keysOf (now (w .entry))) b (now (d .entry)) ⌝ }
 {
@@ -175,11 +179,11 @@ pub fn wait_step(w: &[u64; 89], b: Datagram, d: &[u8]) -> Step
 
 // ---- the replies
 
-fn mask_by(w: &[u64; 89], b: Datagram, a: Ask, mask: [u8; 2], d: &mut [u8]) -> Step
+fn mask_by(w: &[u64; WORDS], b: Datagram, a: Ask, mask: [u8; 2], d: &mut [u8]) -> Step
     requires { ⌜ (isSound (keysOf (now w)) b ≡ true) × (b .question ≡ Question.Mask a) × (length (now d) ≡ b .size) ⌝ }
     ensures { λ r. ⌜ (r ≡ maskedBy (find (keysOf (now (w .entry)) .entries) (a .epoch) (keysOf (now (w .entry)) .count)) (keysOf (now (w .entry))) b a mask (now (d .entry)) .0) × (now (d .exit) ≡ maskedBy (find (keysOf (now (w .entry)) .entries) (a .epoch) (keysOf (now (w .entry)) .count)) (keysOf (now (w .entry))) b a mask (now (d .entry)) .1) ⌝ }
 {
-    let f = link_words::find_epoch(w, w[15] as usize, a.epoch);
+    let f = link_words::find_epoch(w, w[COUNT] as usize, a.epoch);
     match f {
         Found::Nothing => datagram::tell(b, Reading::Setting),
         Found::At(i) => mask_reply::mask_at(link_words::entry_at(w, i), b, a, mask, d),
@@ -187,7 +191,7 @@ fn mask_by(w: &[u64; 89], b: Datagram, a: Ask, mask: [u8; 2], d: &mut [u8]) -> S
 }
 
 // The reply to a mask question.
-pub fn mask_step(w: &[u64; 89], b: Datagram, mask: [u8; 2], d: &mut [u8]) -> Step
+pub fn mask_step(w: &[u64; WORDS], b: Datagram, mask: [u8; 2], d: &mut [u8]) -> Step
     requires { ⌜ b ≡ datagramOf (now w) ⌝ }
     ensures { λ r. ⌜ (r ≡ maskStep (keysOf (now (w .entry))) b mask (now (d .entry)) .0) × (now (d .exit) ≡ maskStep (keysOf (now (w .entry))) b mask (now (d .entry)) .1) ⌝ }
 {
@@ -247,11 +251,11 @@ fn open_at(b: Datagram, a: Ask, number: u64, i: usize, o: Opening, d: &[u8]) -> 
     }
 }
 
-fn open_by(w: &[u64; 89], b: Datagram, a: Ask, number: u64, o: Opening, d: &[u8]) -> Opened
+fn open_by(w: &[u64; WORDS], b: Datagram, a: Ask, number: u64, o: Opening, d: &[u8]) -> Opened
     requires { ⌜ (isSound (keysOf (now w)) b ≡ true) × (b .question ≡ Question.Opening a number) ⌝ }
     ensures { λ r. ⌜ (opens r (keysOf (now (w .entry))) ≡ openedBy (find (keysOf (now (w .entry)) .entries) (a .epoch) (keysOf (now (w .entry)) .count)) o (keysOf (now (w .entry))) b a number (now (d .entry))) × (r .place < 5) ⌝ }
 {
-    let f = link_words::find_epoch(w, w[15] as usize, a.epoch);
+    let f = link_words::find_epoch(w, w[COUNT] as usize, a.epoch);
     match f {
         Found::Nothing => unmarked(datagram::tell(b, Reading::Setting)),
         Found::At(i) => open_at(b, a, number, i, o, d),
@@ -259,7 +263,7 @@ fn open_by(w: &[u64; 89], b: Datagram, a: Ask, number: u64, o: Opening, d: &[u8]
 }
 
 // The reply to an opening question.
-pub fn opened_step(w: &[u64; 89], b: Datagram, o: Opening, d: &[u8]) -> Opened
+pub fn opened_step(w: &[u64; WORDS], b: Datagram, o: Opening, d: &[u8]) -> Opened
     requires { ⌜ b ≡ datagramOf (now w) ⌝ }
     ensures { λ r. ⌜ (opens r (keysOf (now (w .entry))) ≡ openedStep (keysOf (now (w .entry))) b o (now (d .entry))) × (r .place < 5) ⌝ }
 {
@@ -281,11 +285,11 @@ pub fn opened_step(w: &[u64; 89], b: Datagram, o: Opening, d: &[u8]) -> Opened
 // ---- an epoch more, an epoch less
 
 // Whether there is no place for one epoch more.
-pub fn is_full(w: &[u64; 89], epoch: u16) -> bool
+pub fn is_full(w: &[u64; WORDS], epoch: u16) -> bool
     requires { ⌜ keysOf (now w) .count ≤ 5 ⌝ }
     ensures { λ r. ⌜ r ≡ isFull (keysOf (now (w .entry))) epoch ⌝ }
 {
-    let count = w[15] as usize;
+    let count = w[COUNT] as usize;
     if 5 <= count {
         return true;
     }
@@ -296,7 +300,7 @@ pub fn is_full(w: &[u64; 89], epoch: u16) -> bool
 }
 
 // The question under an epoch goes, and the cut goes on behind its record.
-pub fn cancel(w: &[u64; 89], b: Datagram, epoch: u16) -> Cancelled
+pub fn cancel(w: &[u64; WORDS], b: Datagram, epoch: u16) -> Cancelled
     requires { ⌜ isSound (keysOf (now w)) b ≡ true ⌝ }
     ensures { λ r. ⌜ r ≡ cancelled (b .question) b epoch ⌝ }
 {

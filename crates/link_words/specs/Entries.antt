@@ -7,63 +7,51 @@ use native.Mathlib.Omega.{arith}
 use lib.Dec.{leb, eqb, ltb}
 use lib.ListN.{length, getD, set, drop, replicate, length-set}
 use borrow.Author.Tests.{lt-ltb, le-ltb}
+use Rattle.base.specs.Bytes.{beAt, Bytes}
 use Rattle.base.specs.Choose.{choose, both, both-left, both-right, both-true, if-true, if-false}
 use Rattle.datagram.specs.Datagram.{begun}
 use Rattle.recv_keys.specs.declared.RecvEpochEntry.{RecvEpochEntry}
 use Rattle.recv_keys.specs.declared.RecvKeys.{RecvKeys}
 use Rattle.recv_keys.specs.Keys.{noEntry, fresh, encrypted, released, installed, leftAt, left}
 use Rattle.window.specs.Window.{unmarked}
-use Rattle.link_words.specs.Words.{ivAt, windowAt, entryAt, entriesOf, keysOf, questionOf, datagramOf, isFlat, restOf, putIv, putEntry}
-use Rattle.link_words.specs.Laws.{firstOf, whole, by-words}
-
--- ---- an IV of twelve bytes
+use Rattle.words.specs.Fields.{firstOf, by-words}
+use Rattle.words.specs.Packed.{ivOf, iv-back}
+use Rattle.link_words.specs.Words.{words, count-at, highest-at, encrypted-at, released-at, least-at, windowAt, entryAt, entriesOf, keysOf, questionOf, datagramOf, isFlat, restOf, putIv, putEntry}
 
 abbrev pub LowIv : List ℕ → Type 0
-LowIv l = (length l ≡ 12) × (getD l 0 0 ≤ 255) × (getD l 1 0 ≤ 255) × (getD l 2 0 ≤ 255) × (getD l 3 0 ≤ 255) × (getD l 4 0 ≤ 255) × (getD l 5 0 ≤ 255) × (getD l 6 0 ≤ 255) × (getD l 7 0 ≤ 255) × (getD l 8 0 ≤ 255) × (getD l 9 0 ≤ 255) × (getD l 10 0 ≤ 255) × (getD l 11 0 ≤ 255)
-
-abbrev mods : List ℕ → List ℕ
-mods l = (getD l 0 0 % 256) ∷ (getD l 1 0 % 256) ∷ (getD l 2 0 % 256) ∷ (getD l 3 0 % 256) ∷ (getD l 4 0 % 256) ∷ (getD l 5 0 % 256) ∷ (getD l 6 0 % 256) ∷ (getD l 7 0 % 256) ∷ (getD l 8 0 % 256) ∷ (getD l 9 0 % 256) ∷ (getD l 10 0 % 256) ∷ (getD l 11 0 % 256) ∷ []
-
-mod-low : {x : ℕ} → x ≤ 255 → x % 256 ≡ x
-mod-low h = omega arith
-
-mods-back : (l : List ℕ) → LowIv l → mods l ≡ l
-unfolding firstOf
-mods-back l b =
-    subst (λ (v : List ℕ). LowIv v → mods v ≡ v) (sym (whole l 12 (b .0)))
-    (λ x. rw (mod-low (x .1), mod-low (x .2), mod-low (x .3), mod-low (x .4), mod-low (x .5), mod-low (x .6), mod-low (x .7), mod-low (x .8), mod-low (x .9), mod-low (x .10), mod-low (x .11), mod-low (x .12))) b
+LowIv l = (length l ≡ 12) × Bytes l
 
 -- ---- an entry written
 
--- the entry at i is e, the others and words 15 to 28 are as they were
+-- the entry at i is e, the others and all else is as it was
 pub record Written (i : ℕ) (e : RecvEpochEntry) (w v : List ℕ) : Type 0 where
   pub entries : entriesOf v ≡ set (entriesOf w) i e
   pub rest : restOf v ≡ restOf w
-  pub long : length v ≡ 89
+  pub long : length v ≡ words
 
 low-entry : RecvEpochEntry → RecvEpochEntry
-low-entry e = record { epoch = e .epoch % 65536; iv = mods (e .iv); replay = e .replay }
+low-entry e = record { epoch = e .epoch % 65536; iv = ivOf (beAt 4 (e .iv) 0) (beAt 8 (e .iv) 4); replay = e .replay }
 
 abbrev Puts : ℕ → RecvEpochEntry → List ℕ → Type 0
 Puts i e w = (entriesOf (putEntry i e w) ≡ set (entriesOf w) i (low-entry e)) × (restOf (putEntry i e w) ≡ restOf w)
 
-puts : (i : ℕ) (e : RecvEpochEntry) (w : List ℕ) → i < 5 → length w ≡ 89 → Puts i e w
-unfolding firstOf entriesOf ivAt low-entry
-puts zero e w l h = by-words (Puts 0 e) w h (refl, refl)
-puts (suc zero) e w l h = by-words (Puts 1 e) w h (refl, refl)
-puts (suc (suc zero)) e w l h = by-words (Puts 2 e) w h (refl, refl)
-puts (suc (suc (suc zero))) e w l h = by-words (Puts 3 e) w h (refl, refl)
-puts (suc (suc (suc (suc zero)))) e w l h = by-words (Puts 4 e) w h (refl, refl)
+puts : (i : ℕ) (e : RecvEpochEntry) (w : List ℕ) → i < 5 → length w ≡ words → Puts i e w
+unfolding firstOf entriesOf low-entry
+puts zero e w l h = by-words words (Puts 0 e) w h (refl, refl)
+puts (suc zero) e w l h = by-words words (Puts 1 e) w h (refl, refl)
+puts (suc (suc zero)) e w l h = by-words words (Puts 2 e) w h (refl, refl)
+puts (suc (suc (suc zero))) e w l h = by-words words (Puts 3 e) w h (refl, refl)
+puts (suc (suc (suc (suc zero)))) e w l h = by-words words (Puts 4 e) w h (refl, refl)
 puts (suc (suc (suc (suc (suc i))))) e w l h = absurd (omega arith)
 
 low-back : (e : RecvEpochEntry) → e .epoch ≤ 65535 → LowIv (e .iv) → low-entry e ≡ e
 unfolding low-entry
 low-back e h b =
     let q : e .epoch % 65536 ≡ e .epoch = omega arith in
-    ap (λ (x : ℕ). record { epoch = x; iv = mods (e .iv); replay = e .replay }) q
-    ∙ ap (λ (x : List ℕ). record { epoch = e .epoch; iv = x; replay = e .replay }) (mods-back (e .iv) b)
+    ap (λ (x : ℕ). record { epoch = x; iv = ivOf (beAt 4 (e .iv) 0) (beAt 8 (e .iv) 4); replay = e .replay }) q
+    ∙ ap (λ (x : List ℕ). record { epoch = e .epoch; iv = x; replay = e .replay }) (iv-back (e .iv) (b .0) (b .1))
 
-pub written : (i : ℕ) (e : RecvEpochEntry) (w : List ℕ) → i < 5 → length w ≡ 89 → e .epoch ≤ 65535 → LowIv (e .iv) → Written i e w (putEntry i e w)
+pub written : (i : ℕ) (e : RecvEpochEntry) (w : List ℕ) → i < 5 → length w ≡ words → e .epoch ≤ 65535 → LowIv (e .iv) → Written i e w (putEntry i e w)
 written i e w l h q b = record {
   entries = puts i e w l h .0 ∙ ap (set (entriesOf w) i) (low-back e q b);
   rest = puts i e w l h .1;
@@ -75,7 +63,7 @@ written i e w l h q b = record {
 abbrev pub Beside : List ℕ → List ℕ → Type 0
 Beside w v = (datagramOf v ≡ datagramOf w) × (isFlat v ≡ isFlat w)
 
--- keys and datagram by the entries and words 15 to 28
+-- keys and datagram by the entries and the words that are no entry's
 abbrev keysBy : List RecvEpochEntry → List ℕ → RecvKeys
 keysBy l r = record {
   entries = l;
@@ -86,7 +74,7 @@ keysBy l r = record {
   «min_protected» = getD r 4 0;
 }
 
--- words 15 to 28 as a state of their own
+-- those words as a state of their own
 abbrev alone : List ℕ → List ℕ
 alone r = 0 ∷ 0 ∷ 0 ∷ 0 ∷ 0 ∷ 0 ∷ 0 ∷ 0 ∷ 0 ∷ 0 ∷ 0 ∷ 0 ∷ 0 ∷ 0 ∷ 0 ∷ r
 
@@ -104,18 +92,18 @@ beside w v e = (
 
 abbrev Counted : ℕ → ℕ → List ℕ → Type 0
 Counted n x w =
-    (keysOf (set (set w 15 n) 16 x) ≡ keysBy (entriesOf w) (n ∷ x ∷ drop 2 (restOf w))) × Beside w (set (set w 15 n) 16 x)
+    (keysOf (set (set w count-at n) highest-at x) ≡ keysBy (entriesOf w) (n ∷ x ∷ drop 2 (restOf w))) × Beside w (set (set w count-at n) highest-at x)
 
-counting : (n x : ℕ) (w : List ℕ) → length w ≡ 89 → Counted n x w
-unfolding firstOf entriesOf ivAt questionOf isFlat
-counting n x w h = by-words (Counted n x) w h (refl, (refl, refl))
+counting : (n x : ℕ) (w : List ℕ) → length w ≡ words → Counted n x w
+unfolding firstOf entriesOf questionOf isFlat
+counting n x w h = by-words words (Counted n x) w h (refl, (refl, refl))
 
 abbrev Less : ℕ → List ℕ → Type 0
-Less n w = (keysOf (set w 15 n) ≡ keysBy (entriesOf w) (n ∷ drop 1 (restOf w))) × Beside w (set w 15 n)
+Less n w = (keysOf (set w count-at n) ≡ keysBy (entriesOf w) (n ∷ drop 1 (restOf w))) × Beside w (set w count-at n)
 
-lessening : (n : ℕ) (w : List ℕ) → length w ≡ 89 → Less n w
-unfolding firstOf entriesOf ivAt questionOf isFlat
-lessening n w h = by-words (Less n) w h (refl, (refl, refl))
+lessening : (n : ℕ) (w : List ℕ) → length w ≡ words → Less n w
+unfolding firstOf entriesOf questionOf isFlat
+lessening n w h = by-words words (Less n) w h (refl, (refl, refl))
 
 trans-beside : (u w v : List ℕ) → Beside u w → Beside w v → Beside u v
 trans-beside u w v a b = (b .0 ∙ a .0, b .1 ∙ a .1)
@@ -123,7 +111,7 @@ trans-beside u w v a b = (b .0 ∙ a .0, b .1 ∙ a .1)
 -- an epoch keyed
 pub installs : (i x : ℕ) (iv : List ℕ) (w v : List ℕ)
     → Written i (record { epoch = x; iv = iv; replay = unmarked }) w v → keysOf w .count ≡ i → x ≤ 65535
-    → (keysOf (set (set v 15 (i + 1)) 16 x) ≡ installed (keysOf w) x iv) × Beside w (set (set v 15 (i + 1)) 16 x)
+    → (keysOf (set (set v count-at (i + 1)) highest-at x) ≡ installed (keysOf w) x iv) × Beside w (set (set v count-at (i + 1)) highest-at x)
 unfolding installed
 installs i x iv w v r e q =
     let c = counting (i + 1) x v (r .long) in
@@ -147,7 +135,7 @@ installs i x iv w v r e q =
             released = keysOf w .released;
             «min_protected» = keysOf w .«min_protected»;
           }) (sym e),
-      trans-beside w v (set (set v 15 (i + 1)) 16 x) (beside w v (r .rest)) (c .1),
+      trans-beside w v (set (set v count-at (i + 1)) highest-at x) (beside w v (r .rest)) (c .1),
     )
 
 -- an entry left where it is
@@ -160,7 +148,7 @@ same-entry w (suc (suc (suc zero))) h = refl
 same-entry w (suc (suc (suc (suc zero)))) h = refl
 same-entry w (suc (suc (suc (suc (suc j))))) h = absurd (omega arith)
 
-pub stays : (i j : ℕ) (w : List ℕ) → j < 4 → j < i → length w ≡ 89 → Written j (leftAt (entriesOf w) i j) w w
+pub stays : (i j : ℕ) (w : List ℕ) → j < 4 → j < i → length w ≡ words → Written j (leftAt (entriesOf w) i j) w w
 unfolding leftAt
 stays i j w h l long = record {
   entries = same-entry w j (omega arith) ∙ ap (set (entriesOf w) j) (sym (if-true _ _ (lt-ltb _ _ l)));
@@ -195,50 +183,50 @@ module _ (i : ℕ) (w a b c v : List ℕ)
   entries-all =
       four .entries ∙ ap (shifted i 3) (three .entries ∙ ap (shifted i 2) (two .entries ∙ ap (shifted i 1) (one .entries))) ∙ all-shifted i w
 
-  pub count-all : getD v 15 0 ≡ keysOf w .count
+  pub count-all : getD v count-at 0 ≡ keysOf w .count
   count-all = ap (λ (r : List ℕ). getD r 0 0) rest-all
 
-  pub uninstalls : (keysOf (set v 15 (getD v 15 0 - 1)) ≡ left (keysOf w) i) × Beside w (set v 15 (getD v 15 0 - 1))
+  pub uninstalls : (keysOf (set v count-at (getD v count-at 0 - 1)) ≡ left (keysOf w) i) × Beside w (set v count-at (getD v count-at 0 - 1))
   unfolding left
   uninstalls =
-      let l = lessening (getD v 15 0 - 1) v (four .long) in (
+      let l = lessening (getD v count-at 0 - 1) v (four .long) in (
         l .0
-            ∙ ap (λ (x : List RecvEpochEntry). keysBy x ((getD v 15 0 - 1) ∷ drop 1 (restOf v))) entries-all
+            ∙ ap (λ (x : List RecvEpochEntry). keysBy x ((getD v count-at 0 - 1) ∷ drop 1 (restOf v))) entries-all
             ∙ ap (λ (r : List ℕ). keysBy (left (keysOf w) i .entries) ((getD r 0 0 - 1) ∷ drop 1 r)) rest-all,
-        trans-beside w v (set v 15 (getD v 15 0 - 1)) (beside w v rest-all) (l .1),
+        trans-beside w v (set v count-at (getD v count-at 0 - 1)) (beside w v rest-all) (l .1),
       )
 
 -- ---- flags, and the start
 
 abbrev Encrypts : List ℕ → Type 0
-Encrypts w = (keysOf (set w 17 1) ≡ encrypted (keysOf w)) × (datagramOf (set w 17 1) ≡ datagramOf w)
+Encrypts w = (keysOf (set w encrypted-at 1) ≡ encrypted (keysOf w)) × (datagramOf (set w encrypted-at 1) ≡ datagramOf w)
 
-pub encrypts : (w : List ℕ) → length w ≡ 89 → Encrypts w
-unfolding firstOf entriesOf ivAt questionOf
-encrypts w h = by-words Encrypts w h (refl, refl)
+pub encrypts : (w : List ℕ) → length w ≡ words → Encrypts w
+unfolding firstOf entriesOf questionOf
+encrypts w h = by-words words Encrypts w h (refl, refl)
 
 abbrev Releases : List ℕ → Type 0
-Releases w = (keysOf (set w 18 1) ≡ released (keysOf w)) × (datagramOf (set w 18 1) ≡ datagramOf w)
+Releases w = (keysOf (set w released-at 1) ≡ released (keysOf w)) × (datagramOf (set w released-at 1) ≡ datagramOf w)
 
-pub releases : (w : List ℕ) → length w ≡ 89 → Releases w
-unfolding firstOf entriesOf ivAt questionOf
-releases w h = by-words Releases w h (refl, refl)
+pub releases : (w : List ℕ) → length w ≡ words → Releases w
+unfolding firstOf entriesOf questionOf
+releases w h = by-words words Releases w h (refl, refl)
 
-flag-flat : (w : List ℕ) → length w ≡ 89 → isFlat w ≡ true → (isFlat (set w 17 1) ≡ true) × (isFlat (set w 18 1) ≡ true)
+flag-flat : (w : List ℕ) → length w ≡ words → isFlat w ≡ true → (isFlat (set w encrypted-at 1) ≡ true) × (isFlat (set w released-at 1) ≡ true)
 unfolding firstOf isFlat
 flag-flat w h =
-    by-words (λ (v : List ℕ). isFlat v ≡ true → (isFlat (set v 17 1) ≡ true) × (isFlat (set v 18 1) ≡ true)) w h
+    by-words words (λ (v : List ℕ). isFlat v ≡ true → (isFlat (set v encrypted-at 1) ≡ true) × (isFlat (set v released-at 1) ≡ true)) w h
     (λ f. (both-true refl ∙ both-right _ _ f, both-true (both-left _ _ f) ∙ both-true refl ∙ both-right _ _ (both-right _ _ f)))
 
-pub encrypt-flat : (w : List ℕ) → length w ≡ 89 → isFlat w ≡ true → isFlat (set w 17 1) ≡ true
+pub encrypt-flat : (w : List ℕ) → length w ≡ words → isFlat w ≡ true → isFlat (set w encrypted-at 1) ≡ true
 encrypt-flat w h f = flag-flat w h f .0
 
-pub release-flat : (w : List ℕ) → length w ≡ 89 → isFlat w ≡ true → isFlat (set w 18 1) ≡ true
+pub release-flat : (w : List ℕ) → length w ≡ words → isFlat w ≡ true → isFlat (set w released-at 1) ≡ true
 release-flat w h f = flag-flat w h f .1
 
 abbrev pub freshWords : ℕ → List ℕ
-freshWords min = set (replicate 89 0) 19 min
+freshWords min = set (replicate words 0) least-at min
 
 pub starts : (min : ℕ) → (keysOf (freshWords min) ≡ fresh min) × (datagramOf (freshWords min) ≡ begun 0) × (isFlat (freshWords min) ≡ true)
-unfolding entriesOf ivAt questionOf isFlat choose both
+unfolding entriesOf ivOf questionOf isFlat choose both
 starts min = (refl, refl, refl)

@@ -1,16 +1,12 @@
--- The receive side's state in 89 words that the host keeps: what they stand for. By word:
---   0 to 4 the epochs, 5 to 9 the highest numbers of their windows, 10 to 14 the marks;
---   15 how many epochs are keyed, 16 the highest ever keyed, 17 peer encryption, 18 released, 19 the least length of a protected part;
---   20 the begun datagram's length, 21 the cursor, 22 the readings made;
---   23 the question that waits: 0 none, 1 mask, 2 opening; 24 its epoch, 25 whether its number has two bytes, 26 and 27 how long
---   header and protected part are, 28 its number;
---   29 to 88 the IVs, a byte a word.
+-- The receive side's state in words that the host keeps: which word is which, and what they stand for. Five words each hold the epochs,
+-- the highest numbers of their windows, the marks, and at the end the first four and the other eight bytes of their IVs.
 use mathlib.Core.Bool.{Bool, true, false}
 use mathlib.Core.List.{List, [], _∷_}
 use Prim.Native.Nat.{ℕ, _+_, _*_, _%_}
 use lib.Dec.{leb, eqb}
 use lib.ListN.{getD, set}
 use Rattle.base.specs.Choose.{choose, both}
+use Rattle.base.specs.Bytes.{beAt}
 use Rattle.datagram.specs.declared.Ask.{Ask}
 use Rattle.datagram.specs.declared.Datagram.{Datagram}
 use Rattle.datagram.specs.declared.Question.the-variants as question
@@ -18,15 +14,90 @@ use Rattle.datagram.specs.declared.Question.{Question}
 use Rattle.recv_keys.specs.declared.RecvEpochEntry.{RecvEpochEntry}
 use Rattle.recv_keys.specs.declared.RecvKeys.{RecvKeys}
 use Rattle.window.specs.declared.ReplayWindow.{ReplayWindow}
+use Rattle.words.specs.Fields.{bitOf}
+use Rattle.words.specs.Packed.{ivOf}
+
+-- ---- which word is which
+
+abbrev pub words : ℕ
+words = 39
+
+abbrev pub number-at : ℕ → ℕ
+number-at i = 5 + i
+
+abbrev pub bits-at : ℕ → ℕ
+bits-at i = 10 + i
+
+-- how many epochs are keyed
+abbrev pub count-at : ℕ
+count-at = 15
+
+-- the highest ever keyed
+abbrev pub highest-at : ℕ
+highest-at = 16
+
+-- peer encryption
+abbrev pub encrypted-at : ℕ
+encrypted-at = 17
+
+-- application data released
+abbrev pub released-at : ℕ
+released-at = 18
+
+-- the least length of a protected part
+abbrev pub least-at : ℕ
+least-at = 19
+
+-- the begun datagram's length
+abbrev pub size-at : ℕ
+size-at = 20
+
+-- the cursor
+abbrev pub cursor-at : ℕ
+cursor-at = 21
+
+-- the readings made
+abbrev pub readings-at : ℕ
+readings-at = 22
+
+-- the question that waits: 0 none, 1 mask, 2 opening
+abbrev pub question-at : ℕ
+question-at = 23
+
+-- its epoch
+abbrev pub ask-epoch-at : ℕ
+ask-epoch-at = 24
+
+-- whether its number has two bytes
+abbrev pub ask-flag-at : ℕ
+ask-flag-at = 25
+
+-- how long its header is
+abbrev pub ask-header-at : ℕ
+ask-header-at = 26
+
+-- and its protected part
+abbrev pub ask-length-at : ℕ
+ask-length-at = 27
+
+-- its number
+abbrev pub ask-number-at : ℕ
+ask-number-at = 28
+
+-- the first four bytes of an IV, and the other eight
+abbrev pub iv-front-at : ℕ → ℕ
+iv-front-at i = 29 + i
+
+abbrev pub iv-back-at : ℕ → ℕ
+iv-back-at i = 34 + i
 
 -- ---- the keys
 
--- the twelve bytes of the IV at i
-unfoldable pub ivAt : List ℕ → ℕ → List ℕ
-ivAt w i = (getD w (29 + 12 * i) 0 % 256) ∷ (getD w (29 + 12 * i + 1) 0 % 256) ∷ (getD w (29 + 12 * i + 2) 0 % 256) ∷ (getD w (29 + 12 * i + 3) 0 % 256) ∷ (getD w (29 + 12 * i + 4) 0 % 256) ∷ (getD w (29 + 12 * i + 5) 0 % 256) ∷ (getD w (29 + 12 * i + 6) 0 % 256) ∷ (getD w (29 + 12 * i + 7) 0 % 256) ∷ (getD w (29 + 12 * i + 8) 0 % 256) ∷ (getD w (29 + 12 * i + 9) 0 % 256) ∷ (getD w (29 + 12 * i + 10) 0 % 256) ∷ (getD w (29 + 12 * i + 11) 0 % 256) ∷ []
+abbrev pub ivAt : List ℕ → ℕ → List ℕ
+ivAt w i = ivOf (getD w (iv-front-at i) 0) (getD w (iv-back-at i) 0)
 
 abbrev pub windowAt : List ℕ → ℕ → ReplayWindow
-windowAt w i = record { «max_seq» = getD w (5 + i) 0; window = getD w (10 + i) 0 }
+windowAt w i = record { «max_seq» = getD w (number-at i) 0; window = getD w (bits-at i) 0 }
 
 abbrev pub entryAt : List ℕ → ℕ → RecvEpochEntry
 entryAt w i = record { epoch = getD w i 0 % 65536; iv = ivAt w i; replay = windowAt w i }
@@ -37,60 +108,56 @@ entriesOf w = entryAt w 0 ∷ entryAt w 1 ∷ entryAt w 2 ∷ entryAt w 3 ∷ en
 abbrev pub keysOf : List ℕ → RecvKeys
 keysOf w = record {
   entries = entriesOf w;
-  count = getD w 15 0;
-  highest = getD w 16 0 % 65536;
-  «peer_encryption» = eqb (getD w 17 0) 1;
-  released = eqb (getD w 18 0) 1;
-  «min_protected» = getD w 19 0;
+  count = getD w count-at 0;
+  highest = getD w highest-at 0 % 65536;
+  «peer_encryption» = eqb (getD w encrypted-at 0) 1;
+  released = eqb (getD w released-at 0) 1;
+  «min_protected» = getD w least-at 0;
 }
 
 -- ---- the begun datagram
 
 abbrev pub askOf : List ℕ → Ask
-askOf w = record { epoch = getD w 24 0 % 65536; «s_flag» = eqb (getD w 25 0) 1; «header_len» = getD w 26 0; length = getD w 27 0 }
+askOf w = record { epoch = getD w ask-epoch-at 0 % 65536; «s_flag» = eqb (getD w ask-flag-at 0) 1; «header_len» = getD w ask-header-at 0; length = getD w ask-length-at 0 }
 
 unfoldable pub questionOf : List ℕ → Question
 questionOf w =
-    choose (eqb (getD w 23 0) 1) (question.Mask (askOf w))
-    (choose (eqb (getD w 23 0) 2) (question.Opening (askOf w) (getD w 28 0)) question.Nothing)
+    choose (eqb (getD w question-at 0) 1) (question.Mask (askOf w))
+    (choose (eqb (getD w question-at 0) 2) (question.Opening (askOf w) (getD w ask-number-at 0)) question.Nothing)
 
 abbrev pub datagramOf : List ℕ → Datagram
-datagramOf w = record { size = getD w 20 0; at = getD w 21 0; readings = getD w 22 0; question = questionOf w }
+datagramOf w = record { size = getD w size-at 0; at = getD w cursor-at 0; readings = getD w readings-at 0; question = questionOf w }
 
 -- ---- flags are 0 or 1, and a question is of a kind that there is; else a call answers 12
 
 unfoldable pub isFlat : List ℕ → Bool
-isFlat w = both (leb (getD w 17 0) 1) (both (leb (getD w 18 0) 1) (both (leb (getD w 23 0) 2) (leb (getD w 25 0) 1)))
+isFlat w = both (leb (getD w encrypted-at 0) 1) (both (leb (getD w released-at 0) 1) (both (leb (getD w question-at 0) 2) (leb (getD w ask-flag-at 0) 1)))
 
 -- ---- words written
 
--- words 15 to 28
+-- the words that are no entry's
 abbrev pub restOf : List ℕ → List ℕ
 restOf w =
-    getD w 15 0 ∷ getD w 16 0 ∷ getD w 17 0 ∷ getD w 18 0 ∷ getD w 19 0 ∷ getD w 20 0 ∷ getD w 21 0 ∷ getD w 22 0 ∷ getD w 23 0 ∷ getD w 24 0 ∷ getD w 25 0 ∷ getD w 26 0 ∷ getD w 27 0 ∷ getD w 28 0 ∷ []
-
-abbrev pub bitOf : Bool → ℕ
-bitOf true = 1
-bitOf false = 0
+    getD w count-at 0 ∷ getD w highest-at 0 ∷ getD w encrypted-at 0 ∷ getD w released-at 0 ∷ getD w least-at 0 ∷ getD w size-at 0 ∷ getD w cursor-at 0 ∷ getD w readings-at 0 ∷ getD w question-at 0 ∷ getD w ask-epoch-at 0 ∷ getD w ask-flag-at 0 ∷ getD w ask-header-at 0 ∷ getD w ask-length-at 0 ∷ getD w ask-number-at 0 ∷ []
 
 abbrev pub putAsk : ℕ → Ask → ℕ → List ℕ → List ℕ
 putAsk kind a n w =
-    set (set (set (set (set (set w 23 kind) 24 (a .epoch)) 25 (bitOf (a .«s_flag»))) 26 (a .«header_len»)) 27 (a .length)) 28 n
+    set (set (set (set (set (set w question-at kind) ask-epoch-at (a .epoch)) ask-flag-at (bitOf (a .«s_flag»))) ask-header-at (a .«header_len»)) ask-length-at (a .length)) ask-number-at n
 
 -- without a question only its kind is written
 abbrev pub putQuestion : Question → List ℕ → List ℕ
-putQuestion question.Nothing w = set w 23 0
+putQuestion question.Nothing w = set w question-at 0
 putQuestion (question.Mask a) w = putAsk 1 a 0 w
 putQuestion (question.Opening a n) w = putAsk 2 a n w
 
 abbrev pub putDatagram : Datagram → List ℕ → List ℕ
-putDatagram b w = putQuestion (b .question) (set (set (set w 20 (b .size)) 21 (b .at)) 22 (b .readings))
+putDatagram b w = putQuestion (b .question) (set (set (set w size-at (b .size)) cursor-at (b .at)) readings-at (b .readings))
 
 abbrev pub putWindow : ℕ → ReplayWindow → List ℕ → List ℕ
-putWindow i v w = set (set w (5 + i) (v .«max_seq»)) (10 + i) (v .window)
+putWindow i v w = set (set w (number-at i) (v .«max_seq»)) (bits-at i) (v .window)
 
 abbrev pub putIv : ℕ → List ℕ → List ℕ → List ℕ
-putIv i v w = set (set (set (set (set (set (set (set (set (set (set (set w (29 + 12 * i) (getD v 0 0)) (29 + 12 * i + 1) (getD v 1 0)) (29 + 12 * i + 2) (getD v 2 0)) (29 + 12 * i + 3) (getD v 3 0)) (29 + 12 * i + 4) (getD v 4 0)) (29 + 12 * i + 5) (getD v 5 0)) (29 + 12 * i + 6) (getD v 6 0)) (29 + 12 * i + 7) (getD v 7 0)) (29 + 12 * i + 8) (getD v 8 0)) (29 + 12 * i + 9) (getD v 9 0)) (29 + 12 * i + 10) (getD v 10 0)) (29 + 12 * i + 11) (getD v 11 0)
+putIv i v w = set (set w (iv-front-at i) (beAt 4 v 0)) (iv-back-at i) (beAt 8 v 4)
 
 abbrev pub putEntry : ℕ → RecvEpochEntry → List ℕ → List ℕ
 putEntry i e w = putIv i (e .iv) (putWindow i (e .replay) (set w i (e .epoch)))

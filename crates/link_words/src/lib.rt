@@ -1,12 +1,13 @@
-// The receive side's state in 89 words that the host keeps (specs/Words.antt says which is which), read and written in place: no
+// The receive side's state in words that the host keeps (specs/Words.antt says what they stand for), read and written in place: no
 // call copies the table of epochs.
 ghost use mathlib.Core.Path.{_≡_};
-ghost use Prim.Native.Nat.{_+_, _≤_, _<_, _%_};
+ghost use Prim.Native.Nat.{_≤_, _<_};
 ghost use lib.Dec.{leb};
-ghost use lib.ListN.{length, getD, set, replicate};
+ghost use lib.ListN.{length, getD};
 ghost use Rattle.recv_keys.specs.Keys.{noEntry, lastFit, find, two, resolve, isKeyed, apps, windowsSound, keysSound, installed, leftAt, left};
 ghost use Rattle.datagram.specs.Datagram.{askKeyed, openingSound, questionSound, isSound};
 ghost use Rattle.link_words.specs.Words.{
+  words,
   ivAt,
   entriesOf,
   keysOf,
@@ -18,13 +19,53 @@ ghost use Rattle.link_words.specs.Words.{
   putIv,
 };
 ghost use Rattle.link_words.specs.Laws.{Put};
-ghost use Rattle.link_words.specs.Entries.{LowIv, Written, Beside};
+ghost use Rattle.link_words.specs.Entries.{LowIv, Written, Beside, freshWords};
 use datagram::Ask;
 use datagram::Datagram;
 use datagram::Question;
 use recv_keys::Found;
 use recv_keys::RecvEpochEntry;
 use window::ReplayWindow;
+
+// ---- which word is which
+
+pub const WORDS: usize = 39;
+// The epochs are the first five words; then five each of the highest numbers and of the marks of their windows.
+const HIGHEST_NUMBER: usize = 5;
+
+const MARKS: usize = 10;
+// Epochs keyed, the highest ever keyed, peer encryption, application data released, the least length of a protected part.
+pub const COUNT: usize = 15;
+
+pub const HIGHEST: usize = 16;
+
+pub const ENCRYPTED: usize = 17;
+
+pub const RELEASED: usize = 18;
+
+pub const LEAST: usize = 19;
+// The begun datagram, and the question that waits.
+const SIZE: usize = 20;
+
+const CURSOR: usize = 21;
+
+const READINGS: usize = 22;
+
+const QUESTION: usize = 23;
+
+const ASK_EPOCH: usize = 24;
+
+const ASK_FLAG: usize = 25;
+
+const ASK_HEADER: usize = 26;
+
+const ASK_LENGTH: usize = 27;
+
+const ASK_NUMBER: usize = 28;
+// Five words with the first four bytes of the IVs, five with the other eight.
+const IV_FRONT: usize = 29;
+
+const IV_BACK: usize = 34;
 
 fn count_of(w: &[u64]) -> usize
     ensures { λ r. ⌜ r ≡ length (now (w .entry)) ⌝ }
@@ -33,86 +74,57 @@ fn count_of(w: &[u64]) -> usize
 }
 
 // How many words there are.
-pub fn sized(w: &[u64; 89]) -> usize
-    ensures { λ _. ⌜ length (now (w .entry)) ≡ 89 ⌝ }
+pub fn sized(w: &[u64; WORDS]) -> usize
+    ensures { λ _. ⌜ length (now (w .entry)) ≡ words ⌝ }
 {
     count_of(w)
 }
 
-pub fn low(x: u64) -> u16
-    ensures { λ r. ⌜ r ≡ x % 65536 ⌝ }
-{
-    (x % 65536) as u16
-}
-
 // ---- the keys
 
-pub fn epoch_at(w: &[u64; 89], i: usize) -> u16
+pub fn epoch_at(w: &[u64; WORDS], i: usize) -> u16
     requires { ⌜ i < 5 ⌝ }
     ensures { λ r. ⌜ r ≡ getD (entriesOf (now (w .entry))) i noEntry .epoch ⌝ }
 {
-    low(w[i])
+    words::low(w[i])
 }
 
-pub fn iv_at(w: &[u64; 89], i: usize) -> [u8; 12]
+pub fn iv_at(w: &[u64; WORDS], i: usize) -> [u8; 12]
     requires { ⌜ i < 5 ⌝ }
     ensures { λ r. ⌜ r ≡ ivAt (now (w .entry)) i ⌝ }
 {
-    let j0 = 29 + 12 * i;
-    let j1 = j0 + 1;
-    let j2 = j0 + 2;
-    let j3 = j0 + 3;
-    let j4 = j0 + 4;
-    let j5 = j0 + 5;
-    let j6 = j0 + 6;
-    let j7 = j0 + 7;
-    let j8 = j0 + 8;
-    let j9 = j0 + 9;
-    let j10 = j0 + 10;
-    let j11 = j0 + 11;
-    [
-        (w[j0] % 256) as u8,
-        (w[j1] % 256) as u8,
-        (w[j2] % 256) as u8,
-        (w[j3] % 256) as u8,
-        (w[j4] % 256) as u8,
-        (w[j5] % 256) as u8,
-        (w[j6] % 256) as u8,
-        (w[j7] % 256) as u8,
-        (w[j8] % 256) as u8,
-        (w[j9] % 256) as u8,
-        (w[j10] % 256) as u8,
-        (w[j11] % 256) as u8,
-    ]
+    let f = IV_FRONT + i;
+    let b = IV_BACK + i;
+    words::iv_of(w[f], w[b])
 }
 
-pub fn window_at(w: &[u64; 89], i: usize) -> ReplayWindow
+pub fn window_at(w: &[u64; WORDS], i: usize) -> ReplayWindow
     requires { ⌜ i < 5 ⌝ }
     ensures { λ r. ⌜ r ≡ getD (entriesOf (now (w .entry))) i noEntry .replay ⌝ }
 {
-    let m = 5 + i;
-    let v = 10 + i;
+    let m = HIGHEST_NUMBER + i;
+    let v = MARKS + i;
     ReplayWindow {
         max_seq: w[m],
         window: w[v],
     }
 }
 
-pub fn entry_at(w: &[u64; 89], i: usize) -> RecvEpochEntry
+pub fn entry_at(w: &[u64; WORDS], i: usize) -> RecvEpochEntry
     requires { ⌜ i < 5 ⌝ }
     ensures { λ r. ⌜ r ≡ getD (entriesOf (now (w .entry))) i noEntry ⌝ }
 {
     let iv = iv_at(w, i);
     let v = window_at(w, i);
     RecvEpochEntry {
-        epoch: low(w[i]),
+        epoch: words::low(w[i]),
         iv: iv,
         replay: v,
     }
 }
 
 // The last application epoch with these bits.
-fn last_fit(w: &[u64; 89], count: usize, bits: u8) -> Found
+fn last_fit(w: &[u64; WORDS], count: usize, bits: u8) -> Found
     requires { ⌜ count ≤ 5 ⌝ }
     ensures { λ r. ⌜ r ≡ lastFit (entriesOf (now (w .entry))) bits count ⌝ }
 {
@@ -128,7 +140,7 @@ fn last_fit(w: &[u64; 89], count: usize, bits: u8) -> Found
 }
 
 // Where an epoch is.
-pub fn find_epoch(w: &[u64; 89], count: usize, epoch: u16) -> Found
+pub fn find_epoch(w: &[u64; WORDS], count: usize, epoch: u16) -> Found
     requires { ⌜ count ≤ 5 ⌝ }
     ensures { λ r. ⌜ r ≡ find (entriesOf (now (w .entry))) epoch count ⌝ }
 {
@@ -145,7 +157,7 @@ pub fn find_epoch(w: &[u64; 89], count: usize, epoch: u16) -> Found
 }
 
 // Epoch 2, for bits 2.
-fn epoch_two(w: &[u64; 89], count: usize, bits: u8) -> Found
+fn epoch_two(w: &[u64; WORDS], count: usize, bits: u8) -> Found
     requires { ⌜ (count ≤ 5) × (count ≡ keysOf (now w) .count) ⌝ }
     ensures { λ r. ⌜ r ≡ two (keysOf (now (w .entry))) bits ⌝ }
 {
@@ -156,25 +168,25 @@ fn epoch_two(w: &[u64; 89], count: usize, bits: u8) -> Found
 }
 
 // The keyed epoch that epoch bits mean: epoch 2 first until application data is released, then last.
-pub fn resolve_epoch(w: &[u64; 89], bits: u8) -> Found
+pub fn resolve_epoch(w: &[u64; WORDS], bits: u8) -> Found
     requires { ⌜ keysOf (now w) .count ≤ 5 ⌝ }
     ensures { λ r. ⌜ r ≡ resolve (keysOf (now (w .entry))) bits ⌝ }
 {
-    let count = w[15] as usize;
+    let count = w[COUNT] as usize;
     let t = epoch_two(w, count, bits);
     let a = last_fit(w, count, bits);
-    if w[18] == 1 {
+    if w[RELEASED] == 1 {
         return recv_keys::or_else(a, t);
     }
     recv_keys::or_else(t, a)
 }
 
 // Whether an epoch is keyed.
-pub fn is_keyed(w: &[u64; 89], epoch: u16) -> bool
+pub fn is_keyed(w: &[u64; WORDS], epoch: u16) -> bool
     requires { ⌜ keysOf (now w) .count ≤ 5 ⌝ }
     ensures { λ r. ⌜ r ≡ isKeyed (keysOf (now (w .entry))) epoch ⌝ }
 {
-    let f = find_epoch(w, w[15] as usize, epoch);
+    let f = find_epoch(w, w[COUNT] as usize, epoch);
     match f {
         Found::At(_) => true,
         Found::Nothing => false,
@@ -184,7 +196,7 @@ pub fn is_keyed(w: &[u64; 89], epoch: u16) -> bool
 // ---- ranges
 
 // How many application epochs are keyed.
-pub fn count_apps(w: &[u64; 89], count: usize) -> usize
+pub fn count_apps(w: &[u64; WORDS], count: usize) -> usize
     requires { ⌜ count ≤ 5 ⌝ }
     ensures { λ r. ⌜ r ≡ apps (entriesOf (now (w .entry))) count ⌝ }
 {
@@ -198,7 +210,7 @@ pub fn count_apps(w: &[u64; 89], count: usize) -> usize
 }
 
 // No window is above the last number of 48 bits.
-fn windows_sound(w: &[u64; 89], count: usize) -> bool
+fn windows_sound(w: &[u64; WORDS], count: usize) -> bool
     requires { ⌜ count ≤ 5 ⌝ }
     ensures { λ r. ⌜ r ≡ windowsSound (entriesOf (now (w .entry))) count ⌝ }
 {
@@ -215,7 +227,7 @@ fn windows_sound(w: &[u64; 89], count: usize) -> bool
 }
 
 // At most four application epochs are keyed; with at most four epochs there is nothing to count.
-fn apps_fit(w: &[u64; 89], count: usize) -> bool
+fn apps_fit(w: &[u64; WORDS], count: usize) -> bool
     requires { ⌜ count ≤ 5 ⌝ }
     ensures { λ r. ⌜ r ≡ leb (apps (entriesOf (now (w .entry))) count) 4 ⌝ }
 {
@@ -226,14 +238,14 @@ fn apps_fit(w: &[u64; 89], count: usize) -> bool
 }
 
 // The fields that a call indexes or adds with are in range.
-fn keys_sound(w: &[u64; 89]) -> bool
+fn keys_sound(w: &[u64; WORDS]) -> bool
     ensures { λ r. ⌜ r ≡ keysSound (keysOf (now (w .entry))) ⌝ }
 {
-    let count = w[15] as usize;
+    let count = w[COUNT] as usize;
     if 5 < count {
         return false;
     }
-    if 17 < w[19] {
+    if 17 < w[LEAST] {
         return false;
     }
     if apps_fit(w, count) {
@@ -242,7 +254,7 @@ fn keys_sound(w: &[u64; 89]) -> bool
     false
 }
 
-fn ask_keyed(w: &[u64; 89], a: Ask, room: usize) -> bool
+fn ask_keyed(w: &[u64; WORDS], a: Ask, room: usize) -> bool
     requires { ⌜ keysOf (now w) .count ≤ 5 ⌝ }
     ensures { λ r. ⌜ r ≡ askKeyed (keysOf (now (w .entry))) a room ⌝ }
 {
@@ -252,7 +264,7 @@ fn ask_keyed(w: &[u64; 89], a: Ask, room: usize) -> bool
     false
 }
 
-fn opening_sound(w: &[u64; 89], a: Ask, number: u64, room: usize) -> bool
+fn opening_sound(w: &[u64; WORDS], a: Ask, number: u64, room: usize) -> bool
     requires { ⌜ keysOf (now w) .count ≤ 5 ⌝ }
     ensures { λ r. ⌜ r ≡ openingSound (keysOf (now (w .entry))) a number room ⌝ }
 {
@@ -262,7 +274,7 @@ fn opening_sound(w: &[u64; 89], a: Ask, number: u64, room: usize) -> bool
     ask_keyed(w, a, room)
 }
 
-fn question_sound(w: &[u64; 89], q: Question, room: usize) -> bool
+fn question_sound(w: &[u64; WORDS], q: Question, room: usize) -> bool
     requires { ⌜ keysOf (now w) .count ≤ 5 ⌝ }
     ensures { λ r. ⌜ r ≡ questionSound (keysOf (now (w .entry))) q room ⌝ }
 {
@@ -274,7 +286,7 @@ fn question_sound(w: &[u64; 89], q: Question, room: usize) -> bool
 }
 
 // The same of keys and a begun datagram.
-fn in_range(w: &[u64; 89], b: Datagram) -> bool
+fn in_range(w: &[u64; WORDS], b: Datagram) -> bool
     ensures { λ r. ⌜ r ≡ isSound (keysOf (now (w .entry))) b ⌝ }
 {
     let size = b.size;
@@ -297,39 +309,39 @@ fn in_range(w: &[u64; 89], b: Datagram) -> bool
 
 // ---- the begun datagram
 
-fn question_of(w: &[u64; 89]) -> Question
+fn question_of(w: &[u64; WORDS]) -> Question
     ensures { λ r. ⌜ r ≡ questionOf (now (w .entry)) ⌝ }
 {
-    let kind = w[23];
+    let kind = w[QUESTION];
     let a = Ask {
-        epoch: low(w[24]),
-        s_flag: w[25] == 1,
-        header_len: w[26] as usize,
-        length: w[27] as usize,
+        epoch: words::low(w[ASK_EPOCH]),
+        s_flag: w[ASK_FLAG] == 1,
+        header_len: w[ASK_HEADER] as usize,
+        length: w[ASK_LENGTH] as usize,
     };
     if kind == 1 {
         return Question::Mask(a);
     }
     if kind == 2 {
-        return Question::Opening(a, w[28]);
+        return Question::Opening(a, w[ASK_NUMBER]);
     }
     Question::Nothing
 }
 
-pub fn datagram_of(w: &[u64; 89]) -> Datagram
+pub fn datagram_of(w: &[u64; WORDS]) -> Datagram
     ensures { λ r. ⌜ r ≡ datagramOf (now (w .entry)) ⌝ }
 {
     let q = question_of(w);
     Datagram {
-        size: w[20] as usize,
-        at: w[21] as usize,
-        readings: w[22] as usize,
+        size: w[SIZE] as usize,
+        at: w[CURSOR] as usize,
+        readings: w[READINGS] as usize,
         question: q,
     }
 }
 
 // The fields that a call indexes or adds with are in range, as the words have them.
-fn words_sound(w: &[u64; 89]) -> bool
+fn words_sound(w: &[u64; WORDS]) -> bool
     ensures { λ r. ⌜ r ≡ isSound (keysOf (now (w .entry))) (datagramOf (now (w .entry))) ⌝ }
 {
     let b = datagram_of(w);
@@ -337,7 +349,7 @@ fn words_sound(w: &[u64; 89]) -> bool
 }
 
 // The same of the datagram read off the words; else a call answers 12. The words are tested, so that no caller lends a copy.
-pub fn is_sound(w: &[u64; 89], b: Datagram) -> bool
+pub fn is_sound(w: &[u64; WORDS], b: Datagram) -> bool
     requires { ⌜ b ≡ datagramOf (now w) ⌝ }
     ensures { λ r. ⌜ r ≡ isSound (keysOf (now (w .entry))) b ⌝ }
 {
@@ -345,50 +357,44 @@ pub fn is_sound(w: &[u64; 89], b: Datagram) -> bool
 }
 
 // Whether the words stand for a state: flags are 0 or 1, the question of a kind that there is.
-pub fn is_flat(w: &[u64; 89]) -> bool
+pub fn is_flat(w: &[u64; WORDS]) -> bool
     ensures { λ r. ⌜ r ≡ isFlat (now (w .entry)) ⌝ }
 {
-    if 1 < w[17] {
+    if 1 < w[ENCRYPTED] {
         return false;
     }
-    if 1 < w[18] {
+    if 1 < w[RELEASED] {
         return false;
     }
-    if 2 < w[23] {
+    if 2 < w[QUESTION] {
         return false;
     }
-    w[25] <= 1
+    w[ASK_FLAG] <= 1
 }
 
-fn wide(x: u16) -> u64
-    ensures { λ r. ⌜ (r ≡ x) × (r ≤ 65535) ⌝ }
-{
-    x as u64
-}
-
-fn put_ask(w: &mut [u64; 89], kind: u64, a: Ask, number: u64)
+fn put_ask(w: &mut [u64; WORDS], kind: u64, a: Ask, number: u64)
     ensures { λ _. ⌜ (now (w .exit) ≡ putAsk kind a number (now (w .entry))) × (a .epoch ≤ 65535) ⌝ }
 {
-    let epoch = wide(a.epoch);
-    w[23] = kind;
-    w[24] = epoch;
-    w[25] = a.s_flag as u64;
-    w[26] = a.header_len as u64;
-    w[27] = a.length as u64;
-    w[28] = number;
+    let epoch = words::wide(a.epoch);
+    w[QUESTION] = kind;
+    w[ASK_EPOCH] = epoch;
+    w[ASK_FLAG] = a.s_flag as u64;
+    w[ASK_HEADER] = a.header_len as u64;
+    w[ASK_LENGTH] = a.length as u64;
+    w[ASK_NUMBER] = number;
 }
 
 // The begun datagram written.
-pub fn put_datagram(w: &mut [u64; 89], b: Datagram)
+pub fn put_datagram(w: &mut [u64; WORDS], b: Datagram)
     ensures { λ _. ⌜ Put b (now (w .entry)) (now (w .exit)) ⌝ }
 {
     let q = b.question;
-    w[20] = b.size as u64;
-    w[21] = b.at as u64;
-    w[22] = b.readings as u64;
+    w[SIZE] = b.size as u64;
+    w[CURSOR] = b.at as u64;
+    w[READINGS] = b.readings as u64;
     match q {
         Question::Nothing => {
-            w[23] = 0;
+            w[QUESTION] = 0;
         }
         Question::Mask(a) => {
             put_ask(w, 1, a, 0);
@@ -400,77 +406,52 @@ pub fn put_datagram(w: &mut [u64; 89], b: Datagram)
 }
 
 // The window of the entry at i written.
-pub fn put_window(w: &mut [u64; 89], i: usize, v: ReplayWindow)
+pub fn put_window(w: &mut [u64; WORDS], i: usize, v: ReplayWindow)
     requires { ⌜ i < 5 ⌝ }
     ensures { λ _. ⌜ now (w .exit) ≡ putWindow i v (now (w .entry)) ⌝ }
 {
-    let m = 5 + i;
-    let n = 10 + i;
+    let m = HIGHEST_NUMBER + i;
+    let n = MARKS + i;
     w[m] = v.max_seq;
     w[n] = v.window;
 }
 
 // ---- entries written
 
-fn byte(x: u8) -> u64
-    ensures { λ r. ⌜ (r ≡ x) × (r ≤ 255) ⌝ }
-{
-    x as u64
-}
-
-fn put_iv(w: &mut [u64; 89], i: usize, iv: [u8; 12])
+fn put_iv(w: &mut [u64; WORDS], i: usize, iv: [u8; 12])
     requires { ⌜ i < 5 ⌝ }
     ensures { λ _. ⌜ (now (w .exit) ≡ putIv i iv (now (w .entry))) × LowIv iv ⌝ }
 {
-    let j0 = 29 + 12 * i;
-    let j1 = j0 + 1;
-    let j2 = j0 + 2;
-    let j3 = j0 + 3;
-    let j4 = j0 + 4;
-    let j5 = j0 + 5;
-    let j6 = j0 + 6;
-    let j7 = j0 + 7;
-    let j8 = j0 + 8;
-    let j9 = j0 + 9;
-    let j10 = j0 + 10;
-    let j11 = j0 + 11;
-    w[j0] = byte(iv[0]);
-    w[j1] = byte(iv[1]);
-    w[j2] = byte(iv[2]);
-    w[j3] = byte(iv[3]);
-    w[j4] = byte(iv[4]);
-    w[j5] = byte(iv[5]);
-    w[j6] = byte(iv[6]);
-    w[j7] = byte(iv[7]);
-    w[j8] = byte(iv[8]);
-    w[j9] = byte(iv[9]);
-    w[j10] = byte(iv[10]);
-    w[j11] = byte(iv[11]);
+    let f = IV_FRONT + i;
+    let b = IV_BACK + i;
+    words::bytes(&iv);
+    w[f] = words::be32(&iv, 0);
+    w[b] = words::be64(&iv, 4);
 }
 
 // The entry at i written.
-pub fn put_entry(w: &mut [u64; 89], i: usize, e: RecvEpochEntry)
+pub fn put_entry(w: &mut [u64; WORDS], i: usize, e: RecvEpochEntry)
     requires { ⌜ i < 5 ⌝ }
     ensures { λ _. ⌜ Written i e (now (w .entry)) (now (w .exit)) ⌝ }
 {
     let iv = e.iv;
     let v = e.replay;
     sized(w);
-    w[i] = wide(e.epoch);
+    w[i] = words::wide(e.epoch);
     put_window(w, i, v);
     put_iv(w, i, iv);
 }
 
 // No epoch keyed, no datagram begun.
-pub fn put_fresh(w: &mut [u64; 89], min_protected: usize)
-    ensures { λ _. ⌜ now (w .exit) ≡ set (replicate 89 0) 19 «min_protected» ⌝ }
+pub fn put_fresh(w: &mut [u64; WORDS], min_protected: usize)
+    ensures { λ _. ⌜ now (w .exit) ≡ freshWords «min_protected» ⌝ }
 {
-    *w = [0u64; 89];
-    w[19] = min_protected as u64;
+    *w = [0u64; WORDS];
+    w[LEAST] = min_protected as u64;
 }
 
 // An epoch keyed, behind the others.
-pub fn install(w: &mut [u64; 89], count: usize, epoch: u16, iv: [u8; 12])
+pub fn install(w: &mut [u64; WORDS], count: usize, epoch: u16, iv: [u8; 12])
     requires { ⌜ (count < 5) × (keysOf (now w) .count ≡ count) ⌝ }
     ensures { λ _. ⌜ (keysOf (now (w .exit)) ≡ installed (keysOf (now (w .entry))) epoch iv) × Beside (now (w .entry)) (now (w .exit)) ⌝ }
 {
@@ -484,12 +465,12 @@ pub fn install(w: &mut [u64; 89], count: usize, epoch: u16, iv: [u8; 12])
             replay: v,
         },
     );
-    w[15] = (count + 1) as u64;
-    w[16] = wide(epoch);
+    w[COUNT] = (count + 1) as u64;
+    w[HIGHEST] = words::wide(epoch);
 }
 
 // What comes to stand at j when the entry at i goes.
-fn shift(w: &mut [u64; 89], i: usize, j: usize)
+fn shift(w: &mut [u64; WORDS], i: usize, j: usize)
     requires { ⌜ j < 4 ⌝ }
     ensures { λ _. ⌜ Written j (leftAt (entriesOf (now (w .entry))) i j) (now (w .entry)) (now (w .exit)) ⌝ }
 {
@@ -502,7 +483,7 @@ fn shift(w: &mut [u64; 89], i: usize, j: usize)
 }
 
 // The entry at i removed; later ones keep their order.
-pub fn uninstall(w: &mut [u64; 89], i: usize)
+pub fn uninstall(w: &mut [u64; WORDS], i: usize)
     requires { ⌜ 0 < keysOf (now w) .count ⌝ }
     ensures { λ _. ⌜ (keysOf (now (w .exit)) ≡ left (keysOf (now (w .entry))) i) × Beside (now (w .entry)) (now (w .exit)) ⌝ }
 {
@@ -510,5 +491,5 @@ pub fn uninstall(w: &mut [u64; 89], i: usize)
     shift(w, i, 1);
     shift(w, i, 2);
     shift(w, i, 3);
-    w[15] = w[15] - 1;
+    w[COUNT] = w[COUNT] - 1;
 }

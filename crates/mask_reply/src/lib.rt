@@ -1,20 +1,13 @@
 // The reply to a mask question, after `Record::parse_buffer` of incoming.rs: the number unmasked, rebuilt and tested.
-ghost use mathlib.Core.Bool.{true};
 ghost use mathlib.Core.Path.{_≡_};
 ghost use Prim.Native.Nat.{_+_, _≤_, _<_};
 ghost use lib.ListN.{length};
-ghost use Rattle.datagram.specs.Datagram.{isSound};
-ghost use Rattle.recv_keys.specs.Keys.{find};
-ghost use Rattle.mask_reply.specs.Mask.{unmasked, rebuilt, judged, maskedAt, maskedBy, maskStep};
+ghost use Rattle.mask_reply.specs.Mask.{unmasked, rebuilt, judged, maskedAt};
 use datagram::Ask;
 use datagram::Datagram;
-use datagram::Question;
-use datagram::Reading;
 use datagram::Reason;
 use datagram::Step;
-use recv_keys::Found;
 use recv_keys::RecvEpochEntry;
-use recv_keys::RecvKeys;
 use window::ReplayWindow;
 
 // The number bytes of the record at a place, unmasked in place.
@@ -67,35 +60,4 @@ pub fn mask_at(e: RecvEpochEntry, b: Datagram, a: Ask, mask: [u8; 2], d: &mut [u
     unmask(d, at, a.s_flag, mask);
     let p = record::partial(base::behind(d, at), a.s_flag);
     judge(e, b, a, rebuild(w, p, a.s_flag))
-}
-
-fn mask_by(k: RecvKeys, b: Datagram, a: Ask, mask: [u8; 2], d: &mut [u8]) -> Step
-    requires { ⌜ (isSound k b ≡ true) × (b .question ≡ Question.Mask a) × (length (now d) ≡ b .size) ⌝ }
-    ensures { λ r. ⌜ (r ≡ maskedBy (find (k .entries) (a .epoch) (k .count)) k b a mask (now (d .entry)) .0) × (now (d .exit) ≡ maskedBy (find (k .entries) (a .epoch) (k .count)) k b a mask (now (d .entry)) .1) ⌝ }
-{
-    let l = k.entries;
-    let f = recv_keys::find_epoch(l, k.count, a.epoch);
-    match f {
-        Found::Nothing => datagram::tell(b, Reading::Setting),
-        Found::At(i) => mask_at(l[i], b, a, mask, d),
-    }
-}
-
-// The reply to a mask question.
-pub fn mask_step(k: RecvKeys, b: Datagram, mask: [u8; 2], d: &mut [u8]) -> Step
-    ensures { λ r. ⌜ (r ≡ maskStep k b mask (now (d .entry)) .0) × (now (d .exit) ≡ maskStep k b mask (now (d .entry)) .1) ⌝ }
-{
-    if datagram::is_sound(k, b) {
-        let size = b.size;
-        if d.len() == size {
-            let q = b.question;
-            return match q {
-                Question::Nothing => datagram::tell(b, Reading::Reply),
-                Question::Mask(a) => mask_by(k, b, a, mask, d),
-                Question::Opening(_, _) => datagram::tell(b, Reading::Reply),
-            };
-        }
-        return datagram::tell(b, Reading::Reply);
-    }
-    datagram::tell(b, Reading::Setting)
 }

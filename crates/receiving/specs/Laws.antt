@@ -18,6 +18,7 @@ use Rattle.datagram.specs.declared.Question.the-variants as question
 use Rattle.datagram.specs.declared.Question.{Question}
 use Rattle.mask_reply.specs.Keeps.{mask-keeps, mask-rests}
 use Rattle.opening_reply.specs.Keeps.{opened-effect, opened-keeps, Marks}
+use Rattle.opening_reply.specs.Leads.{cancel-drops}
 use Rattle.opening_reply.specs.Opening.{cancelledAsk, cancelled, openedStep}
 use Rattle.opening_reply.specs.declared.Cancelled.{Cancelled}
 use Rattle.opening_reply.specs.declared.Opening.the-variants as reply
@@ -371,13 +372,10 @@ quiet-windows (opening reply.No d) s e =
 pub remove-cancels : (s : Receiving) (epoch i : ℕ) (a : Ask) → sound s ≡ true → find (s .keys .entries) epoch (s .keys .count) ≡ found.At i
     → a .epoch ≡ epoch → (s .datagram .question ≡ question.Mask a) ⊎ ((n : ℕ) × (s .datagram .question ≡ question.Opening a n))
     → removeOf s epoch ≡ made answers.Dropped (left (s .keys) i) (moved (s .datagram) (endAsked (s .datagram) a) (s .datagram .readings))
-unfolding cancelled cancelledAsk leaving
+unfolding leaving
 remove-cancels s epoch i a t f e q =
-    let b = s .datagram in
     remove-at s epoch i t f
-    ∙ ap (λ (c : Cancelled). leaving c (left (s .keys) i))
-    (⊎-elim (λ w. ap (λ (x : Question). cancelled x b epoch) w) (λ w. ap (λ (x : Question). cancelled x b epoch) (w .1)) q
-    ∙ if-true _ _ (eq-eqb _ _ e))
+    ∙ ap (λ (c : Cancelled). leaving c (left (s .keys) i)) (cancel-drops (s .datagram) epoch a (s .datagram .question) e q)
     ∙ if-true _ _ refl
 
 -- beginning a datagram leaves no question

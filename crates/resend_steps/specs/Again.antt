@@ -9,7 +9,7 @@ use Rattle.outgoing.specs.declared.SendAnswer.{SendAnswer}
 use Rattle.outgoing.specs.State.{isDone}
 use Rattle.outgoing.specs.Send.{sendAnswer, sendState, sendMemory, laidState, laidMemory}
 use Rattle.flight.specs.declared.Entry.{Entry}
-use Rattle.link_words.specs.Laws.{firstOf}
+use Rattle.words.specs.Fields.{firstOf}
 use Rattle.send_words.specs.Words.{lengthsOf, ivFrom, stateOf, isFlat}
 use Rattle.send_words.specs.Laws.{by-words}
 use Rattle.send_words.specs.Partly.{Partly}

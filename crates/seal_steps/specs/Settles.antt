@@ -10,7 +10,7 @@ use Rattle.send_keys.specs.declared.SendKeys.{SendKeys}
 use Rattle.send_keys.specs.Keys.{withSealed, sealedUpTo}
 use Rattle.outgoing.specs.declared.Sending.{Sending}
 use Rattle.outgoing.specs.declared.Waiting.{Waiting}
-use Rattle.link_words.specs.Laws.{firstOf}
+use Rattle.words.specs.Fields.{firstOf}
 use Rattle.send_words.specs.Words.{lengthsOf, ivFrom, stateOf, isFlat, putWaiting}
 use Rattle.send_words.specs.Laws.{by-words, low-bit}
 use Rattle.send_words.specs.Partly.{Partly, low-waiting, waiting-back}

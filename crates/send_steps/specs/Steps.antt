@@ -19,7 +19,7 @@ use Rattle.outgoing.specs.declared.Sending.{Sending}
 use Rattle.outgoing.specs.declared.Waiting.{Waiting}
 use Rattle.outgoing.specs.State.{isDone, withKeys}
 use Rattle.outgoing.specs.Send.{spotOf, sendAnswer, waitsBehind, laidState, Clear, clear-short, clear-fits}
-use Rattle.link_words.specs.Laws.{firstOf}
+use Rattle.words.specs.Fields.{firstOf}
 use Rattle.send_words.specs.Words.{lengthsOf, ivFrom, stateOf, isFlat, putWaiting}
 use Rattle.send_words.specs.Laws.{by-words, word-low, low-bit}
 use Rattle.send_words.specs.Partly.{Partly, withWaiting, low-waiting, waiting-back}

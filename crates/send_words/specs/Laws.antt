@@ -14,7 +14,7 @@ use Rattle.send_keys.specs.Keys.{noEpoch, noKeys}
 use Rattle.outgoing.specs.declared.Waiting.{Waiting}
 use Rattle.outgoing.specs.declared.Sending.{Sending}
 use Rattle.outgoing.specs.State.{noWaiting, freshSending}
-use Rattle.link_words.specs.Laws.{firstOf, whole}
+use Rattle.words.specs.Fields.{firstOf, whole}
 use Rattle.send_words.specs.Words.{lengthsOf, queueOf, waitingOf, ivFrom, epochFrom, stateOf, isFlat, bitOf, LowLengths, LowIv, putLengths, putQueue, putWaiting, putIv, putEpoch}
 
 pub cast-bit : (b : Bool) → boolByte b ≡ bitOf b

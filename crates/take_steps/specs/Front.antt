@@ -4,7 +4,7 @@ use mathlib.Core.Path.{_≡_, refl}
 use Prim.Native.Nat.{ℕ, _*_}
 use lib.ListN.{length, set}
 use Rattle.base.specs.Choose.{choose}
-use Rattle.link_words.specs.Laws.{firstOf}
+use Rattle.words.specs.Fields.{firstOf}
 use Rattle.outgoing.specs.declared.Sending.{Sending}
 use Rattle.send_words.specs.Words.{lengthsOf, ivFrom, stateOf, isFlat}
 use Rattle.send_words.specs.Laws.{by-words}

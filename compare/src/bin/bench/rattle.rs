@@ -8,7 +8,7 @@ use crate::link::*;
 
 /// The receive side: epochs 2 and 3 keyed, the peer encrypts, application data released.
 fn receiving() -> LinkReceiving {
-    let mut s = [0; 89];
+    let mut s = [0; 39];
     link_receiving(&mut s, 16);
     link_key_receive(&mut s, 2, &IV);
     link_key_receive(&mut s, 3, &IV);

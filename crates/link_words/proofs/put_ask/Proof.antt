@@ -1,7 +1,7 @@
 -- `link_words::put_ask` meets its contract. Assumes nothing.
 use borrow.Author.Needs.{needs}
 use mathlib.Core.Path.{_≡_, refl, sym, ap, _∙_}
-use Rattle.link_words.specs.Laws.{cast-bit}
+use Rattle.words.specs.Fields.{cast-bit}
 use Rattle.link_words.proofs.put_ask.Statement.{statement}
 use Rattle.link_words.proofs.put_ask.Tie as tie
 

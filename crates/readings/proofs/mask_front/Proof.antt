@@ -14,8 +14,8 @@ slice-relend-prefix-mask c = search needs
 
 slice-aggregate-mask : tie.Need-slice-aggregate-mask
 slice-aggregate-mask c =
-    let start = c .before .before .before in
-    let fits : start .args .size ≤ length (now (start .args .d)) = omega (arith, c .before .if1 .taken) in
+    let start = c .before .before .before .before in
+    let fits : start .args .size ≤ length (now (start .args .d)) = omega arith in
     sym (length-take-le (start .args .size) (now (start .args .d)) fits)
 
 mask-requires : tie.Need-mask-requires

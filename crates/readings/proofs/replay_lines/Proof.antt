@@ -7,13 +7,10 @@ use Rattle.readings.proofs.replay_lines.Statement.{statement}
 use Rattle.readings.proofs.replay_lines.Tie as tie
 
 abbrev Inv-loop : tie.InvT-loop
-Inv-loop text d₀ s₀ i₀ d s i = (i ≤ length text) × (length d ≡ length d₀)
+Inv-loop w₀ text d₀ i₀ w d i = (i ≤ length text) × (length d ≡ length d₀)
 
 abbrev μ-loop : tie.MeasureT-loop
-μ-loop text d₀ s₀ i₀ d s i = length text - i
-
-new-requires : tie.Need-new-requires Inv-loop μ-loop
-new-requires c κs = search needs
+μ-loop w₀ text d₀ i₀ w d i = length text - i
 
 loop-holds : tie.Need-loop-holds Inv-loop μ-loop
 loop-holds c = search needs
@@ -51,7 +48,6 @@ replay-lines-spec =
     (tie.spec
     Inv-loop
     μ-loop
-    new-requires
     loop-holds
     behind-requires
     line-len-requires
