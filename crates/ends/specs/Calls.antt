@@ -1,12 +1,17 @@
 -- The calls of a sending end, and the state and memory that each leaves, by the definitions that the calls' contracts cite.
 use Prim.Native.Nat.{ℕ, _*_, _<_}
+use lib.Dec.{eqb}
 use lib.ListN.{length}
 use mathlib.Core.List.{List}
 use mathlib.Core.Logic.{_⊎_}
+use Rattle.base.specs.Choose.{choose}
+use Rattle.base.specs.Parts.{splice}
 use Rattle.outgoing.specs.declared.Sending.{Sending}
 use Rattle.outgoing.specs.Send.{sendAnswer, sendState, sendMemory}
 use Rattle.outgoing.specs.State.{keyingState}
-use Rattle.sealing.specs.Sealing.{putMemory, sealAnswer, sealedState, sealedMemory}
+use Rattle.sealing.specs.declared.SealQuestion.the-variants as ask
+use Rattle.sealing.specs.declared.SealQuestion.{SealQuestion}
+use Rattle.sealing.specs.Sealing.{questionOf, sealAnswer, sealedState, sealedMemory}
 use Rattle.taking.specs.Take.{takeAnswer, takeState}
 use Rattle.flight.specs.declared.Flight.{Flight}
 use Rattle.flight.specs.Flight.{begun}
@@ -43,6 +48,12 @@ pub data SendCall : Type 0 where
   sealed· : ℕ → List ℕ → SendCall
   take· : List ℕ → SendCall
 
+-- the host's own writing: as many bytes as the sealing question shows, in the place that it shows
+abbrev pub writtenIn : SealQuestion → List ℕ → List ℕ → List ℕ
+writtenIn (ask.Seal e n p l) v q = choose (eqb (length v) l) (splice p v q) q
+writtenIn ask.Nothing v q = q
+writtenIn ask.OutOfRange v q = q
+
 -- state and memory behind each call, by the definitions that the calls' contracts cite
 abbrev pub stored : Stores → SendCall → Stores
 stored w (keySend· e iv) = record { state = keyingState (w .state) e iv .state; queue = w .queue; flight = w .flight; kept = w .kept; notes = w .notes }
@@ -78,7 +89,7 @@ stored w sendAck· =
     let r = sentAck (w .state) (w .notes) (length (w .queue)) in
     record { state = r .state; queue = ackMemory (w .state) (w .notes) (w .queue); flight = w .flight; kept = w .kept; notes = r .notes }
 stored w (ack· d) = record { state = w .state; queue = w .queue; flight = acked (w .flight) d .flight; kept = w .kept; notes = w .notes }
-stored w (fill· v) = record { state = w .state; queue = putMemory (w .state) v (w .queue); flight = w .flight; kept = w .kept; notes = w .notes }
+stored w (fill· v) = record { state = w .state; queue = writtenIn (questionOf (w .state) .question) v (w .queue); flight = w .flight; kept = w .kept; notes = w .notes }
 stored w (sealed· n m) =
     let a = sealAnswer (w .state) (length (w .queue)) n in
     record { state = sealedState a (w .state) (w .queue) .state; queue = sealedMemory a (w .state) m (w .queue); flight = w .flight; kept = w .kept; notes = w .notes }

@@ -1,23 +1,29 @@
 -- What holds after every list of calls on two fresh ends, at each receiving end and in each receive epoch: demand 3.
 use Prim.Native.Nat.{ℕ, _+_, _*_, _%_, _≤_}
-use lib.ListN.{length}
+use lib.ListN.{length, drop}
 use mathlib.Core.Bool.{true}
 use mathlib.Core.List.{List, _∷_, _++_, List·Memᴰ as Mem}
 use mathlib.Core.Option.{some}
 use mathlib.Core.Path.{_≡_}
 use Rattle.base.specs.Bytes.{be, xors}
-use Rattle.queue.specs.Queue.{isSetting}
+use Rattle.base.specs.Parts.{part}
 use Rattle.send_keys.specs.Keys.{nextOf}
 use Rattle.history.specs.Claim.{Masks, Once, asHanded, nonceFor, Received}
 use Rattle.history.specs.Receiver.{Sealed}
 use Rattle.ends.specs.Flights.{handedAs, Arrived, Apart, Held}
 use Rattle.ends.specs.Ledger.{Kept, items, oldest}
 use Rattle.ends.specs.Sender.{Lent, AskedFor, sealedHeader, Taken}
-use Rattle.ends.specs.World.{Side, far, Count, Said, World, Event, run, Setting, fresh-pair, Honest}
+use Rattle.ends.specs.World.{Side, far, Count, Said, Took, Over, World, Event, run, Setting, fresh-pair, Honest}
 
 -- every next number to send is as it was
 abbrev pub SameNumbers : Count → Type 0
 SameNumbers c = (e : ℕ) → nextOf (c .behind) e ≡ nextOf (c .before) e
+
+-- a take writes the datagram's bytes at the start of the host's buffer, where one is taken, and no other byte
+pub record TookOnly (t : Took) : Type 0 where
+  pub long : length (t .behind) ≡ length (t .before)
+  pub taken : t .reply .number ≡ 0 → drop (t .reply .told) (t .behind) ≡ drop (t .reply .told) (t .before)
+  pub refused : (t .reply .number ≡ 0 → ⊥) → t .behind ≡ t .before
 
 -- a record sealed: its header as 01 gives it, shown unmasked, and on the wire with its two number bytes masked. That the mask is the sender's, and
 -- goes on once, shows in what the far end reads (`due-opened`)
@@ -47,6 +53,12 @@ pub record Holds (w : World) (s : Side) (e : ℕ) : Type 0 where
   -- beside the demand, so that the above is not hollow:
   -- each sending call, refused or not, was answered as the account says: by N exactly if N's condition holds and none before it in 01's order
   pub answers : (a : Said) → Mem a (w (far s) .said) → a .reply ≡ a .owed
+  -- over memory that is too short nothing of it changes either
+  pub overs-kept : (o : Over) → Mem o (w (far s) .overs) → (o .queue′ ≡ o .queue) × (o .kept′ ≡ o .kept)
+  -- a take changes no byte of the host's buffer beside the datagram's
+  pub took-only : (t : Took) → Mem t (w (far s) .took) → TookOnly t
+  -- what the host wrote into the part lent for sealing lies there as it wrote it, until its reply
+  pub given-lies : (l : Lent) → w (far s) .out .lent ≡ some l → (v : List ℕ) → w (far s) .given ≡ some v → part (l .place) (l .size) (w (far s) .out .stores .queue) ≡ v
   -- "it" is one record: no number is sealed twice in an epoch
   pub sealed-once : (r q : Sealed) → Mem r (w (far s) .out .sealed e) → Mem q (w (far s) .out .sealed e) → r .num ≡ q .num → r ≡ q
   -- and has its header by its epoch, number and length
@@ -64,9 +76,12 @@ pub record Holds (w : World) (s : Side) (e : ℕ) : Type 0 where
   pub seal-asked : AskedFor (w (far s) .out .lent) (oldest (items (w (far s) .ledger .queue)))
   pub seal-nonce : (l : Lent) → w (far s) .out .lent ≡ some l → l .nonce ≡ nonceFor (w (far s) .out .ivs (l .epoch)) (l .num)
 
--- settings in range, and a queue not under its limit times the MTU
+-- "MTU 576 to 1,500 and queue 1 to 16 datagrams", a least protected length of "at most 17", and a queue not under its limit times the MTU
 pub record Startable (s : Setting) : Type 0 where
-  pub range : isSetting (s .mtu) (s .limit) ≡ true
+  pub low : 576 ≤ s .mtu
+  pub high : s .mtu ≤ 1500
+  pub some : 1 ≤ s .limit
+  pub most : s .limit ≤ 16
   pub min : s .min ≤ 17
   pub room : s .limit * s .mtu ≤ length (s .queue)
 

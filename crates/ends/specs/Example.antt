@@ -225,8 +225,8 @@ talk-honest = (
 -- ---- so all that is claimed holds of it
 
 ready : (s : Side) → Startable (settings s)
-unfolding settings queue-queue.isSetting base-choose.both
-ready s = record { range = refl; min = omega arith; room = leb-true (1 * 576) (length {A = ℕ} (replicate 576 0)) refl }
+unfolding settings
+ready s = record { low = omega arith; high = omega arith; some = omega arith; most = omega arith; min = omega arith; room = leb-true (1 * 576) (length {A = ℕ} (replicate 576 0)) refl }
 
 talk-holds : (s : Side) (e : ℕ) → Holds (run (fresh-pair settings) talk) s e
 talk-holds = every-list settings ready oneMask talk talk-honest

@@ -28,6 +28,7 @@ pub mod Heard
 pub mod Every
 pub mod World
 pub mod Claim
+pub mod Given
 pub mod Shown
 pub mod Proof
 pub mod Example

@@ -7,7 +7,11 @@ use mathlib.Core.Logic.{⊎-elim}
 use mathlib.Core.Option.{Option, none, some}
 use mathlib.Core.Path.{_≡_, refl, sym, ap, subst, _∙_}
 use native.Mathlib.Omega.{arith}
-use Rattle.base.specs.Choose.{by-test}
+use borrow.Author.Tests.{le-leb}
+use Rattle.waiting.specs.Fresh.{fresh-holds}
+use Rattle.queue.specs.Queue.{isSetting}
+use Rattle.ends.specs.Given.{Given, given-keeps, given-lies, took-all, over-all}
+use Rattle.base.specs.Choose.{by-test, both-true}
 use Rattle.opening_reply.specs.declared.Opening.{Opening}
 use Rattle.opening_reply.specs.Opening.{shownBy}
 use Rattle.receiving.specs.declared.Receiving.{Receiving}
@@ -53,11 +57,11 @@ use Rattle.history.specs.Receiver.{
 use Rattle.ends.specs.Answers.{answered}
 use Rattle.ends.specs.Books.{sendsBy}
 use Rattle.ends.specs.Calls.{Stores, SendCall, keySend·, send·, save·, message·, beginFlight·, resend·, note·, sendAck·, ack·, fill·, sealed·, take·, stored, lending, Short}
-use Rattle.ends.specs.Claim.{SameNumbers, Holds, Startable, EveryList}
+use Rattle.ends.specs.Claim.{SameNumbers, Holds, Startable, EveryList, TookOnly}
 use Rattle.ends.specs.Every.{every-does, sends-same, sends-stores, sends-sent}
 use Rattle.ends.specs.Flights.{Arrived, Held, FairNames}
 use Rattle.ends.specs.Heard.{Grows, Heard, heard-keeps, heard-grows, cleared-handed, none-heard}
-use Rattle.ends.specs.Ledger.{applicationData, sealedOver, lastNumber, Sent, Item, Kept, Ledger, items, oldest, only, after, sentBy, shortReply, clears, isUsable}
+use Rattle.ends.specs.Ledger.{applicationData, sealedOver, lastNumber, Sent, Item, Kept, Ledger, items, oldest, only, after, sentBy, shortReply, clears, isUsable, owed}
 use Rattle.ends.specs.Matches.{Entries, FlightIs, Matches, Does}
 use Rattle.ends.specs.Matching.{usable-is, items-flat}
 use Rattle.ends.specs.Rules.{stop-order}
@@ -67,30 +71,7 @@ use Rattle.ends.specs.Settling.{new-matches}
 use Rattle.ends.specs.Short.{short-answered, short-stays}
 use Rattle.ends.specs.Shown.{asked-oldest, wired}
 use Rattle.ends.specs.Width.{same-width, same-limit}
-use Rattle.ends.specs.World.{
-  Side,
-  post,
-  gateway,
-  far,
-  Count,
-  Said,
-  End,
-  Deed,
-  sending,
-  over,
-  receiving,
-  Event,
-  World,
-  takesIn,
-  countsBy,
-  acts,
-  step,
-  run,
-  Setting,
-  fresh-pair,
-  FairDeed,
-  Honest,
-}
+use Rattle.ends.specs.World.{Side, post, gateway, far, Count, Said, End, Deed, sending, over, receiving, Event, World, takesIn, countsBy, acts, step, run, Setting, fresh-pair, FairDeed, Honest, Took, Over, givenBy}
 
 -- the settings of the state are those that the end was created with
 record Sized (e : End) : Type 0 where
@@ -148,6 +129,11 @@ handed-on sealed i (readOver· d) e h m = m
 handed-on sealed i (maskOver· n d) e h m = m
 handed-on sealed i (openOver· p d) e h m = m
 
+-- the program's range is 01's
+in-range : (s : Setting) → Startable s → isSetting (s .mtu) (s .limit) ≡ true
+unfolding isSetting
+in-range s o = both-true (le-leb _ _ (o .low)) ∙ both-true (le-leb _ _ (o .high)) ∙ both-true (le-leb _ _ (o .some)) ∙ le-leb _ _ (o .most)
+
 fresh-width : (mtu limit : ℕ) → (freshSending mtu limit .queue .mtu ≡ mtu) × (freshSending mtu limit .queue .limit ≡ limit)
 unfolding freshSending
 fresh-width mtu limit = (refl, refl)
@@ -189,6 +175,9 @@ module _ (masks : Side → Masks) where
     sized : (s : Side) → Sized (w s)
     matches : (s : Side) → Matches (w s .out .stores) (w s .ledger)
     said : (s : Side) → (a : Said) → Mem a (w s .said) → a .reply ≡ a .owed
+    took : (s : Side) → (t : Took) → Mem t (w s .took) → TookOnly t
+    overs : (s : Side) → (o : Over) → Mem o (w s .overs) → (o .queue′ ≡ o .queue) × (o .kept′ ≡ o .kept)
+    given : (s : Side) → Given (w s .out .stores .state) (w s .out .stores .queue) (w s .given)
     heard : (s : Side) → Heard (w s .into .into .handed) (w (far s) .out .books .sent) (w (far s) .ledger)
     cleared : (s : Side) → (k : Kept) → Mem k (w (far s) .cleared) → Arrived (w s .into .into .handed) k
 
@@ -246,12 +235,15 @@ module _ (masks : Side → Masks) where
   counts-keep e i (openOver· p d) h = more-counts (e .counts) _ refl h
 
   -- a call over memory too short leaves this end's stores
+  own-short : (e : End) (c : SendCall) (q k : List ℕ) → Sized e → Short (e .mtu) (e .limit) q k c → Short (e .out .stores .state .queue .mtu) (e .out .stores .state .queue .limit) q k c
+  own-short e c q k o h =
+      subst (λ (n : ℕ). Short (e .out .stores .state .queue .mtu) n q k c) (sym (o .limit)) (subst (λ (n : ℕ). Short n (e .limit) q k c) (sym (o .width)) h)
+
   over-stores : (e : End) (c : SendCall) (q k : List ℕ) → Sized e → Short (e .mtu) (e .limit) q k c
       → (lending (stored (lending (e .out .stores) q k) c) (e .out .stores .queue) (e .out .stores .kept) ≡ e .out .stores)
       × (answered (lending (e .out .stores) q k) c ≡ shortReply c)
   over-stores e c q k o h =
-      let short : Short (e .out .stores .state .queue .mtu) (e .out .stores .state .queue .limit) q k c =
-      subst (λ (n : ℕ). Short (e .out .stores .state .queue .mtu) n q k c) (sym (o .limit)) (subst (λ (n : ℕ). Short n (e .limit) q k c) (sym (o .width)) h) in
+      let short = own-short e c q k o h in
       (short-stays (e .out .stores) q k c short, short-answered (e .out .stores) q k c short)
 
   -- ---- one call, seen from the end that acts and from the other
@@ -303,6 +295,26 @@ module _ (masks : Side → Masks) where
   own-said s f e (sending c) h o m old = one-said _ (e .said) (done s e c (h .0) m .reply) old
   own-said s f e (over c q k) h o m old = one-said _ (e .said) (over-stores e c q k o h .1) old
   own-said s f e (receiving c) h o m old = old
+
+  own-took : (f e : End) (d : Deed) → ((t : Took) → Mem t (e .took) → TookOnly t) → (t : Took) → Mem t (acts f e d .took) → TookOnly t
+  own-took f e (sending c) old = took-all (e .out .stores) c (e .took) old
+  own-took f e (over c q k) old = took-all (lending (e .out .stores) q k) c (e .took) old
+  own-took f e (receiving c) old = old
+
+  own-overs : (s : Side) (f e : End) (d : Deed) → FairDeed masks s f e d → Sized e → ((o : Over) → Mem o (e .overs) → (o .queue′ ≡ o .queue) × (o .kept′ ≡ o .kept))
+      → (o : Over) → Mem o (acts f e d .overs) → (o .queue′ ≡ o .queue) × (o .kept′ ≡ o .kept)
+  own-overs s f e (sending c) h z old = old
+  own-overs s f e (over c q k) h z old = over-all (e .out .stores) q k c (e .overs) (own-short e c q k z h) old
+  own-overs s f e (receiving c) h z old = old
+
+  own-given : (s : Side) (f e : End) (d : Deed) → FairDeed masks s f e d → Sized e → Matches (e .out .stores) (e .ledger) → Given (e .out .stores .state) (e .out .stores .queue) (e .given)
+      → Given (acts f e d .out .stores .state) (acts f e d .out .stores .queue) (acts f e d .given)
+  own-given s f e (sending c) h z m g =
+      subst (λ (w : Stores). Given (w .state) (w .queue) (givenBy (e .out .stores) (owed (e .ledger) c) c (e .given))) (sym (sends-stores (e .out) (sentBy (e .ledger) c) c))
+      (given-keeps (e .out .stores) (e .given) g (omega (arith, m .noted .count, m .noted .most)) (owed (e .ledger) c) c (sym (done s e c (h .0) m .reply))
+      (λ k iv p. subst (FairSend (masks s) (e .out)) p (h .0)))
+  own-given s f e (over c q k) h z m g = subst (λ (w : Stores). Given (w .state) (w .queue) (e .given)) (sym (over-stores e c q k z h .0)) g
+  own-given s f e (receiving c) h z m g = g
 
   -- what was handed over was sent, and only once under its number
   one-handed : (m : Masks) (x : Sender) (i : Inbound) → Sends m x → Link m (x .sealed) i → (e : ℕ) (h k : Handed) → Mem h (i .into .handed e) → Mem k (x .books .sent e) → h .num ≡ k .num → h ≡ k
@@ -390,6 +402,26 @@ module _ (masks : Side → Masks) where
     step-said gateway h post = g .said post
     step-said gateway h gateway = own-said gateway (w post) (w gateway) d h (g .sized gateway) (g .matches gateway) (g .said gateway)
 
+    step-took : (at s : Side) → (t : Took) → Mem t (step w (record { side = at; deed = d }) s .took) → TookOnly t
+    step-took post post = own-took (w gateway) (w post) d (g .took post)
+    step-took post gateway = g .took gateway
+    step-took gateway post = g .took post
+    step-took gateway gateway = own-took (w post) (w gateway) d (g .took gateway)
+
+    step-overs : (at : Side) → FairDeed masks at (w (far at)) (w at) d → (s : Side) → (o : Over) → Mem o (step w (record { side = at; deed = d }) s .overs)
+        → (o .queue′ ≡ o .queue) × (o .kept′ ≡ o .kept)
+    step-overs post h post = own-overs post (w gateway) (w post) d h (g .sized post) (g .overs post)
+    step-overs post h gateway = g .overs gateway
+    step-overs gateway h post = g .overs post
+    step-overs gateway h gateway = own-overs gateway (w post) (w gateway) d h (g .sized gateway) (g .overs gateway)
+
+    step-given : (at : Side) → FairDeed masks at (w (far at)) (w at) d → (s : Side)
+        → Given (step w (record { side = at; deed = d }) s .out .stores .state) (step w (record { side = at; deed = d }) s .out .stores .queue) (step w (record { side = at; deed = d }) s .given)
+    step-given post h post = own-given post (w gateway) (w post) d h (g .sized post) (g .matches post) (g .given post)
+    step-given post h gateway = g .given gateway
+    step-given gateway h post = g .given post
+    step-given gateway h gateway = own-given gateway (w post) (w gateway) d h (g .sized gateway) (g .matches gateway) (g .given gateway)
+
     step-heard : (at : Side) → FairDeed masks at (w (far at)) (w at) d → (s : Side)
         → Heard (step w (record { side = at; deed = d }) s .into .into .handed) (step w (record { side = at; deed = d }) (far s) .out .books .sent) (step w (record { side = at; deed = d }) (far s) .ledger)
     step-heard post h post = other-heard (w gateway) (w post) d (g .heard post)
@@ -414,18 +446,24 @@ module _ (masks : Side → Masks) where
         sized = step-sized w (v .deed) g (v .side) (h .0);
         matches = step-matches w (v .deed) g (v .side) (h .0);
         said = step-said w (v .deed) g (v .side) (h .0);
+        took = step-took w (v .deed) g (v .side);
+        overs = step-overs w (v .deed) g (v .side) (h .0);
+        given = step-given w (v .deed) g (v .side) (h .0);
         heard = step-heard w (v .deed) g (v .side) (h .0);
         cleared = step-cleared w (v .deed) g (v .side) (h .0);
       }) (h .1)
 
   new-good : (settings : Side → Setting) → ((s : Side) → Startable (settings s)) → Good (fresh-pair settings)
   new-good settings ok = record {
-    out = λ s. new-sends (masks s) (settings s .mtu) (settings s .limit) (settings s .queue) (settings s .kept) (ok s .range) (ok s .room);
+    out = λ s. new-sends (masks s) (settings s .mtu) (settings s .limit) (settings s .queue) (settings s .kept) (in-range (settings s) (ok s)) (ok s .room);
     link = λ s. new-link (masks (far s)) (settings s .min) (ok s .min);
     counts = λ s c m. elim m [ ];
     sized = λ s. record { width = fresh-width (settings s .mtu) (settings s .limit) .0; limit = fresh-width (settings s .mtu) (settings s .limit) .1 };
-    matches = λ s. new-matches (settings s .mtu) (settings s .limit) (settings s .queue) (settings s .kept) (ok s .range) (ok s .room);
+    matches = λ s. new-matches (settings s .mtu) (settings s .limit) (settings s .queue) (settings s .kept) (in-range (settings s) (ok s)) (ok s .room);
     said = λ s a m. elim m [ ];
+    took = λ s t m. elim m [ ];
+    overs = λ s o m. elim m [ ];
+    given = λ s. record { ds = []; holds = fresh-holds (settings s .mtu) (settings s .limit) (settings s .queue) (in-range (settings s) (ok s)) (ok s .room); is = tt };
     heard = λ s. none-heard (λ e. []) (λ e. []);
     cleared = λ s k m. elim m [ ];
   }
@@ -444,6 +482,11 @@ module _ (masks : Side → Masks) where
         flight-whole = m .flight .count;
         own-sendings = g .heard s .apart;
         answers = g .said (far s);
+        overs-kept = g .overs (far s);
+        took-only = g .took (far s);
+        given-lies =
+            given-lies (w (far s) .out .stores .state) (w (far s) .out .stores .queue) (w (far s) .given) (g .given (far s)) (g .out (far s) .ds) (g .out (far s) .laying .holds) (w (far s) .out .lent)
+            (g .out (far s) .lent);
         sealed-once = g .out (far s) .once e;
         sealed-sent = g .out (far s) .laying .sealed-sent e;
         sent-once = g .out (far s) .laying .numbers .once e;

@@ -44,7 +44,7 @@ use Rattle.history.specs.Direction.{Shaped}
 use Rattle.history.specs.Half.{Shape}
 use Rattle.history.specs.Lists.{by-both, upd-by, some-inj, some≢none, mem-by}
 use Rattle.history.specs.Receiver.{Sealed}
-use Rattle.ends.specs.Asked.{lentFor, LentIs, waiting-cases, first-mem, part-is, lends-is, shows-after}
+use Rattle.ends.specs.Asked.{lentFor, LentIs, waiting-cases, first-mem, part-is, lends-is, shows-after, written-is}
 use Rattle.ends.specs.Books.{sendsBy}
 use Rattle.ends.specs.Calls.{Stores, SendCall, keySend·, send·, save·, message·, beginFlight·, resend·, note·, sendAck·, ack·, fill·, sealed·, take·, stored}
 use Rattle.ends.specs.Laws.{upd-grows}
@@ -110,7 +110,7 @@ untaken-ds : (a : TakeAnswer) (ds : List (List Queued)) → isTaken a ≡ false 
 untaken-ds a [] f = refl
 untaken-ds a (d ∷ ds) f = if-false _ _ f
 
-taken-length : (s : Sending) (room have : ℕ) → isTaken (takeAnswer s room have) ≡ true → takeAnswer s room have ≡ took.Taken (frontLen s)
+pub taken-length : (s : Sending) (room have : ℕ) → isTaken (takeAnswer s room have) ≡ true → takeAnswer s room have ≡ took.Taken (frontLen s)
 unfolding takeAnswer
 taken-length s room have =
     let P : TakeAnswer → Type 0 = λ a. isTaken a ≡ true → a ≡ took.Taken (frontLen s) in
@@ -263,7 +263,9 @@ module _ (masks : Masks) (x : Sender) (i : Sends masks x) where
           (λ z. ap linesIn (flat-first (putWith v) (i .ds)) ∙ put-lines v (flat (i .ds))) (λ z. refl)
 
   fill-keeps : (v : List ℕ) → Sends masks (sendsBy x (fill· v))
-  fill-keeps v = simple _ _ _ (x .ivs) (put-lays v) (effect (putCall v))
+  fill-keeps v =
+      subst (λ (q : List ℕ). Sends masks (turns x (record { state = w .state; queue = q; flight = w .flight; kept = w .kept; notes = w .notes }) (x .books) (x .ivs) (x .sealed) (x .taken)))
+      (sym (written-is (w .state) (w .queue) (i .ds) (i .laying .holds) v)) (simple _ _ _ (x .ivs) (put-lays v) (effect (putCall v)))
 
   -- ---- keying
 

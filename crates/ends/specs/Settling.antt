@@ -7,7 +7,7 @@ use mathlib.Core.Bool.{Bool, true, false, true≢false, false≢true}
 use mathlib.Core.List.{List, [], _∷_}
 use mathlib.Core.Logic.{⊎-elim}
 use mathlib.Core.Option.{Option, none, some}
-use mathlib.Core.Path.{_≡_, refl, sym, ap, _∙_}
+use mathlib.Core.Path.{_≡_, refl, sym, ap, _∙_, subst}
 use native.Mathlib.Omega.{arith}
 use Rattle.base.specs.Choose.{choose, both, either, if-true, if-false, by-test, test-cases}
 use Rattle.queue.specs.Queue.{isSetting, isSound}
@@ -36,7 +36,8 @@ use Rattle.waiting.specs.Takes.{takeTold, take-told, afterTaken, take-holds}
 use Rattle.history.specs.Account.{upd}
 use Rattle.history.specs.Lists.{upd-same, upd-other, by-both}
 use Rattle.ends.specs.Answers as answers
-use Rattle.ends.specs.Calls.{Stores, SendCall, keySend·, fill·, sealed·, take·}
+use Rattle.ends.specs.Asked.{written-is}
+use Rattle.ends.specs.Calls.{Stores, SendCall, keySend·, fill·, sealed·, take·, stored}
 use Rattle.ends.specs.Ledger.{
   Item,
   Ledger,
@@ -176,7 +177,10 @@ fill-does w l i v =
     let there =
     requeued w l i (w .state) _ _ (put-holds (w .state) (w .queue) (i .ds) (i .holds) v) (steady (w .state)) (l .queue)
     (by-test (λ (us : List (List Queued)). itemsOf us ≡ l .queue) (λ z. put-of v (i .ds) ∙ i .queue) (λ z. i .queue)) in
-    record { reply = refl; leaves = by-test (Matches _) (λ z. there) (λ z. there); books = sends-nothing l (fill· v) refl }
+    let here : Matches (stored w (fill· v)) l =
+    subst (λ (q : List ℕ). Matches (record { state = w .state; queue = q; flight = w .flight; kept = w .kept; notes = w .notes }) l)
+    (sym (written-is (w .state) (w .queue) (i .ds) (i .holds) v)) there in
+    record { reply = refl; leaves = by-test (Matches _) (λ z. here) (λ z. here); books = sends-nothing l (fill· v) refl }
 
 -- ---- a sealing reply
 

@@ -14,24 +14,24 @@ use Rattle.send_keys.specs.Keys.{nextOf}
 use Rattle.outgoing.specs.declared.SendAnswer.{SendAnswer}
 use Rattle.outgoing.specs.declared.SendAnswer.the-variants as send
 use Rattle.outgoing.specs.declared.Sending.{Sending}
-use Rattle.outgoing.specs.Send.{laidState, sendAnswer, sendState}
+use Rattle.outgoing.specs.Send.{laidState, sendAnswer, sendState, sendMemory}
 use Rattle.outgoing.specs.State.{refusal, isDone}
 use Rattle.sealing.specs.declared.SealAnswer.the-variants as seal
 use Rattle.sealing.specs.Sealing as sealing
-use Rattle.sealing.specs.Sealing.{sealAnswer, isSealed, sealedState}
+use Rattle.sealing.specs.Sealing.{sealAnswer, isSealed, sealedState, sealedMemory}
 use Rattle.taking.specs.declared.TakeAnswer.the-variants as took
 use Rattle.taking.specs.Take.{takeAnswer, isTaken, takeState}
 use Rattle.flight.specs.declared.Flight.{Flight}
 use Rattle.flight.specs.declared.Saved.{Saved}
 use Rattle.flight.specs.Flight.{isKept, savedWith}
-use Rattle.flight.specs.Save.{saveAnswer, saveState}
-use Rattle.messages.specs.Message.{messageAnswer, messageState}
+use Rattle.flight.specs.Save.{saveAnswer, saveState, saveQueue, saveKept}
+use Rattle.messages.specs.Message.{messageAnswer, messageState, messageQueue, messageKept}
 use Rattle.acks.specs.declared.AckSent.{AckSent}
 use Rattle.acks.specs.declared.Notes.{Notes}
-use Rattle.acks.specs.Acks.{ackAnswer, nothingSent, sentAck}
+use Rattle.acks.specs.Acks.{ackAnswer, nothingSent, sentAck, ackMemory}
 use Rattle.resend.specs.declared.ResendAnswer.the-variants as again
 use Rattle.resend.specs.declared.Resent.{Resent}
-use Rattle.resend.specs.Resend.{resendState}
+use Rattle.resend.specs.Resend.{resendState, resendQueue}
 use Rattle.resend.specs.Tests as resend
 use Rattle.resend.specs.Tests.{resendAnswer}
 use Rattle.ends.specs.Answers.{ackReply, takeReply, answered}
@@ -131,3 +131,24 @@ short-stays w q k (ack· d) h = absurd h
 short-stays w q k (fill· v) h = refl
 short-stays w q k (sealed· n m) h = ap (λ (s : Sending). with w s (w .flight) (w .notes)) (if-false _ _ (ap isSealed (seal-short (w .state) q h n)))
 short-stays w q k (take· buffer) h = ap (λ (s : Sending). with w s (w .flight) (w .notes)) (if-false _ _ (ap isTaken (take-short (w .state) q h (length buffer))))
+
+-- of the memory either
+pub short-memory : (w : Stores) (q k : List ℕ) (c : SendCall) → Short (w .state .queue .mtu) (w .state .queue .limit) q k c → ((v : List ℕ) → c ≡ fill· v → ⊥)
+    → (stored (lending w q k) c .queue ≡ q) × (stored (lending w q k) c .kept ≡ k)
+unfolding sendMemory saveQueue saveKept messageQueue messageKept resendQueue ackMemory sealedMemory
+short-memory w q k (keySend· e iv) h own = absurd h
+short-memory w q k (send· e t x) h own = (if-false _ _ (ap isDone (send-short (w .state) q h e t (length x))), refl)
+short-memory w q k (save· e t x) h own =
+    let d = ap isDone (save-short (w .state) (w .flight) q k h e t (length x)) in
+    (if-false _ _ d, if-false _ _ d)
+short-memory w q k (message· kind body) h own =
+    let d = ap isDone (message-short (w .state) (w .flight) q k h kind (length body)) in
+    (if-false _ _ d, if-false _ _ d)
+short-memory w q k beginFlight· h own = absurd h
+short-memory w q k resend· h own = (if-false _ _ (ap resend.isDone (resend-short (w .state) (w .flight) q k h)), refl)
+short-memory w q k (note· e n) h own = absurd h
+short-memory w q k sendAck· h own = (if-false _ _ (ap isDone (ack-short (w .state) q h (w .notes))), refl)
+short-memory w q k (ack· d) h own = absurd h
+short-memory w q k (fill· v) h own = absurd (own v refl)
+short-memory w q k (sealed· n m) h own = (if-false _ _ (ap isSealed (seal-short (w .state) q h n)), refl)
+short-memory w q k (take· buffer) h own = (refl, refl)

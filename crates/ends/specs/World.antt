@@ -1,13 +1,20 @@
 -- Two ends that talk: each sends and receives, and each call gets state, queue, flight and datagram as the last call at its end left them,
 -- refused or not.
 use Prim.Native.Nat.{ℕ}
+use lib.Dec.{eqb}
 use lib.ListN.{length}
 use mathlib.Core.List.{List, [], _∷_, _++_}
+use mathlib.Core.Option.{Option, none, some}
+use Rattle.base.specs.Choose.{choose}
 use Rattle.send_keys.specs.declared.SendKeys.{SendKeys}
+use Rattle.sealing.specs.declared.SealQuestion.the-variants as ask
+use Rattle.sealing.specs.declared.SealQuestion.{SealQuestion}
+use Rattle.sealing.specs.Sealing.{questionOf}
+use Rattle.taking.specs.Take.{takeAnswer, takeBuffer}
 use Rattle.history.specs.Claim.{Masks, FairCall}
 use Rattle.history.specs.Receiver.{Inbound, newInbound, Call, key·, remove·, encrypt·, release·, begin·, read·, mask·, write·, open·, readOver·, maskOver·, openOver·, does}
 use Rattle.ends.specs.Answers.{answered}
-use Rattle.ends.specs.Calls.{SendCall, lending, Short}
+use Rattle.ends.specs.Calls.{Stores, SendCall, keySend·, send·, save·, message·, beginFlight·, resend·, note·, sendAck·, ack·, fill·, sealed·, take·, stored, lending, Short}
 use Rattle.ends.specs.Flights.{FairNames}
 use Rattle.ends.specs.Ledger.{Kept, Ledger, newLedger, Reply, owed, after, sentBy, shortReply, clears}
 use Rattle.ends.specs.Sender.{Sender, newSender, sends, sendsOver, FairSend}
@@ -30,6 +37,19 @@ pub record Said : Type 0 where
   pub reply : Reply
   pub owed : Reply
 
+-- a take: what it was answered, and the host's buffer before and behind it
+pub record Took : Type 0 where
+  pub reply : Reply
+  pub before : List ℕ
+  pub behind : List ℕ
+
+-- a call over memory that is too short: that memory before and behind it
+pub record Over : Type 0 where
+  pub queue : List ℕ
+  pub queue′ : List ℕ
+  pub kept : List ℕ
+  pub kept′ : List ℕ
+
 -- the MTU and the queue's limit it was created with, what it sends, the claim's account of it, what its calls were answered, the saved records that
 -- went with a flight which an ACK emptied, what it receives, and the counts of its readings
 pub record End : Type 0 where
@@ -38,6 +58,10 @@ pub record End : Type 0 where
   pub out : Sender
   pub ledger : Ledger
   pub said : List Said
+  pub took : List Took
+  pub overs : List Over
+  -- what the host wrote last into the part lent for the sealing that is asked
+  pub given : Option (List ℕ)
   pub cleared : List Kept
   pub into : Inbound
   pub counts : List Count
@@ -68,6 +92,9 @@ takesIn e i cs = record {
   out = e .out;
   ledger = e .ledger;
   said = e .said;
+  took = e .took;
+  overs = e .overs;
+  given = e .given;
   cleared = e .cleared;
   into = i;
   counts = cs;
@@ -87,6 +114,59 @@ countsBy e e′ (readOver· d) = counted e e′ (e .into .serial)
 countsBy e e′ (maskOver· m d) = counted e e′ (e .into .serial)
 countsBy e e′ (openOver· p d) = counted e e′ (e .into .serial)
 
+-- the host's writing is given, until a sealing reply is accepted
+abbrev pub givenIn : SealQuestion → List ℕ → Option (List ℕ) → Option (List ℕ)
+givenIn (ask.Seal e n p l) v o = choose (eqb (length v) l) (some v) o
+givenIn ask.Nothing v o = o
+givenIn ask.OutOfRange v o = o
+
+abbrev pub givenBy : Stores → Reply → SendCall → Option (List ℕ) → Option (List ℕ)
+givenBy w r (keySend· e iv) o = o
+givenBy w r (send· e t x) o = o
+givenBy w r (save· e t x) o = o
+givenBy w r (message· kind body) o = o
+givenBy w r beginFlight· o = o
+givenBy w r resend· o = o
+givenBy w r (note· e n) o = o
+givenBy w r sendAck· o = o
+givenBy w r (ack· d) o = o
+givenBy w r (fill· v) o = givenIn (questionOf (w .state) .question) v o
+givenBy w r (sealed· n m) o = choose (eqb (r .number) 0) none o
+givenBy w r (take· b) o = o
+
+abbrev pub tookBy : Stores → SendCall → List Took → List Took
+tookBy w (keySend· e iv) ts = ts
+tookBy w (send· e t x) ts = ts
+tookBy w (save· e t x) ts = ts
+tookBy w (message· kind body) ts = ts
+tookBy w beginFlight· ts = ts
+tookBy w resend· ts = ts
+tookBy w (note· e n) ts = ts
+tookBy w sendAck· ts = ts
+tookBy w (ack· d) ts = ts
+tookBy w (fill· v) ts = ts
+tookBy w (sealed· n m) ts = ts
+tookBy w (take· b) ts =
+    record { reply = answered w (take· b); before = b; behind = takeBuffer (takeAnswer (w .state) (length (w .queue)) (length b)) (w .state) (w .queue) b } ∷ ts
+
+abbrev pub overOf : Stores → List ℕ → List ℕ → SendCall → Over
+overOf w q k c = record { queue = q; queue′ = stored (lending w q k) c .queue; kept = k; kept′ = stored (lending w q k) c .kept }
+
+-- the host's own writing is no call
+abbrev pub oversBy : Stores → List ℕ → List ℕ → SendCall → List Over → List Over
+oversBy w q k (fill· v) os = os
+oversBy w q k (keySend· e iv) os = overOf w q k (keySend· e iv) ∷ os
+oversBy w q k (send· e t x) os = overOf w q k (send· e t x) ∷ os
+oversBy w q k (save· e t x) os = overOf w q k (save· e t x) ∷ os
+oversBy w q k (message· kind body) os = overOf w q k (message· kind body) ∷ os
+oversBy w q k beginFlight· os = overOf w q k beginFlight· ∷ os
+oversBy w q k resend· os = overOf w q k resend· ∷ os
+oversBy w q k (note· e n) os = overOf w q k (note· e n) ∷ os
+oversBy w q k sendAck· os = overOf w q k sendAck· ∷ os
+oversBy w q k (ack· d) os = overOf w q k (ack· d) ∷ os
+oversBy w q k (sealed· n m) os = overOf w q k (sealed· n m) ∷ os
+oversBy w q k (take· b) os = overOf w q k (take· b) ∷ os
+
 -- a sending call: the records that the account then has as sent go into the books
 abbrev pub acts : End → End → Deed → End
 acts far-end e (sending c) =
@@ -96,6 +176,9 @@ acts far-end e (sending c) =
       out = sends (e .out) (sentBy (e .ledger) c) c;
       ledger = after (e .ledger) c;
       said = record { reply = answered (e .out .stores) c; owed = owed (e .ledger) c } ∷ e .said;
+      took = tookBy (e .out .stores) c (e .took);
+      overs = e .overs;
+      given = givenBy (e .out .stores) (owed (e .ledger) c) c (e .given);
       cleared = clears (e .ledger) c ++ e .cleared;
       into = e .into;
       counts = e .counts;
@@ -107,6 +190,9 @@ acts far-end e (over c q k) =
       out = sendsOver (e .out) c q k;
       ledger = e .ledger;
       said = record { reply = answered (lending (e .out .stores) q k) c; owed = shortReply c } ∷ e .said;
+      took = tookBy (lending (e .out .stores) q k) c (e .took);
+      overs = oversBy (e .out .stores) q k c (e .overs);
+      given = e .given;
       cleared = e .cleared;
       into = e .into;
       counts = e .counts;
@@ -144,6 +230,9 @@ newEnd s = record {
   out = newSender (s .mtu) (s .limit) (s .queue) (s .kept);
   ledger = newLedger (s .mtu) (s .limit) (length (s .kept));
   said = [];
+  took = [];
+  overs = [];
+  given = none;
   cleared = [];
   into = newInbound (s .min);
   counts = [];

@@ -1,0 +1,250 @@
+-- What the host wrote into the part lent for a sealing lies there until its reply, and a take changes the host's buffer by the datagram alone. Assumes
+-- nothing.
+use Prim.Native.Nat.{ℕ, _+_, _*_, _<_, _≤_}
+use borrow.Author.Tests.{eqb-true}
+use lib.Dec.{eqb}
+use lib.ListN.{length, drop, length-take, length-drop}
+use mathlib.Core.Bool.{Bool, true, false, true≢false, false≢true}
+use mathlib.Core.List.{List, [], _∷_, _++_, List·Memᴰ as Mem}
+use mathlib.Core.Option.{Option, none, some}
+use mathlib.Core.Path.{_≡_, refl, sym, ap, subst, _∙_}
+use native.Mathlib.Omega.{arith}
+use Rattle.base.specs.Choose.{choose, if-true, if-false, by-test, test-cases}
+use Rattle.base.specs.Parts.{part, splice, length-splice}
+use Rattle.outgoing.specs.declared.Sending.{Sending}
+use Rattle.sealing.specs.declared.Question.{Question}
+use Rattle.sealing.specs.declared.SealAnswer.the-variants as replied
+use Rattle.sealing.specs.declared.SealAnswer.{SealAnswer}
+use Rattle.sealing.specs.Sealing as sealing
+use Rattle.sealing.specs.Sealing.{partStart, questionOf, isPut, sealAnswer, isSealed}
+use Rattle.taking.specs.declared.TakeAnswer.{TakeAnswer}
+use Rattle.taking.specs.Laws.{kept-buffer}
+use Rattle.taking.specs.Take.{frontLen, takeAnswer, isTaken, takeBuffer, takes, front-fits}
+use Rattle.outgoing.specs.Send.{sendAnswer}
+use Rattle.flight.specs.Save.{saveAnswer}
+use Rattle.messages.specs.Message.{beginning}
+use Rattle.resend.specs.Tests.{resendAnswer}
+use Rattle.waiting.specs.Calls as call
+use Rattle.waiting.specs.Calls.Call.{key, send, save, message, begin, put, reply, take, resend, act, ack}
+use Rattle.waiting.specs.First.{putWith, firstIn, flat-first}
+use Rattle.waiting.specs.Lists.{waiting-append}
+use Rattle.waiting.specs.Oldest.{names-first, question-shows, question-none, waiting-put, waiting-later}
+use Rattle.waiting.specs.Pieces.{Behind, behind-send, behind-all}
+use Rattle.waiting.specs.Queued.{Queued, plain, waits, sealed, flat, waitingOf, Holds}
+use Rattle.waiting.specs.Resends.{behind-resend, behind-ack}
+use Rattle.waiting.specs.Seals.{afterPut, put-holds}
+use Rattle.waiting.specs.Takes.{afterTaken, taken-settled}
+use Rattle.history.specs.Lists.{by-both, mem-by, some-inj, some≢none, splice-behind}
+use Rattle.ends.specs.Answers.{takeReply, answered}
+use Rattle.ends.specs.Asked.{LentIs, lentFor, waiting-cases, part-is, not-put, put-test, written-is}
+use Rattle.ends.specs.Calls.{Stores, SendCall, keySend·, send·, save·, message·, beginFlight·, resend·, note·, sendAck·, ack·, fill·, sealed·, take·, stored, Short}
+use Rattle.ends.specs.Sender.{Lent}
+use Rattle.ends.specs.Claim.{TookOnly}
+use Rattle.ends.specs.Ledger.{Reply}
+use Rattle.ends.specs.Sends.{taken-length}
+use Rattle.ends.specs.Short.{short-memory}
+use Rattle.ends.specs.World.{Took, Over, givenIn, givenBy, tookBy, overOf, oversBy}
+
+-- ---- the first that waits has the host's bytes
+
+abbrev pub GivenIs : Option (List ℕ) → List Queued → Type 0
+GivenIs none ws = Unit {0}
+GivenIs (some v) [] = ⊥
+GivenIs (some v) (plain t n x ∷ ws) = ⊥
+GivenIs (some v) (waits e t n x p ∷ ws) = p ≡ v
+GivenIs (some v) (sealed e t n x m p ∷ ws) = ⊥
+
+-- more behind it
+given-longer : (o : Option (List ℕ)) (ws more : List Queued) → GivenIs o ws → GivenIs o (ws ++ more)
+given-longer none ws more g = tt
+given-longer (some v) [] more g = absurd g
+given-longer (some v) (plain t n x ∷ ws) more g = g
+given-longer (some v) (waits e t n x p ∷ ws) more g = g
+given-longer (some v) (sealed e t n x m p ∷ ws) more g = g
+
+given-behind : (o : Option (List ℕ)) (rs us : List Queued) → Behind rs us → GivenIs o (waitingOf rs) → GivenIs o (waitingOf us)
+given-behind o rs us b g =
+    subst (GivenIs o) (sym (ap waitingOf (b .all) ∙ waiting-append rs (b .more))) (given-longer o (waitingOf rs) (waitingOf (b .more)) g)
+
+-- the memory means datagrams of which that holds
+pub record Given (s : Sending) (q : List ℕ) (o : Option (List ℕ)) : Type 0 where
+  pub ds : List (List Queued)
+  pub holds : Holds s q ds
+  pub is : GivenIs o (waitingOf (flat ds))
+
+-- ---- through every call
+
+sealed-zero : (a : SealAnswer) → eqb (sealing.refusal a) 0 ≡ isSealed a
+sealed-zero replied.Done = refl
+sealed-zero replied.OutOfRange = refl
+sealed-zero replied.NoQuestion = refl
+
+abbrev endOf : Stores → call.End
+endOf w = record { state = w .state; queue = w .queue; flight = w .flight; kept = w .kept }
+
+-- the host's writing takes place where a record waits and the length is its part's
+module _ (s : Sending) (q : List ℕ) (ds : List (List Queued)) (h : Holds s q ds) (v : List ℕ) where
+  abbrev putDs : List (List Queued)
+  putDs = afterPut (isPut s (length v) (length q)) v ds
+
+  none-put : waitingOf (flat ds) ≡ [] → (o : Option (List ℕ)) → GivenIs o (waitingOf (flat ds)) → GivenIs (givenIn (questionOf s .question) v o) (waitingOf (flat putDs))
+  none-put z o g =
+      subst (λ (r : Question). GivenIs (givenIn (r .question) v o) (waitingOf (flat putDs))) (sym (question-none s q ds h z))
+      (by-test (λ (us : List (List Queued)). GivenIs o (waitingOf (flat us))) (λ y. absurd (false≢true (sym (not-put s q ds h z v) ∙ y))) (λ y. g))
+
+  one-put : (e t n : ℕ) (x p : List ℕ) (us : List Queued) → waitingOf (flat ds) ≡ waits e t n x p ∷ us → (o : Option (List ℕ)) → GivenIs o (waitingOf (flat ds))
+      → GivenIs (givenIn (questionOf s .question) v o) (waitingOf (flat putDs))
+  one-put e t n x p us y o g =
+      subst (λ (r : Question). GivenIs (givenIn (r .question) v o) (waitingOf (flat putDs))) (sym (question-shows s q ds h e t n x p us y))
+      (by-both (λ (a : Option (List ℕ)) (ws : List (List Queued)). GivenIs a (waitingOf (flat ws))) (put-test s q ds h e t n x p us y v)
+      (λ z. subst (GivenIs (some v)) (sym (ap waitingOf (flat-first (putWith v) ds) ∙ waiting-put v (flat ds) (waits e t n x p) us y)) refl) (λ z. g))
+
+  pub given-put : (o : Option (List ℕ)) → GivenIs o (waitingOf (flat ds)) → GivenIs (givenIn (questionOf s .question) v o) (waitingOf (flat putDs))
+  given-put o g = waiting-cases (flat ds) (waitingOf (flat ds)) refl (λ z. none-put z o g) (λ e t n x p us y z. one-put e t n x p us y o g)
+
+module _ (w : Stores) (o : Option (List ℕ)) (g : Given (w .state) (w .queue) o) where
+  by-call : (c : call.Call) → call.Narrow c → GivenIs o (waitingOf (flat (call.after (endOf w) c (g .ds)))) → Given (call.does (endOf w) c .state) (call.does (endOf w) c .queue) o
+  by-call c n i = record { ds = call.after (endOf w) c (g .ds); holds = call.call-holds (endOf w) c (g .ds) n (g .holds); is = i }
+
+  -- a record taken did not wait
+  take-is : (have : ℕ) (ds : List (List Queued)) → Holds (w .state) (w .queue) ds → GivenIs o (waitingOf (flat ds))
+      → GivenIs o (waitingOf (flat (afterTaken (takeAnswer (w .state) (length (w .queue)) have) ds)))
+  take-is have [] h i = i
+  take-is have (d ∷ ds) h i =
+      by-test (λ (us : List (List Queued)). GivenIs o (waitingOf (flat us)))
+      (λ t. subst (GivenIs o) (waiting-later d (flat ds) (taken-settled (w .state) (w .queue) d ds h have t)) i) (λ t. i)
+
+  pub given-keeps : w .notes .count ≤ 32 → (r : Reply) (c : SendCall) → r ≡ answered w c → ((e : ℕ) (iv : List ℕ) → c ≡ keySend· e iv → e < 65536) → Given (stored w c .state) (stored w c .queue) (givenBy w r c o)
+  given-keeps few r (keySend· e iv) is small = by-call (key e iv) (small e iv refl) (g .is)
+  given-keeps few r (send· e t x) is small =
+      by-call (send e t x) tt (given-behind o _ _ (behind-send (sendAnswer (w .state) (length (w .queue)) e t (length x)) (w .state) e t x (g .ds)) (g .is))
+  given-keeps few r (save· e t x) is small =
+      by-call (save e t x) tt
+      (given-behind o _ _ (behind-send (saveAnswer (w .state) (w .flight) (length (w .queue)) (length (w .kept)) e t (length x)) (w .state) e t x (g .ds)) (g .is))
+  given-keeps few r (message· kind body) is small =
+      by-call (message kind body) tt
+      (by-test (λ (us : List (List Queued)). GivenIs o (waitingOf (flat us)))
+      (λ z. given-behind o _ _ (behind-all 13 kind body 0 (beginning (w .state) (w .flight) (w .queue) (w .kept)) (g .ds)) (g .is)) (λ z. g .is))
+  given-keeps few r beginFlight· is small = by-call begin tt (g .is)
+  given-keeps few r resend· is small =
+      by-call resend tt (given-behind o _ _ (behind-resend (resendAnswer (w .state) (w .flight) (length (w .queue)) (length (w .kept))) (w .state) (w .flight) (w .kept) (w .queue) (g .ds)) (g .is))
+  given-keeps few r (note· e n) is small = by-call begin tt (g .is)
+  given-keeps few r sendAck· is small = by-call (ack (w .notes)) few (given-behind o _ _ (behind-ack (w .state) (w .notes) (w .queue) (g .ds)) (g .is))
+  given-keeps few r (ack· d) is small = by-call (act d) tt (g .is)
+  given-keeps few r (fill· v) is small =
+      subst (λ (q : List ℕ). Given (w .state) q (givenIn (questionOf (w .state) .question) v o)) (sym (written-is (w .state) (w .queue) (g .ds) (g .holds) v))
+      (record {
+        ds = putDs (w .state) (w .queue) (g .ds) (g .holds) v;
+        holds = put-holds (w .state) (w .queue) (g .ds) (g .holds) v;
+        is = given-put (w .state) (w .queue) (g .ds) (g .holds) v o (g .is);
+      })
+  given-keeps few r (sealed· n m) is small =
+      let a : SealAnswer = sealAnswer (w .state) (length (w .queue)) n in
+      let same : eqb (r .number) 0 ≡ isSealed a = ap (λ (k : Reply). eqb (k .number) 0) is ∙ sealed-zero a in
+      record {
+        ds = call.after (endOf w) (reply n m) (g .ds);
+        holds = call.call-holds (endOf w) (reply n m) (g .ds) tt (g .holds);
+        is = by-both (λ (a : Option (List ℕ)) (us : List (List Queued)). GivenIs a (waitingOf (flat us))) (sym same) (λ z. tt) (λ z. g .is);
+      }
+  given-keeps few r (take· b) is small = by-call (take (length b)) tt (take-is (length b) (g .ds) (g .holds) (g .is))
+
+-- ---- so it lies where the question shows
+
+pub given-lies : (s : Sending) (q : List ℕ) (o : Option (List ℕ)) → Given s q o → (ds : List (List Queued)) → Holds s q ds → (a : Option Lent) → LentIs s a (waitingOf (flat ds))
+    → (l : Lent) → a ≡ some l → (v : List ℕ) → o ≡ some v → part (l .place) (l .size) q ≡ v
+given-lies s q o g ds h a i l shown v gave =
+    let given : GivenIs (some v) (waitingOf (flat (g .ds))) = subst (λ (b : Option (List ℕ)). GivenIs b (waitingOf (flat (g .ds)))) gave (g .is) in
+    waiting-cases (flat (g .ds)) (waitingOf (flat (g .ds))) refl (λ z. absurd (subst (GivenIs (some v)) z given))
+    (λ e t n x p us y z.
+    waiting-cases (flat ds) (waitingOf (flat ds)) refl (λ z′. some≢none (sym shown ∙ subst (LentIs s a) z′ i))
+    (λ e′ t′ n′ x′ p′ us′ y′ z′.
+    let is : l ≡ lentFor s e′ t′ n′ x′ = some-inj (sym shown ∙ subst (LentIs s a) z′ i) in
+    let f = names-first s q (g .ds) (g .holds) e t n x p us y in
+    let f′ = names-first s q ds h e′ t′ n′ x′ p′ us′ y′ in
+    ap (λ (m : Lent). part (m .place) (m .size) q) is ∙ ap (λ (k : ℕ). part (partStart s) k q) (sym (f′ .size) ∙ f .size)
+    ∙ part-is s q (g .ds) (g .holds) e t n x p us y ∙ subst (GivenIs (some v)) z given))
+
+-- ---- a take
+
+pub took-only : (s : Sending) (q b : List ℕ)
+    → TookOnly (record { reply = takeReply (takeAnswer s (length q) (length b)); before = b; behind = takeBuffer (takeAnswer s (length q) (length b)) s q b })
+took-only s q b =
+    test-cases (isTaken (takeAnswer s (length q) (length b)))
+    (λ t.
+    let bytes : List ℕ = part (s .queue .first * s .queue .mtu) (frontLen s) q in
+    let told = taken-length s (length q) (length b) t in
+    let fits = takes s (length q) (length b) t in
+    let long : length bytes ≡ frontLen s = simp (length-take, length-drop) (omega (arith, front-fits fits .0)) in
+    let behind : takeBuffer (takeAnswer s (length q) (length b)) s q b ≡ splice 0 bytes b = taken-buffer s q b t in
+    record {
+      long = ap length behind ∙ length-splice 0 bytes b (omega (arith, fits .fits));
+      taken = λ z.
+          subst (λ (a : TakeAnswer). drop (takeReply a .told) (takeBuffer (takeAnswer s (length q) (length b)) s q b) ≡ drop (takeReply a .told) b) (sym told)
+          (ap (drop (frontLen s)) behind ∙ splice-behind 0 bytes b (omega (arith, fits .fits)) (frontLen s) (omega arith));
+      refused = λ ne. absurd (ne (ap (λ (a : TakeAnswer). takeReply a .number) told));
+    })
+    (λ t. let same = kept-buffer (takeAnswer s (length q) (length b)) t s q b in record { long = ap length same; taken = λ z. ap (drop (takeReply (takeAnswer s (length q) (length b)) .told)) same; refused = λ ne. same })
+  where
+    taken-buffer : (s : Sending) (q b : List ℕ) → isTaken (takeAnswer s (length q) (length b)) ≡ true
+        → takeBuffer (takeAnswer s (length q) (length b)) s q b ≡ splice 0 (part (s .queue .first * s .queue .mtu) (frontLen s) q) b
+    taken-buffer s q b t = unfold takeBuffer in (if-true _ _ t)
+
+-- in the log of takes
+more-took : (t : Took) (ts : List Took) → TookOnly t → ((u : Took) → Mem u ts → TookOnly u) → (u : Took) → Mem u (t ∷ ts) → TookOnly u
+more-took t ts new old u m = mem-by m (λ (p : u ≡ t). subst TookOnly (sym p) new) (λ o. old u o)
+
+pub took-all : (w : Stores) (c : SendCall) (ts : List Took) → ((u : Took) → Mem u ts → TookOnly u) → (u : Took) → Mem u (tookBy w c ts) → TookOnly u
+took-all w (keySend· e iv) ts old = old
+took-all w (send· e t x) ts old = old
+took-all w (save· e t x) ts old = old
+took-all w (message· kind body) ts old = old
+took-all w beginFlight· ts old = old
+took-all w resend· ts old = old
+took-all w (note· e n) ts old = old
+took-all w sendAck· ts old = old
+took-all w (ack· d) ts old = old
+took-all w (fill· v) ts old = old
+took-all w (sealed· n m) ts old = old
+took-all w (take· b) ts old = more-took _ ts (took-only (w .state) (w .queue) b) old
+
+-- ---- memory that is too short
+
+abbrev kindOf : SendCall → ℕ
+kindOf (keySend· e iv) = 1
+kindOf (send· e t x) = 1
+kindOf (save· e t x) = 1
+kindOf (message· kind body) = 1
+kindOf beginFlight· = 1
+kindOf resend· = 1
+kindOf (note· e n) = 1
+kindOf sendAck· = 1
+kindOf (ack· d) = 1
+kindOf (fill· v) = 0
+kindOf (sealed· n m) = 1
+kindOf (take· b) = 1
+
+abbrev OverKept : Over → Type 0
+OverKept o = (o .queue′ ≡ o .queue) × (o .kept′ ≡ o .kept)
+
+more-over : (w : Stores) (q k : List ℕ) (c : SendCall) (os : List Over) → Short (w .state .queue .mtu) (w .state .queue .limit) q k c → ((v : List ℕ) → c ≡ fill· v → ⊥)
+    → ((o : Over) → Mem o os → OverKept o) → (o : Over) → Mem o (overOf w q k c ∷ os) → OverKept o
+more-over w q k c os h own old o m = mem-by m (λ (p : o ≡ overOf w q k c). subst OverKept (sym p) (short-memory w q k c h own)) (λ n. old o n)
+
+-- a call is none of the host's own writings
+not-fill : {c : SendCall} (n : ℕ) → kindOf c ≡ n → (n ≡ 0 → ⊥) → (v : List ℕ) → c ≡ fill· v → ⊥
+not-fill n is ne v p = ne (sym is ∙ ap kindOf p)
+
+pub over-all : (w : Stores) (q k : List ℕ) (c : SendCall) (os : List Over) → Short (w .state .queue .mtu) (w .state .queue .limit) q k c → ((o : Over) → Mem o os → OverKept o)
+    → (o : Over) → Mem o (oversBy w q k c os) → OverKept o
+over-all w q k (keySend· e iv) os h old = absurd h
+over-all w q k (send· e t x) os h old = more-over w q k (send· e t x) os h (not-fill 1 refl (λ z. omega arith)) old
+over-all w q k (save· e t x) os h old = more-over w q k (save· e t x) os h (not-fill 1 refl (λ z. omega arith)) old
+over-all w q k (message· kind body) os h old = more-over w q k (message· kind body) os h (not-fill 1 refl (λ z. omega arith)) old
+over-all w q k beginFlight· os h old = absurd h
+over-all w q k resend· os h old = more-over w q k resend· os h (not-fill 1 refl (λ z. omega arith)) old
+over-all w q k (note· e n) os h old = absurd h
+over-all w q k sendAck· os h old = more-over w q k sendAck· os h (not-fill 1 refl (λ z. omega arith)) old
+over-all w q k (ack· d) os h old = absurd h
+over-all w q k (fill· v) os h old = old
+over-all w q k (sealed· n m) os h old = more-over w q k (sealed· n m) os h (not-fill 1 refl (λ z. omega arith)) old
+over-all w q k (take· b) os h old = more-over w q k (take· b) os h (not-fill 1 refl (λ z. omega arith)) old
