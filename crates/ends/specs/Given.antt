@@ -1,15 +1,14 @@
 -- What the host wrote into the part lent for a sealing lies there until its reply, and a take changes the host's buffer by the datagram alone. Assumes
 -- nothing.
 use Prim.Native.Nat.{ℕ, _+_, _*_, _<_, _≤_}
-use borrow.Author.Tests.{eqb-true}
 use lib.Dec.{eqb}
 use lib.ListN.{length, drop, length-take, length-drop}
-use mathlib.Core.Bool.{Bool, true, false, true≢false, false≢true}
+use mathlib.Core.Bool.{true, false, false≢true}
 use mathlib.Core.List.{List, [], _∷_, _++_, List·Memᴰ as Mem}
 use mathlib.Core.Option.{Option, none, some}
 use mathlib.Core.Path.{_≡_, refl, sym, ap, subst, _∙_}
 use native.Mathlib.Omega.{arith}
-use Rattle.base.specs.Choose.{choose, if-true, if-false, by-test, test-cases}
+use Rattle.base.specs.Choose.{if-true, by-test, test-cases}
 use Rattle.base.specs.Parts.{part, splice, length-splice}
 use Rattle.outgoing.specs.declared.Sending.{Sending}
 use Rattle.sealing.specs.declared.Question.{Question}
@@ -25,8 +24,8 @@ use Rattle.flight.specs.Save.{saveAnswer}
 use Rattle.messages.specs.Message.{beginning}
 use Rattle.resend.specs.Tests.{resendAnswer}
 use Rattle.waiting.specs.Calls as call
-use Rattle.waiting.specs.Calls.Call.{key, send, save, message, begin, put, reply, take, resend, act, ack}
-use Rattle.waiting.specs.First.{putWith, firstIn, flat-first}
+use Rattle.waiting.specs.Calls.Call.{key, send, save, message, begin, reply, take, resend, act, ack}
+use Rattle.waiting.specs.First.{putWith, flat-first}
 use Rattle.waiting.specs.Lists.{waiting-append}
 use Rattle.waiting.specs.Oldest.{names-first, question-shows, question-none, waiting-put, waiting-later}
 use Rattle.waiting.specs.Pieces.{Behind, behind-send, behind-all}

@@ -14,6 +14,7 @@ pub mod Resends
 pub mod Sends
 pub mod Width
 pub mod Short
+pub mod Starting
 pub mod Matches
 pub mod Matching
 pub mod Single

@@ -7,11 +7,11 @@ use mathlib.Core.Logic.{⊎-elim}
 use mathlib.Core.Option.{Option, none, some}
 use mathlib.Core.Path.{_≡_, refl, sym, ap, subst, _∙_}
 use native.Mathlib.Omega.{arith}
-use borrow.Author.Tests.{le-leb}
 use Rattle.waiting.specs.Fresh.{fresh-holds}
 use Rattle.queue.specs.Queue.{isSetting}
+use Rattle.ends.specs.Starting.{ranges-setting}
 use Rattle.ends.specs.Given.{Given, given-keeps, given-lies, took-all, over-all}
-use Rattle.base.specs.Choose.{by-test, both-true}
+use Rattle.base.specs.Choose.{by-test}
 use Rattle.opening_reply.specs.declared.Opening.{Opening}
 use Rattle.opening_reply.specs.Opening.{shownBy}
 use Rattle.receiving.specs.declared.Receiving.{Receiving}
@@ -131,8 +131,7 @@ handed-on sealed i (openOver· p d) e h m = m
 
 -- the program's range is 01's
 in-range : (s : Setting) → Startable s → isSetting (s .mtu) (s .limit) ≡ true
-unfolding isSetting
-in-range s o = both-true (le-leb _ _ (o .low)) ∙ both-true (le-leb _ _ (o .high)) ∙ both-true (le-leb _ _ (o .some)) ∙ le-leb _ _ (o .most)
+in-range s o = ranges-setting (s .mtu) (s .limit) (record { low = o .low; high = o .high; some = o .some; most = o .most })
 
 fresh-width : (mtu limit : ℕ) → (freshSending mtu limit .queue .mtu ≡ mtu) × (freshSending mtu limit .queue .limit ≡ limit)
 unfolding freshSending

@@ -1,7 +1,6 @@
 -- What the account sends again: each saved record that is not acknowledged, once, in order, with the epoch, type and content that the host gave when
 -- it was saved. Assumes nothing.
 use Prim.Native.Nat.{ℕ}
-use mathlib.Core.Bool.{Bool, true, false}
 use mathlib.Core.List.{List, [], _∷_, _++_, append-assoc, append-nil}
 use mathlib.Core.Path.{_≡_, refl, sym, ap, _∙_}
 use Rattle.base.specs.Choose.{choose, if-true, if-false, test-cases}
