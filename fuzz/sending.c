@@ -3,7 +3,7 @@
 
 #include "sending.h"
 
-enum { WORDS = 59, QUEUE = SLOTS * LONGEST_MTU + 100, CONTENT = 17000, BUFFER = 2000 };
+enum { WORDS = 39, QUEUE = SLOTS * LONGEST_MTU + 100, CONTENT = 17000, BUFFER = 2000 };
 
 Lent queue, content;
 LinkSending *s, before;
@@ -26,8 +26,8 @@ static LinkSending plain(const LinkSending *x)
     p.word[W_MESSAGE] %= 65536;
     for (int i = W_LENGTHS; i < W_IVS; i++)
         p.word[i] %= 65536;
-    for (int i = W_IVS; i < WORDS; i++)
-        p.word[i] %= 256;
+    for (int i = W_IVS; i < WORDS; i += 2) /* an IV's first four bytes; the next word has the other eight */
+        p.word[i] %= 1ull << 32;
     return p;
 }
 

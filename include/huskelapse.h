@@ -101,7 +101,7 @@ LinkReading link_opened(LinkReceiving *s, uint8_t opened, size_t length, const u
 
 /* The sending side: settings, the queue's lengths, the oldest sealing that waits, epochs with their IVs and next numbers. */
 typedef struct {
-    uint64_t word[59];
+    uint64_t word[39];
 } LinkSending;
 
 enum {

@@ -28,8 +28,8 @@ PLACED(LinkReading, header_len, 24, 8);
 PLACED(LinkReading, length, 32, 8);
 PLACED(LinkReading, nonce, 40, 12);
 
-SIZED(LinkSending, 59 * 8, 8);
-PLACED(LinkSending, word, 0, 59 * 8);
+SIZED(LinkSending, 39 * 8, 8);
+PLACED(LinkSending, word, 0, 39 * 8);
 
 SIZED(LinkSealing, 56, 8);
 PLACED(LinkSealing, kind, 0, 1);

@@ -1,7 +1,7 @@
 //! The C interface as include/huskelapse.h declares it.
 
 pub const RECEIVING_WORDS: usize = 39;
-pub const SENDING_WORDS: usize = 59;
+pub const SENDING_WORDS: usize = 39;
 pub const FLIGHT_WORDS: usize = 73;
 pub const FLIGHT_NUMBERS: usize = 384;
 pub const NOTES: usize = 32;

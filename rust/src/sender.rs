@@ -115,7 +115,7 @@ use crate::{ffi, Cipher, Refusal};
 /// The state is private:
 ///
 /// ```compile_fail,E0451
-/// let sender = huskelapse::Sender { state: [0; 59], ..huskelapse::Sender::new(600, 2).unwrap() };
+/// let sender = huskelapse::Sender { state: [0; 39], ..huskelapse::Sender::new(600, 2).unwrap() };
 /// ```
 pub struct Sender<M = Vec<u8>> {
     state: [u64; ffi::SENDING_WORDS],

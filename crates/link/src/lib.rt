@@ -95,14 +95,14 @@ pub extern "C" fn link_opened(
 // ---- sending
 
 #[no_mangle]
-pub extern "C" fn link_sending(w: &mut [u64; 59], mtu: usize, limit: usize) -> u8
+pub extern "C" fn link_sending(w: &mut [u64; send_words::WORDS], mtu: usize, limit: usize) -> u8
     ensures { λ r. ⌜ sends.FreshCall r (now (w .exit)) mtu limit ⌝ }
 {
     link_sending::fresh(w, mtu, limit)
 }
 
 #[no_mangle]
-pub extern "C" fn link_key_send(w: &mut [u64; 59], epoch: u16, iv: &[u8; 12]) -> u8
+pub extern "C" fn link_key_send(w: &mut [u64; send_words::WORDS], epoch: u16, iv: &[u8; 12]) -> u8
     ensures { λ r. ⌜ sends.KeySendCall r (now (w .exit)) (now (w .entry)) epoch (now (iv .entry)) ⌝ }
 {
     link_sending::key_send(w, epoch, iv)
@@ -110,7 +110,7 @@ pub extern "C" fn link_key_send(w: &mut [u64; 59], epoch: u16, iv: &[u8; 12]) ->
 
 #[no_mangle]
 pub extern "C" fn link_send(
-    w: &mut [u64; 59],
+    w: &mut [u64; send_words::WORDS],
     epoch: u16,
     content_type: u8,
     content: &[u8],
@@ -122,7 +122,7 @@ pub extern "C" fn link_send(
 }
 
 #[no_mangle]
-pub extern "C" fn link_sealing(w: &[u64; 59]) -> LinkSealing
+pub extern "C" fn link_sealing(w: &[u64; send_words::WORDS]) -> LinkSealing
     ensures { λ r. ⌜ sends.SealingCall r (now (w .entry)) ⌝ }
 {
     link_sending::sealing(w)
@@ -130,7 +130,7 @@ pub extern "C" fn link_sealing(w: &[u64; 59]) -> LinkSealing
 
 #[no_mangle]
 pub extern "C" fn link_sealed(
-    w: &mut [u64; 59],
+    w: &mut [u64; send_words::WORDS],
     length: usize,
     mask_0: u8,
     mask_1: u8,
@@ -142,14 +142,18 @@ pub extern "C" fn link_sealed(
 }
 
 #[no_mangle]
-pub extern "C" fn link_take(w: &mut [u64; 59], buffer: &mut [u8], queue: &[u8]) -> LinkTake
+pub extern "C" fn link_take(
+    w: &mut [u64; send_words::WORDS],
+    buffer: &mut [u8],
+    queue: &[u8],
+) -> LinkTake
     ensures { λ r. ⌜ sends.TakeCall r (now (w .exit)) (now (w .entry)) (now (buffer .exit)) (now (buffer .entry)) (now (queue .entry)) ⌝ }
 {
     link_sending::take(w, buffer, queue)
 }
 
 #[no_mangle]
-pub extern "C" fn link_take_in_place(w: &mut [u64; 59], queue: &[u8]) -> LinkPart
+pub extern "C" fn link_take_in_place(w: &mut [u64; send_words::WORDS], queue: &[u8]) -> LinkPart
     ensures { λ r. ⌜ sends.TakeInPlaceCall r (now (w .exit)) (now (w .entry)) (now (queue .entry)) ⌝ }
 {
     link_sending::take_in_place(w, queue)
@@ -158,14 +162,14 @@ pub extern "C" fn link_take_in_place(w: &mut [u64; 59], queue: &[u8]) -> LinkPar
 // ---- saved records and handshake messages
 
 #[no_mangle]
-pub extern "C" fn link_flight(f: &mut [u64; 73], numbers: &mut [u64; 384])
+pub extern "C" fn link_flight(f: &mut [u64; flight_words::WORDS], numbers: &mut [u64; 384])
     ensures { λ _. ⌜ flights.FreshCall (now (f .exit)) (now (numbers .exit)) ⌝ }
 {
     link_flight::fresh(f, numbers)
 }
 
 #[no_mangle]
-pub extern "C" fn link_begin_flight(f: &mut [u64; 73]) -> u8
+pub extern "C" fn link_begin_flight(f: &mut [u64; flight_words::WORDS]) -> u8
     ensures { λ r. ⌜ flights.BeginFlightCall r (now (f .exit)) (now (f .entry)) ⌝ }
 {
     link_flight::begin_flight(f)
@@ -173,8 +177,8 @@ pub extern "C" fn link_begin_flight(f: &mut [u64; 73]) -> u8
 
 #[no_mangle]
 pub extern "C" fn link_send_saved(
-    w: &mut [u64; 59],
-    f: &mut [u64; 73],
+    w: &mut [u64; send_words::WORDS],
+    f: &mut [u64; flight_words::WORDS],
     numbers: &mut [u64; 384],
     epoch: u16,
     content_type: u8,
@@ -189,8 +193,8 @@ pub extern "C" fn link_send_saved(
 
 #[no_mangle]
 pub extern "C" fn link_create_handshake(
-    w: &mut [u64; 59],
-    f: &mut [u64; 73],
+    w: &mut [u64; send_words::WORDS],
+    f: &mut [u64; flight_words::WORDS],
     numbers: &mut [u64; 384],
     kind: u8,
     body: &[u8],
@@ -206,8 +210,8 @@ pub extern "C" fn link_create_handshake(
 
 #[no_mangle]
 pub extern "C" fn link_resend(
-    w: &mut [u64; 59],
-    f: &mut [u64; 73],
+    w: &mut [u64; send_words::WORDS],
+    f: &mut [u64; flight_words::WORDS],
     numbers: &mut [u64; 384],
     kept: &[u8],
     queue: &mut [u8],
@@ -219,7 +223,7 @@ pub extern "C" fn link_resend(
 
 #[no_mangle]
 pub extern "C" fn link_process_ack(
-    f: &mut [u64; 73],
+    f: &mut [u64; flight_words::WORDS],
     numbers: &mut [u64; 384],
     content: &[u8],
 ) -> u8
@@ -243,7 +247,7 @@ pub extern "C" fn link_note(
 
 #[no_mangle]
 pub extern "C" fn link_send_ack(
-    w: &mut [u64; 59],
+    w: &mut [u64; send_words::WORDS],
     count: &mut [u64; 1],
     epochs: &mut [u64; 32],
     numbers: &mut [u64; 32],

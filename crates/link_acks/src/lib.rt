@@ -63,8 +63,8 @@ fn notes_of(count: [u64; 1], epochs: [u64; 32], numbers: [u64; 32]) -> Notes
 
 // Sends the flight again, but for what is acknowledged, wholly or not at all.
 pub fn resend(
-    w: &mut [u64; 59],
-    f: &mut [u64; 73],
+    w: &mut [u64; send_words::WORDS],
+    f: &mut [u64; flight_words::WORDS],
     numbers: &mut [u64; 384],
     kept: &[u8],
     queue: &mut [u8],
@@ -89,7 +89,11 @@ pub fn resend(
 }
 
 // Acts on an ACK with this content: marks the saved records that it names; the flight empties if those of epoch 2 are all marked.
-pub fn process_ack(f: &mut [u64; 73], numbers: &mut [u64; 384], content: &[u8]) -> u8
+pub fn process_ack(
+    f: &mut [u64; flight_words::WORDS],
+    numbers: &mut [u64; 384],
+    content: &[u8],
+) -> u8
     ensures { λ r. ⌜ ProcessAckCall r (now (f .exit)) (now (f .entry)) (now (numbers .exit)) (now (numbers .entry)) (now (content .entry)) ⌝ }
 {
     if flight_words::is_flat(f) {
@@ -130,7 +134,7 @@ pub fn note(
 
 // Sends the ACK of all that is noted, if anything is, wholly or not at all; then nothing is noted.
 pub fn send_ack(
-    w: &mut [u64; 59],
+    w: &mut [u64; send_words::WORDS],
     count: &mut [u64; 1],
     epochs: &mut [u64; 32],
     numbers: &mut [u64; 32],

@@ -18,7 +18,7 @@ use Rattle.flight.specs.Save.{saveState, saveQueue, saveKept}
 use Rattle.messages.specs.Message.{messageAnswer, messageState, messageQueue, messageKept}
 use Rattle.send_words.specs.Words.{stateOf, isFlat}
 use Rattle.send_words.specs.Laws as sent
-use Rattle.flight_words.specs.Words.{entriesOf, flightOf, flatTo}
+use Rattle.flight_words.specs.Words.{words, saved-at, entriesOf, flightOf, flatTo}
 use Rattle.flight_words.specs.Laws.{begins}
 use Rattle.flight_words.specs.Laws as flights
 
@@ -78,7 +78,7 @@ saves r v w g f m n x k p q a s t z e =
       t .1 ∙ sym q,
     )
 
-pub begins-to : (f n : List ℕ) → length f ≡ 73 → flatTo f 12 ≡ true → leb (flightOf f n .saved) 12 ≡ true → Begins 0 (set f 72 0) f n
+pub begins-to : (f n : List ℕ) → length f ≡ words → flatTo f 12 ≡ true → leb (flightOf f n .saved) 12 ≡ true → Begins 0 (set f saved-at 0) f n
 unfolding begun
 begins-to f n h p l =
     let b = begins f n 0 h in (
@@ -95,6 +95,6 @@ begins-not f n p l = (
   refl,
 )
 
-pub starts : (flightOf (replicate 73 0) (replicate 384 0) ≡ freshFlight) × (flatTo (replicate 73 0) 12 ≡ true)
+pub starts : (flightOf (replicate words 0) (replicate 384 0) ≡ freshFlight) × (flatTo (replicate words 0) 12 ≡ true)
 unfolding entriesOf flatTo freshFlight choose
 starts = (refl, refl)

@@ -1,8 +1,9 @@
-// The calls that save records in the flight, as a host makes them. Beside the words of the sending side the host keeps 73 words of the
+// The calls that save records in the flight, as a host makes them. Beside the words of the sending side the host keeps the words of the
 // flight, its table of 384 numbers, and a buffer for the saved contents.
 ghost use mathlib.Core.Path.{_≡_};
 ghost use Rattle.outgoing.specs.State.{refusal};
 ghost use Rattle.link_flight.specs.Calls.{FreshCall, BeginFlightCall, SendSavedCall, CreateHandshakeCall};
+use flight_words::SAVED;
 use outgoing::SendAnswer;
 
 fn answer_of(a: SendAnswer) -> u8
@@ -22,21 +23,21 @@ fn answer_of(a: SendAnswer) -> u8
 }
 
 // Nothing saved, whatever stood in the words.
-pub fn fresh(f: &mut [u64; 73], numbers: &mut [u64; 384])
+pub fn fresh(f: &mut [u64; flight_words::WORDS], numbers: &mut [u64; 384])
     ensures { λ _. ⌜ FreshCall (now (f .exit)) (now (numbers .exit)) ⌝ }
 {
-    *f = [0u64; 73];
+    *f = [0u64; flight_words::WORDS];
     *numbers = [0u64; 384];
 }
 
 // A new flight: it is empty.
-pub fn begin_flight(f: &mut [u64; 73]) -> u8
+pub fn begin_flight(f: &mut [u64; flight_words::WORDS]) -> u8
     ensures { λ r. ⌜ BeginFlightCall r (now (f .exit)) (now (f .entry)) ⌝ }
 {
     flight_words::sized(f);
     if flight_words::is_flat(f) {
-        if f[72] <= 12 {
-            f[72] = 0;
+        if f[SAVED] <= 12 {
+            f[SAVED] = 0;
             return 0;
         }
         return 12;
@@ -46,8 +47,8 @@ pub fn begin_flight(f: &mut [u64; 73]) -> u8
 
 // A record sent and saved.
 pub fn send_saved(
-    w: &mut [u64; 59],
-    f: &mut [u64; 73],
+    w: &mut [u64; send_words::WORDS],
+    f: &mut [u64; flight_words::WORDS],
     numbers: &mut [u64; 384],
     epoch: u16,
     content_type: u8,
@@ -75,8 +76,8 @@ pub fn send_saved(
 
 // A handshake message sent and saved, wholly or not at all.
 pub fn create_handshake(
-    w: &mut [u64; 59],
-    f: &mut [u64; 73],
+    w: &mut [u64; send_words::WORDS],
+    f: &mut [u64; flight_words::WORDS],
     numbers: &mut [u64; 384],
     kind: u8,
     body: &[u8],

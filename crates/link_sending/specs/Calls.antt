@@ -23,10 +23,9 @@ use Rattle.taking.specs.declared.Take.{Take}
 use Rattle.taking.specs.declared.TakeAnswer.{TakeAnswer}
 use Rattle.taking.specs.declared.TakeAnswer.the-variants as take
 use Rattle.send_words.specs.Words.{stateOf, isFlat}
-use Rattle.send_words.specs.Laws.{Kept}
+use Rattle.send_words.specs.Laws.{Kept, slot-length}
 use Rattle.send_words.specs.Partly.{Partly}
 use Rattle.queue.specs.Queue.{ready}
-use Rattle.send_steps.specs.Steps.{length-at}
 use Rattle.take_steps.specs.Front.{frontStart}
 use Rattle.outgoing.specs.declared.SendAnswer.{SendAnswer}
 use Rattle.outgoing.specs.Send.{sendAnswer, sendState, sendMemory, laidState, laidMemory}
@@ -204,7 +203,7 @@ never-short w room =
     (λ x. by-test (λ (a : TakeAnswer). takes.refusal a ≡ 16 → ⊥)
     (λ f z.
     let i = ready {q = stateOf w .queue} r .range in
-    omega (arith, ltb-true 65535 (takes.frontLen (stateOf w)) f, length-at w (stateOf w .queue .first) (omega (arith, i .first, i .limit))))
+    omega (arith, ltb-true 65535 (takes.frontLen (stateOf w)) f, slot-length w (stateOf w .queue .first) (omega (arith, i .first, i .limit))))
     (λ f z. omega arith)))
     (λ l z. omega arith)))
     (λ r z. omega arith)

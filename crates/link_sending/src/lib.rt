@@ -1,4 +1,4 @@
-// The sending side of a link as a host calls it. The state is 59 words that the host keeps and lends, and the queue a buffer of its own.
+// The sending side of a link as a host calls it. The state is words that the host keeps and lends, and the queue a buffer of its own.
 // Whatever stands in the words, a call ends with an answer.
 ghost use mathlib.Core.Path.{_≡_};
 ghost use Rattle.send_keys.specs.Keys as keying;
@@ -24,6 +24,7 @@ use outgoing::Sending;
 use sealing::SealAnswer;
 use sealing::SealQuestion;
 use send_keys::KeyAnswer;
+use send_words::WORDS;
 use taking::TakeAnswer;
 
 // The sealing that is asked for, by kind: 0 refused by 12, 1 none waits, 2 a record's full epoch and number, nonce, header with its
@@ -190,7 +191,7 @@ fn flat_part(a: TakeAnswer, start: usize) -> LinkPart
 // ---- the calls
 
 // Nothing keyed, nothing queued, whatever stood in the words. MTU 576 to 1,500, at most 1 to 16 datagrams.
-pub fn fresh(w: &mut [u64; 59], mtu: usize, limit: usize) -> u8
+pub fn fresh(w: &mut [u64; WORDS], mtu: usize, limit: usize) -> u8
     ensures { λ r. ⌜ FreshCall r (now (w .exit)) mtu limit ⌝ }
 {
     let k = Sending::fresh(mtu, limit);
@@ -200,7 +201,7 @@ pub fn fresh(w: &mut [u64; 59], mtu: usize, limit: usize) -> u8
 }
 
 // Keys an epoch to send, with its IV.
-pub fn key_send(w: &mut [u64; 59], epoch: u16, iv: &[u8; 12]) -> u8
+pub fn key_send(w: &mut [u64; WORDS], epoch: u16, iv: &[u8; 12]) -> u8
     ensures { λ r. ⌜ KeySendCall r (now (w .exit)) (now (w .entry)) epoch (now (iv .entry)) ⌝ }
 {
     if send_words::is_flat(w) {
@@ -215,7 +216,13 @@ pub fn key_send(w: &mut [u64; 59], epoch: u16, iv: &[u8; 12]) -> u8
 }
 
 // A record that is not saved: in plaintext in epoch 0, else to be sealed.
-pub fn send(w: &mut [u64; 59], epoch: u16, content_type: u8, content: &[u8], queue: &mut [u8]) -> u8
+pub fn send(
+    w: &mut [u64; WORDS],
+    epoch: u16,
+    content_type: u8,
+    content: &[u8],
+    queue: &mut [u8],
+) -> u8
     ensures { λ r. ⌜ SendCall r (now (w .exit)) (now (w .entry)) epoch «content_type» (now (content .entry)) (now (queue .exit)) (now (queue .entry)) ⌝ }
 {
     if send_words::is_flat(w) {
@@ -232,7 +239,7 @@ pub fn send(w: &mut [u64; 59], epoch: u16, content_type: u8, content: &[u8], que
 }
 
 // The oldest sealing that waits.
-pub fn sealing(w: &[u64; 59]) -> LinkSealing
+pub fn sealing(w: &[u64; WORDS]) -> LinkSealing
     ensures { λ r. ⌜ SealingCall r (now (w .entry)) ⌝ }
 {
     if send_words::is_flat(w) {
@@ -246,7 +253,7 @@ pub fn sealing(w: &[u64; 59]) -> LinkSealing
 }
 
 // The host has sealed so many bytes in place, and this is the mask of the two number bytes.
-pub fn sealed(w: &mut [u64; 59], length: usize, mask_0: u8, mask_1: u8, queue: &mut [u8]) -> u8
+pub fn sealed(w: &mut [u64; WORDS], length: usize, mask_0: u8, mask_1: u8, queue: &mut [u8]) -> u8
     ensures { λ r. ⌜ SealedCall r (now (w .exit)) (now (w .entry)) length «mask_0» «mask_1» (now (queue .exit)) (now (queue .entry)) ⌝ }
 {
     if send_words::is_flat(w) {
@@ -256,7 +263,7 @@ pub fn sealed(w: &mut [u64; 59], length: usize, mask_0: u8, mask_1: u8, queue: &
 }
 
 // The front datagram, if it is wholly sealed, copied to the start of a buffer.
-pub fn take(w: &mut [u64; 59], buffer: &mut [u8], queue: &[u8]) -> LinkTake
+pub fn take(w: &mut [u64; WORDS], buffer: &mut [u8], queue: &[u8]) -> LinkTake
     ensures { λ r. ⌜ TakeCall r (now (w .exit)) (now (w .entry)) (now (buffer .exit)) (now (buffer .entry)) (now (queue .entry)) ⌝ }
 {
     if send_words::is_flat(w) {
@@ -266,7 +273,7 @@ pub fn take(w: &mut [u64; 59], buffer: &mut [u8], queue: &[u8]) -> LinkTake
 }
 
 // The front datagram, if it is wholly sealed, taken where it lies in the queue. A length of 16 bits fits a buffer of 65,535.
-pub fn take_in_place(w: &mut [u64; 59], queue: &[u8]) -> LinkPart
+pub fn take_in_place(w: &mut [u64; WORDS], queue: &[u8]) -> LinkPart
     ensures { λ r. ⌜ TakeInPlaceCall r (now (w .exit)) (now (w .entry)) (now (queue .entry)) ⌝ }
 {
     if send_words::is_flat(w) {

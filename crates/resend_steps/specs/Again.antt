@@ -9,9 +9,8 @@ use Rattle.outgoing.specs.declared.SendAnswer.{SendAnswer}
 use Rattle.outgoing.specs.State.{isDone}
 use Rattle.outgoing.specs.Send.{sendAnswer, sendState, sendMemory, laidState, laidMemory}
 use Rattle.flight.specs.declared.Entry.{Entry}
-use Rattle.words.specs.Fields.{firstOf}
-use Rattle.send_words.specs.Words.{lengthsOf, ivFrom, stateOf, isFlat}
-use Rattle.send_words.specs.Laws.{by-words}
+use Rattle.words.specs.Fields.{firstOf, by-words}
+use Rattle.send_words.specs.Words.{words, closed-at, lowsFrom, stateOf, isFlat}
 use Rattle.send_words.specs.Partly.{Partly}
 use Rattle.resend.specs.Tests.{closedState}
 
@@ -33,6 +32,6 @@ module _ {a : SendAnswer} {e : Entry} (x w q : List ℕ) (h : a ≡ sendAnswer (
   sends-nothing d = record { answer = h; state = sym (if-false _ _ d); flat = λ f. f; memory = sym (if-false _ _ d) }
 
 -- one word closes the datagram
-pub closes : (w : List ℕ) → length w ≡ 59 → Partly (closedState (stateOf w)) w (set w 4 1)
-unfolding firstOf lengthsOf ivFrom isFlat closedState
-closes w h = by-words (λ (v : List ℕ). Partly (closedState (stateOf v)) v (set v 4 1)) w h (refl, λ f. both-true refl ∙ both-right _ _ f)
+pub closes : (w : List ℕ) → length w ≡ words → Partly (closedState (stateOf w)) w (set w closed-at 1)
+unfolding firstOf lowsFrom isFlat closedState
+closes w h = by-words words (λ (v : List ℕ). Partly (closedState (stateOf v)) v (set v closed-at 1)) w h (refl, λ f. both-true refl ∙ both-right _ _ f)

@@ -12,17 +12,20 @@ ghost use Rattle.resend_steps.specs.Again.{Sends};
 use flight::Entry;
 use flight::SavedRecords;
 use outgoing::SendAnswer;
+use send_words::CLOSED;
+use send_words::MTU;
+use send_words::WORDS;
 
 // The last datagram closed to further records.
-pub fn close(w: &mut [u64; 59])
+pub fn close(w: &mut [u64; WORDS])
     ensures { λ _. ⌜ Partly (closedState (stateOf (now (w .entry)))) (now (w .entry)) (now (w .exit)) ⌝ }
 {
     send_words::sized(w);
-    w[4] = 1;
+    w[CLOSED] = 1;
 }
 
 // A saved record's content, sent as any other.
-fn send_again(w: &mut [u64; 59], e: Entry, content: &[u8], memory: &mut [u8]) -> SendAnswer
+fn send_again(w: &mut [u64; WORDS], e: Entry, content: &[u8], memory: &mut [u8]) -> SendAnswer
     ensures { λ r. ⌜ Sends r e (now (content .entry)) (now (w .entry)) (now (w .exit)) (now (memory .entry)) (now (memory .exit)) ⌝ }
 {
     let v = send_steps::send_answer(w, memory.len(), e.epoch, e.content_type, content.len());
@@ -37,7 +40,7 @@ fn send_again(w: &mut [u64; 59], e: Entry, content: &[u8], memory: &mut [u8]) ->
 
 // The saved records that are not acknowledged, sent again one after the other.
 pub fn resend_all(
-    w: &mut [u64; 59],
+    w: &mut [u64; WORDS],
     g: SavedRecords,
     numbers: &mut [u64; 384],
     kept: &[u8],
@@ -56,7 +59,7 @@ pub fn resend_all(
             continue;
         }
         let number = send_steps::next_of(w, e.epoch);
-        let content = base::fragment(kept, i * (w[0] as usize), e.length);
+        let content = base::fragment(kept, i * (w[MTU] as usize), e.length);
         let a = send_again(w, e, content, memory);
         h.entries[i] = resend::renew_if(a, e, numbers, i, number);
         i += 1;

@@ -10,9 +10,8 @@ use Rattle.send_keys.specs.declared.SendKeys.{SendKeys}
 use Rattle.send_keys.specs.Keys.{withSealed, sealedUpTo}
 use Rattle.outgoing.specs.declared.Sending.{Sending}
 use Rattle.outgoing.specs.declared.Waiting.{Waiting}
-use Rattle.words.specs.Fields.{firstOf}
-use Rattle.send_words.specs.Words.{lengthsOf, ivFrom, stateOf, isFlat, putWaiting}
-use Rattle.send_words.specs.Laws.{by-words, low-bit}
+use Rattle.words.specs.Fields.{firstOf, by-words, low-bit}
+use Rattle.send_words.specs.Words.{words, handshake-sealed-at, application-sealed-at, lowsFrom, stateOf, isFlat, putWaiting}
 use Rattle.send_words.specs.Partly.{Partly, low-waiting, waiting-back}
 
 -- these keys, and this sealing waits
@@ -29,22 +28,22 @@ withHandshake k y = record { «plaintext_next» = k .«plaintext_next»; handsha
 abbrev withApplication : SendKeys → ℕ → SendKeys
 withApplication k y = record { «plaintext_next» = k .«plaintext_next»; handshake = k .handshake; application = withSealed (k .application) y }
 
-module _ (w : List ℕ) (h : length w ≡ 59) (x : Waiting) (y : ℕ) where
-  handshake-put : stateOf (set (putWaiting x w) 14 y) ≡ with (stateOf w) (withHandshake (stateOf w .keys) y) (low-waiting x)
-  unfolding firstOf lengthsOf ivFrom low-waiting
-  handshake-put = by-words (λ (v : List ℕ). stateOf (set (putWaiting x v) 14 y) ≡ with (stateOf v) (withHandshake (stateOf v .keys) y) (low-waiting x)) w h refl
+module _ (w : List ℕ) (h : length w ≡ words) (x : Waiting) (y : ℕ) where
+  handshake-put : stateOf (set (putWaiting x w) handshake-sealed-at y) ≡ with (stateOf w) (withHandshake (stateOf w .keys) y) (low-waiting x)
+  unfolding firstOf lowsFrom low-waiting
+  handshake-put = by-words words (λ (v : List ℕ). stateOf (set (putWaiting x v) handshake-sealed-at y) ≡ with (stateOf v) (withHandshake (stateOf v .keys) y) (low-waiting x)) w h refl
 
-  application-put : stateOf (set (putWaiting x w) 17 y) ≡ with (stateOf w) (withApplication (stateOf w .keys) y) (low-waiting x)
-  unfolding firstOf lengthsOf ivFrom low-waiting
-  application-put = by-words (λ (v : List ℕ). stateOf (set (putWaiting x v) 17 y) ≡ with (stateOf v) (withApplication (stateOf v .keys) y) (low-waiting x)) w h refl
+  application-put : stateOf (set (putWaiting x w) application-sealed-at y) ≡ with (stateOf w) (withApplication (stateOf w .keys) y) (low-waiting x)
+  unfolding firstOf lowsFrom low-waiting
+  application-put = by-words words (λ (v : List ℕ). stateOf (set (putWaiting x v) application-sealed-at y) ≡ with (stateOf v) (withApplication (stateOf v .keys) y) (low-waiting x)) w h refl
 
-  flat-put : isFlat w ≡ true → (isFlat (set (putWaiting x w) 14 y) ≡ true) × (isFlat (set (putWaiting x w) 17 y) ≡ true)
+  flat-put : isFlat w ≡ true → (isFlat (set (putWaiting x w) handshake-sealed-at y) ≡ true) × (isFlat (set (putWaiting x w) application-sealed-at y) ≡ true)
   unfolding firstOf isFlat
-  flat-put = by-words (λ (v : List ℕ). isFlat v ≡ true → (isFlat (set (putWaiting x v) 14 y) ≡ true) × (isFlat (set (putWaiting x v) 17 y) ≡ true)) w h
+  flat-put = by-words words (λ (v : List ℕ). isFlat v ≡ true → (isFlat (set (putWaiting x v) handshake-sealed-at y) ≡ true) × (isFlat (set (putWaiting x v) application-sealed-at y) ≡ true)) w h
       (λ f. (both-true (both-left _ _ f) ∙ low-bit (x .any), both-true (both-left _ _ f) ∙ low-bit (x .any)))
 
-module _ (w v : List ℕ) (h : length w ≡ 59) (e n : ℕ) (x : Waiting) (p : v ≡ putWaiting x w) (l : x .epoch ≤ 65535) where
-  pub handshake-settles : e ≡ 2 → Partly (settled (stateOf w) e n x) w (set v 14 (n + 1))
+module _ (w v : List ℕ) (h : length w ≡ words) (e n : ℕ) (x : Waiting) (p : v ≡ putWaiting x w) (l : x .epoch ≤ 65535) where
+  pub handshake-settles : e ≡ 2 → Partly (settled (stateOf w) e n x) w (set v handshake-sealed-at (n + 1))
   unfolding sealedUpTo
   handshake-settles g =
       rw p (
@@ -53,7 +52,7 @@ module _ (w v : List ℕ) (h : length w ≡ 59) (e n : ℕ) (x : Waiting) (p : v
         λ f. flat-put w h x (n + 1) f .0,
       )
 
-  pub application-settles : (e ≡ 2 → ⊥) → Partly (settled (stateOf w) e n x) w (set v 17 (n + 1))
+  pub application-settles : (e ≡ 2 → ⊥) → Partly (settled (stateOf w) e n x) w (set v application-sealed-at (n + 1))
   unfolding sealedUpTo
   application-settles g =
       rw p (

@@ -13,21 +13,36 @@ ghost use Rattle.seal_steps.specs.Settles.{settled};
 use outgoing::Waiting;
 use sealing::SealAnswer;
 use sealing::Search;
+use send_words::APPLICATION_SEALED;
+use send_words::COUNT;
+use send_words::FIRST;
+use send_words::HANDSHAKE_SEALED;
+use send_words::LIMIT;
+use send_words::MTU;
+use send_words::SEALING;
+use send_words::SEALING_LENGTH;
+use send_words::SEALING_SLOT;
+use send_words::SEALING_START;
+use send_words::WORDS;
 
 // ---- the tests
 
 // Whether what is kept of the oldest record that waits is in range.
-fn is_held(w: &[u64; 59]) -> bool
+fn is_held(w: &[u64; WORDS]) -> bool
     requires { ⌜ InRange (queueOf (now w)) ⌝ }
     ensures { λ r. ⌜ r ≡ isHeld (stateOf (now (w .entry))) ⌝ }
 {
-    if w[5] == 1 {
-        return sealing::is_span(send_words::waiting_of(w), w[0] as usize, w[1] as usize);
+    if w[SEALING] == 1 {
+        return sealing::is_span(
+            send_words::waiting_of(w),
+            w[MTU] as usize,
+            w[LIMIT] as usize,
+        );
     }
     true
 }
 
-fn seal_answer(w: &[u64; 59], room: usize, length: usize) -> SealAnswer
+fn seal_answer(w: &[u64; WORDS], room: usize, length: usize) -> SealAnswer
     ensures { λ r. ⌜ r ≡ sealAnswer (stateOf (now (w .entry))) room length ⌝ }
 {
     if !send_steps::is_ready(w, room) {
@@ -36,8 +51,8 @@ fn seal_answer(w: &[u64; 59], room: usize, length: usize) -> SealAnswer
     if !is_held(w) {
         return SealAnswer::OutOfRange;
     }
-    if w[5] == 1 {
-        if length == w[8] as usize {
+    if w[SEALING] == 1 {
+        if length == w[SEALING_LENGTH] as usize {
             return SealAnswer::Done;
         }
         return SealAnswer::NoQuestion;
@@ -48,13 +63,13 @@ fn seal_answer(w: &[u64; 59], room: usize, length: usize) -> SealAnswer
 // ---- the next record that waits
 
 // One step of the search.
-fn seek_step(w: &[u64; 59], d: &[u8], c: Search) -> Search
+fn seek_step(w: &[u64; WORDS], d: &[u8], c: Search) -> Search
     requires { ⌜ InRange (queueOf (now w)) ⌝ }
     ensures { λ r. ⌜ r ≡ seekStep (queueOf (now (w .entry))) (now (d .entry)) c ⌝ }
 {
     let nth = c.datagram;
     let offset = c.offset;
-    if w[3] as usize <= nth {
+    if w[COUNT] as usize <= nth {
         return Search {
             done: true,
             datagram: nth,
@@ -62,17 +77,17 @@ fn seek_step(w: &[u64; 59], d: &[u8], c: Search) -> Search
             found: outgoing::no_waiting(),
         };
     }
-    let slot = queue::slot_of(w[2] as usize, w[1] as usize, nth);
+    let slot = queue::slot_of(w[FIRST] as usize, w[LIMIT] as usize, nth);
     let len = send_steps::length_at(w, slot);
     if len <= offset {
         return sealing::go_beyond(c);
     }
-    let x = base::fragment(d, slot * w[0] as usize + offset, len - offset);
+    let x = base::fragment(d, slot * w[MTU] as usize + offset, len - offset);
     sealing::step_of(x, slot, c)
 }
 
 // The first record that waits from where the search is on, in as many steps as sealing::sealed takes.
-fn seek_from(w: &[u64; 59], d: &[u8], from: Search) -> Waiting
+fn seek_from(w: &[u64; WORDS], d: &[u8], from: Search) -> Waiting
     requires { ⌜ InRange (queueOf (now w)) ⌝ }
     ensures { λ r. ⌜ r ≡ seek 2000 (queueOf (now (w .entry))) (now (d .entry)) from ⌝ }
 {
@@ -90,16 +105,20 @@ fn seek_from(w: &[u64; 59], d: &[u8], from: Search) -> Waiting
 }
 
 // Where the search begins: behind the oldest.
-fn behind_oldest(w: &[u64; 59]) -> Search
+fn behind_oldest(w: &[u64; WORDS]) -> Search
     requires { ⌜ Held (stateOf (now w)) ⌝ }
     ensures { λ r. ⌜ r ≡ behindOldest (stateOf (now (w .entry))) ⌝ }
 {
-    let nth = sealing::nth_of(w[2] as usize, w[1] as usize, w[6] as usize);
+    let nth = sealing::nth_of(
+        w[FIRST] as usize,
+        w[LIMIT] as usize,
+        w[SEALING_SLOT] as usize,
+    );
     let found = outgoing::no_waiting();
     Search {
         done: false,
         datagram: nth,
-        offset: w[7] as usize + 5 + w[8] as usize,
+        offset: w[SEALING_START] as usize + 5 + w[SEALING_LENGTH] as usize,
         found: found,
     }
 }
@@ -107,7 +126,7 @@ fn behind_oldest(w: &[u64; 59]) -> Search
 // ---- the reply
 
 // A number of an epoch is sealed, and this sealing waits next.
-fn settle(w: &mut [u64; 59], epoch: u16, number: u64, next: Waiting)
+fn settle(w: &mut [u64; WORDS], epoch: u16, number: u64, next: Waiting)
     requires { ⌜ number < 281474976710655 ⌝ }
     ensures { λ _. ⌜ Partly (settled (stateOf (now (w .entry))) epoch number next) (now (w .entry)) (now (w .exit)) ⌝ }
 {
@@ -115,19 +134,19 @@ fn settle(w: &mut [u64; 59], epoch: u16, number: u64, next: Waiting)
     send_words::put_waiting(w, next);
     let above = number + 1;
     if epoch == 2 {
-        w[14] = above;
+        w[HANDSHAKE_SEALED] = above;
         return;
     }
-    w[17] = above;
+    w[APPLICATION_SEALED] = above;
 }
 
 // The header with the mask on its number, and what waits next.
-fn reply(w: &mut [u64; 59], mask: [u8; 2], memory: &mut [u8])
+fn reply(w: &mut [u64; WORDS], mask: [u8; 2], memory: &mut [u8])
     requires { ⌜ Held (stateOf (now w)) × (stateOf (now w) .queue .limit * stateOf (now w) .queue .mtu ≤ length (now memory)) ⌝ }
     ensures { λ _. ⌜ Partly (afterSealing (stateOf (now (w .entry))) (now (memory .entry))) (now (w .entry)) (now (w .exit)) × (now (memory .exit) ≡ splice (partStart (stateOf (now (w .entry))) - 5) (maskedHeader (stateOf (now (w .entry)) .waiting .epoch) (stateOf (now (w .entry)) .waiting .number) (stateOf (now (w .entry)) .waiting .length) mask) (now (memory .entry))) ⌝ }
 {
     let x = send_words::waiting_of(w);
-    let inner = x.slot * w[0] as usize + x.start + 5;
+    let inner = x.slot * w[MTU] as usize + x.start + 5;
     let from = inner - 5;
     let next = seek_from(w, memory, behind_oldest(w));
     let header = sealing::masked_header(x.epoch, x.number, x.length as u16, mask);
@@ -136,7 +155,7 @@ fn reply(w: &mut [u64; 59], mask: [u8; 2], memory: &mut [u8])
 }
 
 // The host has sealed so many bytes in place, and this is the mask of the two number bytes.
-pub fn sealed(w: &mut [u64; 59], length: usize, mask: [u8; 2], memory: &mut [u8]) -> SealAnswer
+pub fn sealed(w: &mut [u64; WORDS], length: usize, mask: [u8; 2], memory: &mut [u8]) -> SealAnswer
     ensures { λ r. ⌜ (r ≡ sealAnswer (stateOf (now (w .entry))) (lib.ListN.length (now (memory .entry))) length) × Partly (sealedState r (stateOf (now (w .entry))) (now (memory .entry)) .state) (now (w .entry)) (now (w .exit)) × (now (memory .exit) ≡ sealedMemory r (stateOf (now (w .entry))) mask (now (memory .entry))) ⌝ }
 {
     let a = seal_answer(w, memory.len(), length);

@@ -19,9 +19,8 @@ use Rattle.outgoing.specs.declared.Sending.{Sending}
 use Rattle.outgoing.specs.declared.Waiting.{Waiting}
 use Rattle.outgoing.specs.State.{isDone, withKeys}
 use Rattle.outgoing.specs.Send.{spotOf, sendAnswer, waitsBehind, laidState, Clear, clear-short, clear-fits}
-use Rattle.words.specs.Fields.{firstOf}
-use Rattle.send_words.specs.Words.{lengthsOf, ivFrom, stateOf, isFlat, putWaiting}
-use Rattle.send_words.specs.Laws.{by-words, word-low, low-bit}
+use Rattle.words.specs.Fields.{firstOf, by-words, low-bit, low-back}
+use Rattle.send_words.specs.Words.{words, mtu-at, limit-at, first-at, count-at, closed-at, sealing-at, plaintext-next-at, handshake-at, handshake-next-at, handshake-sealed-at, application-at, application-next-at, application-sealed-at, length-at, lowsFrom, stateOf, isFlat, putWaiting}
 use Rattle.send_words.specs.Partly.{Partly, withWaiting, low-waiting, waiting-back}
 use Rattle.send_steps.specs.declared.Verdict.{Verdict}
 
@@ -29,36 +28,15 @@ use Rattle.send_steps.specs.declared.Verdict.{Verdict}
 
 -- the queue but for its lengths
 abbrev pub bareQueue : List ℕ → Queue
-bareQueue w = record { mtu = getD w 0 0; limit = getD w 1 0; first = getD w 2 0; count = getD w 3 0; closed = eqb (getD w 4 0) 1; lengths = replicate 16 0 }
+bareQueue w = record { mtu = getD w mtu-at 0; limit = getD w limit-at 0; first = getD w first-at 0; count = getD w count-at 0; closed = eqb (getD w closed-at 0) 1; lengths = replicate 16 0 }
 
 -- the keys but for their IVs
 abbrev pub bareKeys : List ℕ → SendKeys
 bareKeys w = record {
-  «plaintext_next» = getD w 11 0;
-  handshake = record { epoch = getD w 12 0 % 65536; iv = replicate 12 0; next = getD w 13 0; sealed = getD w 14 0 };
-  application = record { epoch = getD w 15 0 % 65536; iv = replicate 12 0; next = getD w 16 0; sealed = getD w 17 0 };
+  «plaintext_next» = getD w plaintext-next-at 0;
+  handshake = record { epoch = getD w handshake-at 0 % 65536; iv = replicate 12 0; next = getD w handshake-next-at 0; sealed = getD w handshake-sealed-at 0 };
+  application = record { epoch = getD w application-at 0 % 65536; iv = replicate 12 0; next = getD w application-next-at 0; sealed = getD w application-sealed-at 0 };
 }
-
--- a slot's length is one word
-pub length-at : (w : List ℕ) (i : ℕ) → i < 16 → getD (lengthsOf w) i 0 ≡ getD w (19 + i) 0 % 65536
-unfolding lengthsOf
-length-at w zero h = refl
-length-at w (suc zero) h = refl
-length-at w (suc (suc zero)) h = refl
-length-at w (suc (suc (suc zero))) h = refl
-length-at w (suc (suc (suc (suc zero)))) h = refl
-length-at w (suc (suc (suc (suc (suc zero))))) h = refl
-length-at w (suc (suc (suc (suc (suc (suc zero)))))) h = refl
-length-at w (suc (suc (suc (suc (suc (suc (suc zero))))))) h = refl
-length-at w (suc (suc (suc (suc (suc (suc (suc (suc zero)))))))) h = refl
-length-at w (suc (suc (suc (suc (suc (suc (suc (suc (suc zero))))))))) h = refl
-length-at w (suc (suc (suc (suc (suc (suc (suc (suc (suc (suc zero)))))))))) h = refl
-length-at w (suc (suc (suc (suc (suc (suc (suc (suc (suc (suc (suc zero))))))))))) h = refl
-length-at w (suc (suc (suc (suc (suc (suc (suc (suc (suc (suc (suc (suc zero)))))))))))) h = refl
-length-at w (suc (suc (suc (suc (suc (suc (suc (suc (suc (suc (suc (suc (suc zero))))))))))))) h = refl
-length-at w (suc (suc (suc (suc (suc (suc (suc (suc (suc (suc (suc (suc (suc (suc zero)))))))))))))) h = refl
-length-at w (suc (suc (suc (suc (suc (suc (suc (suc (suc (suc (suc (suc (suc (suc (suc zero))))))))))))))) h = refl
-length-at w (suc (suc (suc (suc (suc (suc (suc (suc (suc (suc (suc (suc (suc (suc (suc (suc i)))))))))))))))) h = absurd (omega arith)
 
 -- the answer, and the place if it is done
 pub record Judged (v : Verdict) (s : Sending) (room e t n : ℕ) : Type 0 where
@@ -158,18 +136,18 @@ withHandshake k x = record { «plaintext_next» = k .«plaintext_next»; handsha
 abbrev withApplication : SendKeys → ℕ → SendKeys
 withApplication k x = record { «plaintext_next» = k .«plaintext_next»; handshake = k .handshake; application = withNext (k .application) x }
 
-module _ (w : List ℕ) (h : length w ≡ 59) (x : ℕ) where
-  plaintext-put : Next (withPlaintext (stateOf w .keys) x) 11 x w
-  unfolding firstOf lengthsOf ivFrom isFlat
-  plaintext-put = by-words (λ (v : List ℕ). Next (withPlaintext (stateOf v .keys) x) 11 x v) w h (refl, refl)
+module _ (w : List ℕ) (h : length w ≡ words) (x : ℕ) where
+  plaintext-put : Next (withPlaintext (stateOf w .keys) x) plaintext-next-at x w
+  unfolding firstOf lowsFrom isFlat
+  plaintext-put = by-words words (λ (v : List ℕ). Next (withPlaintext (stateOf v .keys) x) plaintext-next-at x v) w h (refl, refl)
 
-  handshake-put : Next (withHandshake (stateOf w .keys) x) 13 x w
-  unfolding firstOf lengthsOf ivFrom isFlat
-  handshake-put = by-words (λ (v : List ℕ). Next (withHandshake (stateOf v .keys) x) 13 x v) w h (refl, refl)
+  handshake-put : Next (withHandshake (stateOf w .keys) x) handshake-next-at x w
+  unfolding firstOf lowsFrom isFlat
+  handshake-put = by-words words (λ (v : List ℕ). Next (withHandshake (stateOf v .keys) x) handshake-next-at x v) w h (refl, refl)
 
-  application-put : Next (withApplication (stateOf w .keys) x) 16 x w
-  unfolding firstOf lengthsOf ivFrom isFlat
-  application-put = by-words (λ (v : List ℕ). Next (withApplication (stateOf v .keys) x) 16 x v) w h (refl, refl)
+  application-put : Next (withApplication (stateOf w .keys) x) application-next-at x w
+  unfolding firstOf lowsFrom isFlat
+  application-put = by-words words (λ (v : List ℕ). Next (withApplication (stateOf v .keys) x) application-next-at x v) w h (refl, refl)
 
 -- the number behind an epoch's next one is the next
 module _ (k : SendKeys) {e x : ℕ} (j : x ≡ nextOf k e) where
@@ -195,32 +173,32 @@ Uses w e v = Partly (withKeys (stateOf w) (used (stateOf w .keys) e)) w v
 uses : {k : SendKeys} (w : List ℕ) (e i x : ℕ) → Next k i x w → k ≡ used (stateOf w .keys) e → Uses w e (set w i x)
 uses w e i x p q = (p .0 ∙ ap (withKeys (stateOf w)) q, λ f. p .1 ∙ f)
 
-module _ (w : List ℕ) (h : length w ≡ 59) (e x : ℕ) (j : x ≡ nextOf (stateOf w .keys) e) where
-  pub plaintext-uses : e ≡ 0 → Uses w e (set w 11 (x + 1))
-  plaintext-uses g = uses w e 11 (x + 1) (plaintext-put w h (x + 1)) (used-plaintext (stateOf w .keys) j g)
+module _ (w : List ℕ) (h : length w ≡ words) (e x : ℕ) (j : x ≡ nextOf (stateOf w .keys) e) where
+  pub plaintext-uses : e ≡ 0 → Uses w e (set w plaintext-next-at (x + 1))
+  plaintext-uses g = uses w e plaintext-next-at (x + 1) (plaintext-put w h (x + 1)) (used-plaintext (stateOf w .keys) j g)
 
-  pub handshake-uses : (e ≡ 0 → ⊥) → e ≡ 2 → Uses w e (set w 13 (x + 1))
-  handshake-uses f g = uses w e 13 (x + 1) (handshake-put w h (x + 1)) (used-handshake (stateOf w .keys) j f g)
+  pub handshake-uses : (e ≡ 0 → ⊥) → e ≡ 2 → Uses w e (set w handshake-next-at (x + 1))
+  handshake-uses f g = uses w e handshake-next-at (x + 1) (handshake-put w h (x + 1)) (used-handshake (stateOf w .keys) j f g)
 
-  pub application-uses : (e ≡ 0 → ⊥) → (e ≡ 2 → ⊥) → Uses w e (set w 16 (x + 1))
-  application-uses f g = uses w e 16 (x + 1) (application-put w h (x + 1)) (used-application (stateOf w .keys) j f g)
+  pub application-uses : (e ≡ 0 → ⊥) → (e ≡ 2 → ⊥) → Uses w e (set w application-next-at (x + 1))
+  application-uses f g = uses w e application-next-at (x + 1) (application-put w h (x + 1)) (used-application (stateOf w .keys) j f g)
 
 abbrev Waits : List ℕ → ℕ → ℕ → ℕ → ℕ → ℕ → List ℕ → Type 0
 Waits w e n slot start number v = Partly (withWaiting (stateOf w) (waits (stateOf w .waiting) e n slot start number)) w v
 
-waiting-put : (x : Waiting) (w : List ℕ) → length w ≡ 59 → stateOf (putWaiting x w) ≡ withWaiting (stateOf w) (low-waiting x)
-unfolding firstOf lengthsOf ivFrom low-waiting
-waiting-put x w h = by-words (λ (v : List ℕ). stateOf (putWaiting x v) ≡ withWaiting (stateOf v) (low-waiting x)) w h refl
+waiting-put : (x : Waiting) (w : List ℕ) → length w ≡ words → stateOf (putWaiting x w) ≡ withWaiting (stateOf w) (low-waiting x)
+unfolding firstOf lowsFrom low-waiting
+waiting-put x w h = by-words words (λ (v : List ℕ). stateOf (putWaiting x v) ≡ withWaiting (stateOf v) (low-waiting x)) w h refl
 
-waiting-flat : (x : Waiting) (w : List ℕ) → length w ≡ 59 → isFlat w ≡ true → isFlat (putWaiting x w) ≡ true
+waiting-flat : (x : Waiting) (w : List ℕ) → length w ≡ words → isFlat w ≡ true → isFlat (putWaiting x w) ≡ true
 unfolding firstOf isFlat
-waiting-flat x w h = by-words (λ (v : List ℕ). isFlat v ≡ true → isFlat (putWaiting x v) ≡ true) w h (λ f. both-true (both-left _ _ f) ∙ low-bit (x .any))
+waiting-flat x w h = by-words words (λ (v : List ℕ). isFlat v ≡ true → isFlat (putWaiting x v) ≡ true) w h (λ f. both-true (both-left _ _ f) ∙ low-bit (x .any))
 
 module _ (w : List ℕ) (e n slot start number : ℕ) where
   pub waits-still : either (stateOf w .waiting .any) (eqb e 0) ≡ true → Waits w e n slot start number w
   waits-still t = (ap (withWaiting (stateOf w)) (sym (if-true _ _ t)), λ f. f)
 
-  pub waits-now : (v : List ℕ) → length w ≡ 59 → either (stateOf w .waiting .any) (eqb e 0) ≡ false
+  pub waits-now : (v : List ℕ) → length w ≡ words → either (stateOf w .waiting .any) (eqb e 0) ≡ false
       → (v ≡ putWaiting (waitingAt e n slot start number) w) × (e ≤ 65535)
       → Waits w e n slot start number v
   waits-now v h t p =
@@ -228,32 +206,32 @@ module _ (w : List ℕ) (e n slot start number : ℕ) where
       (waiting-put (waitingAt e n slot start number) w h ∙ ap (withWaiting (stateOf w)) (waiting-back (waitingAt e n slot start number) (p .1) ∙ sym (if-false _ _ t)), waiting-flat (waitingAt e n slot start number) w h)
 
 abbrev putEnd : ℕ → ℕ → ℕ → List ℕ → List ℕ
-putEnd i c x w = set (set (set w (19 + i) x) 3 c) 4 0
+putEnd i c x w = set (set (set w (length-at i) x) count-at c) closed-at 0
 
 abbrev Ends : ℕ → ℕ → ℕ → List ℕ → Type 0
-Ends i c x w = (stateOf (putEnd i c x w) ≡ endAt (stateOf w) i c (x % 65536)) × (isFlat (putEnd i c x w) ≡ both (leb 0 1) (leb (getD w 5 0) 1))
+Ends i c x w = (stateOf (putEnd i c x w) ≡ endAt (stateOf w) i c (x % 65536)) × (isFlat (putEnd i c x w) ≡ both (leb 0 1) (leb (getD w sealing-at 0) 1))
 
-ends : (i : ℕ) (w : List ℕ) (c x : ℕ) → i < 16 → length w ≡ 59 → Ends i c x w
-unfolding firstOf lengthsOf ivFrom isFlat
-ends zero w c x l h = by-words (Ends 0 c x) w h (refl, refl)
-ends (suc zero) w c x l h = by-words (Ends 1 c x) w h (refl, refl)
-ends (suc (suc zero)) w c x l h = by-words (Ends 2 c x) w h (refl, refl)
-ends (suc (suc (suc zero))) w c x l h = by-words (Ends 3 c x) w h (refl, refl)
-ends (suc (suc (suc (suc zero)))) w c x l h = by-words (Ends 4 c x) w h (refl, refl)
-ends (suc (suc (suc (suc (suc zero))))) w c x l h = by-words (Ends 5 c x) w h (refl, refl)
-ends (suc (suc (suc (suc (suc (suc zero)))))) w c x l h = by-words (Ends 6 c x) w h (refl, refl)
-ends (suc (suc (suc (suc (suc (suc (suc zero))))))) w c x l h = by-words (Ends 7 c x) w h (refl, refl)
-ends (suc (suc (suc (suc (suc (suc (suc (suc zero)))))))) w c x l h = by-words (Ends 8 c x) w h (refl, refl)
-ends (suc (suc (suc (suc (suc (suc (suc (suc (suc zero))))))))) w c x l h = by-words (Ends 9 c x) w h (refl, refl)
-ends (suc (suc (suc (suc (suc (suc (suc (suc (suc (suc zero)))))))))) w c x l h = by-words (Ends 10 c x) w h (refl, refl)
-ends (suc (suc (suc (suc (suc (suc (suc (suc (suc (suc (suc zero))))))))))) w c x l h = by-words (Ends 11 c x) w h (refl, refl)
-ends (suc (suc (suc (suc (suc (suc (suc (suc (suc (suc (suc (suc zero)))))))))))) w c x l h = by-words (Ends 12 c x) w h (refl, refl)
-ends (suc (suc (suc (suc (suc (suc (suc (suc (suc (suc (suc (suc (suc zero))))))))))))) w c x l h = by-words (Ends 13 c x) w h (refl, refl)
-ends (suc (suc (suc (suc (suc (suc (suc (suc (suc (suc (suc (suc (suc (suc zero)))))))))))))) w c x l h = by-words (Ends 14 c x) w h (refl, refl)
-ends (suc (suc (suc (suc (suc (suc (suc (suc (suc (suc (suc (suc (suc (suc (suc zero))))))))))))))) w c x l h = by-words (Ends 15 c x) w h (refl, refl)
+ends : (i : ℕ) (w : List ℕ) (c x : ℕ) → i < 16 → length w ≡ words → Ends i c x w
+unfolding firstOf lowsFrom isFlat
+ends zero w c x l h = by-words words (Ends 0 c x) w h (refl, refl)
+ends (suc zero) w c x l h = by-words words (Ends 1 c x) w h (refl, refl)
+ends (suc (suc zero)) w c x l h = by-words words (Ends 2 c x) w h (refl, refl)
+ends (suc (suc (suc zero))) w c x l h = by-words words (Ends 3 c x) w h (refl, refl)
+ends (suc (suc (suc (suc zero)))) w c x l h = by-words words (Ends 4 c x) w h (refl, refl)
+ends (suc (suc (suc (suc (suc zero))))) w c x l h = by-words words (Ends 5 c x) w h (refl, refl)
+ends (suc (suc (suc (suc (suc (suc zero)))))) w c x l h = by-words words (Ends 6 c x) w h (refl, refl)
+ends (suc (suc (suc (suc (suc (suc (suc zero))))))) w c x l h = by-words words (Ends 7 c x) w h (refl, refl)
+ends (suc (suc (suc (suc (suc (suc (suc (suc zero)))))))) w c x l h = by-words words (Ends 8 c x) w h (refl, refl)
+ends (suc (suc (suc (suc (suc (suc (suc (suc (suc zero))))))))) w c x l h = by-words words (Ends 9 c x) w h (refl, refl)
+ends (suc (suc (suc (suc (suc (suc (suc (suc (suc (suc zero)))))))))) w c x l h = by-words words (Ends 10 c x) w h (refl, refl)
+ends (suc (suc (suc (suc (suc (suc (suc (suc (suc (suc (suc zero))))))))))) w c x l h = by-words words (Ends 11 c x) w h (refl, refl)
+ends (suc (suc (suc (suc (suc (suc (suc (suc (suc (suc (suc (suc zero)))))))))))) w c x l h = by-words words (Ends 12 c x) w h (refl, refl)
+ends (suc (suc (suc (suc (suc (suc (suc (suc (suc (suc (suc (suc (suc zero))))))))))))) w c x l h = by-words words (Ends 13 c x) w h (refl, refl)
+ends (suc (suc (suc (suc (suc (suc (suc (suc (suc (suc (suc (suc (suc (suc zero)))))))))))))) w c x l h = by-words words (Ends 14 c x) w h (refl, refl)
+ends (suc (suc (suc (suc (suc (suc (suc (suc (suc (suc (suc (suc (suc (suc (suc zero))))))))))))))) w c x l h = by-words words (Ends 15 c x) w h (refl, refl)
 ends (suc (suc (suc (suc (suc (suc (suc (suc (suc (suc (suc (suc (suc (suc (suc (suc i)))))))))))))))) w c x l h = absurd (omega arith)
 
-pub end-put : (w : List ℕ) (i nth x : ℕ) → i < 16 → x ≤ 65535 → length w ≡ 59 → Partly (endAt (stateOf w) i (nth + 1) x) w (putEnd i (nth + 1) x w)
+pub end-put : (w : List ℕ) (i nth x : ℕ) → i < 16 → x ≤ 65535 → length w ≡ words → Partly (endAt (stateOf w) i (nth + 1) x) w (putEnd i (nth + 1) x w)
 unfolding isFlat
 end-put w i nth x l b h =
-    (ends i w (nth + 1) x l h .0 ∙ ap (endAt (stateOf w) i (nth + 1)) (word-low b), λ f. ends i w (nth + 1) x l h .1 ∙ both-true refl ∙ both-right _ _ f)
+    (ends i w (nth + 1) x l h .0 ∙ ap (endAt (stateOf w) i (nth + 1)) (low-back b), λ f. ends i w (nth + 1) x l h .1 ∙ both-true refl ∙ both-right _ _ f)

@@ -1,6 +1,6 @@
 // A record sent, over the words that hold the sending side's state: a test reads, and a record laid writes, only the words it needs.
 ghost use mathlib.Core.Path.{_≡_};
-ghost use Prim.Native.Nat.{_+_, _≤_, _<_, _%_};
+ghost use Prim.Native.Nat.{_+_, _≤_, _<_};
 ghost use lib.ListN.{length, getD};
 ghost use Rattle.queue.specs.Queue.{InRange, Tailed, isReady, lastLen, tailOf};
 ghost use Rattle.send_keys.specs.Keys.{isUsable, isKeyed, nextOf, used};
@@ -16,6 +16,21 @@ use queue::Queue;
 use queue::Tail;
 use send_keys::SendEpoch;
 use send_keys::SendKeys;
+use send_words::APPLICATION;
+use send_words::APPLICATION_NEXT;
+use send_words::APPLICATION_SEALED;
+use send_words::CLOSED;
+use send_words::COUNT;
+use send_words::FIRST;
+use send_words::HANDSHAKE;
+use send_words::HANDSHAKE_NEXT;
+use send_words::HANDSHAKE_SEALED;
+use send_words::LENGTHS;
+use send_words::LIMIT;
+use send_words::MTU;
+use send_words::PLAINTEXT_NEXT;
+use send_words::SEALING;
+use send_words::WORDS;
 
 // Whether a record can be sent, or why not; and where it goes if it can.
 pub struct Verdict {
@@ -23,109 +38,103 @@ pub struct Verdict {
     pub place: Place,
 }
 
-fn low(x: u64) -> u16
-    ensures { λ r. ⌜ r ≡ x % 65536 ⌝ }
-{
-    (x % 65536) as u16
-}
-
 // ---- the tests
 
 // The queue but for its lengths.
-fn queue_at(w: &[u64; 59]) -> Queue
+fn queue_at(w: &[u64; WORDS]) -> Queue
     ensures { λ r. ⌜ r ≡ bareQueue (now (w .entry)) ⌝ }
 {
     Queue {
-        mtu: w[0] as usize,
-        limit: w[1] as usize,
-        first: w[2] as usize,
-        count: w[3] as usize,
-        closed: w[4] == 1,
+        mtu: w[MTU] as usize,
+        limit: w[LIMIT] as usize,
+        first: w[FIRST] as usize,
+        count: w[COUNT] as usize,
+        closed: w[CLOSED] == 1,
         lengths: [0; 16],
     }
 }
 
 // The keys but for their IVs.
-fn keys_at(w: &[u64; 59]) -> SendKeys
+fn keys_at(w: &[u64; WORDS]) -> SendKeys
     ensures { λ r. ⌜ r ≡ bareKeys (now (w .entry)) ⌝ }
 {
     let h = SendEpoch {
-        epoch: low(w[12]),
+        epoch: words::low(w[HANDSHAKE]),
         iv: [0; 12],
-        next: w[13],
-        sealed: w[14],
+        next: w[HANDSHAKE_NEXT],
+        sealed: w[HANDSHAKE_SEALED],
     };
     let a = SendEpoch {
-        epoch: low(w[15]),
+        epoch: words::low(w[APPLICATION]),
         iv: [0; 12],
-        next: w[16],
-        sealed: w[17],
+        next: w[APPLICATION_NEXT],
+        sealed: w[APPLICATION_SEALED],
     };
     SendKeys {
-        plaintext_next: w[11],
+        plaintext_next: w[PLAINTEXT_NEXT],
         handshake: h,
         application: a,
     }
 }
 
 // Whether settings and ring are in range and the buffer lent for the queue is long enough.
-pub fn is_ready(w: &[u64; 59], room: usize) -> bool
+pub fn is_ready(w: &[u64; WORDS], room: usize) -> bool
     ensures { λ r. ⌜ r ≡ isReady (queueOf (now (w .entry))) room ⌝ }
 {
     queue::is_ready(queue_at(w), room)
 }
 
-fn is_usable(w: &[u64; 59], epoch: u16) -> bool
+fn is_usable(w: &[u64; WORDS], epoch: u16) -> bool
     ensures { λ r. ⌜ r ≡ isUsable (stateOf (now (w .entry)) .keys) epoch ⌝ }
 {
     send_keys::is_usable(keys_at(w), epoch)
 }
 
-fn is_keyed(w: &[u64; 59], epoch: u16) -> bool
+fn is_keyed(w: &[u64; WORDS], epoch: u16) -> bool
     ensures { λ r. ⌜ r ≡ isKeyed (stateOf (now (w .entry)) .keys) epoch ⌝ }
 {
     send_keys::is_keyed(keys_at(w), epoch)
 }
 
-pub fn next_of(w: &[u64; 59], epoch: u16) -> u64
+pub fn next_of(w: &[u64; WORDS], epoch: u16) -> u64
     ensures { λ r. ⌜ r ≡ nextOf (stateOf (now (w .entry)) .keys) epoch ⌝ }
 {
     send_keys::next_of(keys_at(w), epoch)
 }
 
 // The length of a slot's datagram.
-pub fn length_at(w: &[u64; 59], slot: usize) -> usize
+pub fn length_at(w: &[u64; WORDS], slot: usize) -> usize
     requires { ⌜ slot < 16 ⌝ }
     ensures { λ r. ⌜ (r ≡ getD (queueOf (now (w .entry)) .lengths) slot 0) × (r ≤ 65535) ⌝ }
 {
-    let i = 19 + slot;
+    let i = LENGTHS + slot;
     (w[i] % 65536) as usize
 }
 
 // The last datagram's length, closed or not; 0 where there is none.
-fn last_len(w: &[u64; 59]) -> usize
+fn last_len(w: &[u64; WORDS]) -> usize
     requires { ⌜ InRange (queueOf (now w)) ⌝ }
     ensures { λ r. ⌜ (r ≡ lastLen (queueOf (now (w .entry)))) × (r ≤ 65535) ⌝ }
 {
-    let count = w[3] as usize;
+    let count = w[COUNT] as usize;
     if count == 0 {
         return 0;
     }
-    let slot = queue::slot_of(w[2] as usize, w[1] as usize, count - 1);
+    let slot = queue::slot_of(w[FIRST] as usize, w[LIMIT] as usize, count - 1);
     length_at(w, slot)
 }
 
 // Whether a record may join the last datagram: one is there, not closed.
-fn is_joinable(w: &[u64; 59]) -> bool
+fn is_joinable(w: &[u64; WORDS]) -> bool
     ensures { λ r. ⌜ r ≡ tailOf (queueOf (now (w .entry))) .joinable ⌝ }
 {
-    if w[4] == 1 {
+    if w[CLOSED] == 1 {
         return false;
     }
-    0 < w[3]
+    0 < w[COUNT]
 }
 
-fn tail_of(w: &[u64; 59]) -> Tail
+fn tail_of(w: &[u64; WORDS]) -> Tail
     requires { ⌜ InRange (queueOf (now w)) ⌝ }
     ensures { λ r. ⌜ (r ≡ tailOf (queueOf (now (w .entry)))) × Tailed r ⌝ }
 {
@@ -134,18 +143,18 @@ fn tail_of(w: &[u64; 59]) -> Tail
     Tail {
         used: used,
         joinable: joinable,
-        count: w[3] as usize,
+        count: w[COUNT] as usize,
     }
 }
 
 // Where a record with a content of n bytes goes.
-fn spot_of(w: &[u64; 59], epoch: u16, n: usize) -> Place
+fn spot_of(w: &[u64; WORDS], epoch: u16, n: usize) -> Place
     requires { ⌜ InRange (queueOf (now w)) × (n ≤ 16384) ⌝ }
     ensures { λ r. ⌜ r ≡ spotOf (stateOf (now (w .entry))) epoch n ⌝ }
 {
     let t = tail_of(w);
     let len = queue::record_len(epoch, n);
-    queue::place_of(w[0] as usize, t, len)
+    queue::place_of(w[MTU] as usize, t, len)
 }
 
 fn refused(a: SendAnswer) -> Verdict
@@ -161,7 +170,7 @@ fn refused(a: SendAnswer) -> Verdict
 }
 
 // Whether a record can be sent, and where it goes.
-pub fn send_answer(w: &[u64; 59], room: usize, epoch: u16, t: u8, n: usize) -> Verdict
+pub fn send_answer(w: &[u64; WORDS], room: usize, epoch: u16, t: u8, n: usize) -> Verdict
     ensures { λ r. ⌜ Judged r (stateOf (now (w .entry))) room epoch t n ⌝ }
 {
     if !is_ready(w, room) {
@@ -170,14 +179,14 @@ pub fn send_answer(w: &[u64; 59], room: usize, epoch: u16, t: u8, n: usize) -> V
     if !is_usable(w, epoch) {
         return refused(SendAnswer::BadEpoch);
     }
-    if !outgoing::is_allowed(w[0] as usize, epoch, t, n) {
+    if !outgoing::is_allowed(w[MTU] as usize, epoch, t, n) {
         return refused(SendAnswer::BadRecord);
     }
     if !is_keyed(w, epoch) {
         return refused(SendAnswer::KeysAbsent);
     }
     let p = spot_of(w, epoch, n);
-    if w[1] as usize <= p.datagram {
+    if w[LIMIT] as usize <= p.datagram {
         return refused(SendAnswer::QueueFull);
     }
     if 281474976710655 <= next_of(w, epoch) {
@@ -192,30 +201,30 @@ pub fn send_answer(w: &[u64; 59], room: usize, epoch: u16, t: u8, n: usize) -> V
 // ---- a record laid
 
 // An epoch's next number is used.
-fn use_number(w: &mut [u64; 59], epoch: u16, number: u64)
+fn use_number(w: &mut [u64; WORDS], epoch: u16, number: u64)
     requires { ⌜ (number ≡ nextOf (stateOf (now w) .keys) epoch) × (number < 281474976710655) ⌝ }
     ensures { λ _. ⌜ Partly (withKeys (stateOf (now (w .entry))) (used (stateOf (now (w .entry)) .keys) epoch)) (now (w .entry)) (now (w .exit)) ⌝ }
 {
     send_words::sized(w);
     let next = number + 1;
     if epoch == 0 {
-        w[11] = next;
+        w[PLAINTEXT_NEXT] = next;
         return;
     }
     if epoch == 2 {
-        w[13] = next;
+        w[HANDSHAKE_NEXT] = next;
         return;
     }
-    w[16] = next;
+    w[APPLICATION_NEXT] = next;
 }
 
 // The sealing of a record with a content of n bytes waits, if none does and it is to be sealed.
-fn wait_for(w: &mut [u64; 59], epoch: u16, n: usize, slot: usize, start: usize, number: u64)
+fn wait_for(w: &mut [u64; WORDS], epoch: u16, n: usize, slot: usize, start: usize, number: u64)
     requires { ⌜ n ≤ 1500 ⌝ }
     ensures { λ _. ⌜ Partly (withWaiting (stateOf (now (w .entry))) (waits (stateOf (now (w .entry)) .waiting) epoch n slot start number)) (now (w .entry)) (now (w .exit)) ⌝ }
 {
     send_words::sized(w);
-    if w[5] == 1 {
+    if w[SEALING] == 1 {
         return;
     }
     if epoch == 0 {
@@ -235,19 +244,19 @@ fn wait_for(w: &mut [u64; 59], epoch: u16, n: usize, slot: usize, start: usize, 
 }
 
 // The last datagram, in this slot, ends there and is open.
-fn put_end(w: &mut [u64; 59], slot: usize, nth: usize, end: usize)
+fn put_end(w: &mut [u64; WORDS], slot: usize, nth: usize, end: usize)
     requires { ⌜ (slot < 16) × (nth < 16) × (end ≤ 65535) ⌝ }
     ensures { λ _. ⌜ Partly (endAt (stateOf (now (w .entry))) slot (nth + 1) end) (now (w .entry)) (now (w .exit)) ⌝ }
 {
     send_words::sized(w);
-    let at = 19 + slot;
+    let at = LENGTHS + slot;
     w[at] = end as u64;
-    w[3] = (nth + 1) as u64;
-    w[4] = 0;
+    w[COUNT] = (nth + 1) as u64;
+    w[CLOSED] = 0;
 }
 
 // The words of a record laid: one record more, its number used, its sealing waiting.
-fn put_laid(w: &mut [u64; 59], p: Place, slot: usize, epoch: u16, n: usize, number: u64)
+fn put_laid(w: &mut [u64; WORDS], p: Place, slot: usize, epoch: u16, n: usize, number: u64)
     requires { ⌜ Lays (stateOf (now w)) p slot epoch n number ⌝ }
     ensures { λ _. ⌜ Partly (laidState (stateOf (now (w .entry))) epoch n) (now (w .entry)) (now (w .exit)) ⌝ }
 {
@@ -258,14 +267,14 @@ fn put_laid(w: &mut [u64; 59], p: Place, slot: usize, epoch: u16, n: usize, numb
 }
 
 // A record laid, to which no refusal applies.
-pub fn lay(w: &mut [u64; 59], p: Place, epoch: u16, t: u8, content: &[u8], d: &mut [u8])
+pub fn lay(w: &mut [u64; WORDS], p: Place, epoch: u16, t: u8, content: &[u8], d: &mut [u8])
     requires { ⌜ Clear (stateOf (now w)) (length (now d)) epoch (length (now content)) × (p ≡ spotOf (stateOf (now w)) epoch (length (now content))) ⌝ }
     ensures { λ _. ⌜ Partly (laidState (stateOf (now (w .entry))) epoch (length (now (content .entry)))) (now (w .entry)) (now (w .exit)) × (now (d .exit) ≡ laidMemory (stateOf (now (w .entry))) epoch t (now (content .entry)) (now (d .entry))) ⌝ }
 {
     let n = content.len();
     let number = next_of(w, epoch);
-    let slot = queue::slot_of(w[2] as usize, w[1] as usize, p.datagram);
-    let at = slot * (w[0] as usize) + p.offset;
+    let slot = queue::slot_of(w[FIRST] as usize, w[LIMIT] as usize, p.datagram);
+    let at = slot * (w[MTU] as usize) + p.offset;
     queue::lay_record(d, at, epoch, t, number, content);
     put_laid(w, p, slot, epoch, n, number);
 }

@@ -6,8 +6,8 @@ use Prim.Native.Nat.{ℕ, _≤_, _%_}
 use lib.Dec.{eqb}
 use Rattle.outgoing.specs.declared.Waiting.{Waiting}
 use Rattle.outgoing.specs.declared.Sending.{Sending}
-use Rattle.send_words.specs.Words.{stateOf, isFlat, bitOf}
-use Rattle.send_words.specs.Laws.{back, word-low}
+use Rattle.words.specs.Fields.{bitOf, bit-back, low-back}
+use Rattle.send_words.specs.Words.{stateOf, isFlat}
 
 -- the words stand for s, flat if they were
 abbrev pub Partly : Sending → List ℕ → List ℕ → Type 0
@@ -18,7 +18,7 @@ low-waiting x = record { any = eqb (bitOf (x .any)) 1; slot = x .slot; start = x
 
 pub waiting-back : (x : Waiting) → x .epoch ≤ 65535 → low-waiting x ≡ x
 unfolding low-waiting
-waiting-back x h = rw (back (x .any), word-low h)
+waiting-back x h = rw (bit-back (x .any), low-back h)
 
 abbrev pub withWaiting : Sending → Waiting → Sending
 withWaiting s x = record { queue = s .queue; waiting = x; keys = s .keys; «message_seq» = s .«message_seq» }

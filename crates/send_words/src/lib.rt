@@ -1,12 +1,14 @@
-// The sending side's state in 59 words that the host keeps (specs/Words.antt says which is which), read and written.
+// The sending side's state in words that the host keeps (specs/Words.antt says what they stand for), read and written.
 ghost use mathlib.Core.Path.{_≡_};
-ghost use Prim.Native.Nat.{_+_, _≤_};
-ghost use lib.ListN.{length};
+ghost use Prim.Native.Nat.{ℕ, _≤_, _<_};
+ghost use lib.ListN.{length, getD};
 ghost use Rattle.send_words.specs.Words.{
+  words,
+  application-at,
+  application-iv-at,
   lengthsOf,
   queueOf,
   waitingOf,
-  ivFrom,
   epochFrom,
   stateOf,
   isFlat,
@@ -25,6 +27,61 @@ use queue::Queue;
 use send_keys::SendEpoch;
 use send_keys::SendKeys;
 
+// ---- which word is which
+
+pub const WORDS: usize = 39;
+// The MTU, the queue's limit, the ring's first slot, how many datagrams wait, whether the last is closed.
+pub const MTU: usize = 0;
+
+pub const LIMIT: usize = 1;
+
+pub const FIRST: usize = 2;
+
+pub const COUNT: usize = 3;
+
+pub const CLOSED: usize = 4;
+// The oldest sealing: whether one waits, its slot, where it starts there, the length of what is to be sealed, its epoch, its number.
+pub const SEALING: usize = 5;
+
+pub const SEALING_SLOT: usize = 6;
+
+pub const SEALING_START: usize = 7;
+
+pub const SEALING_LENGTH: usize = 8;
+
+const SEALING_EPOCH: usize = 9;
+
+const SEALING_NUMBER: usize = 10;
+
+pub const PLAINTEXT_NEXT: usize = 11;
+// Three words of epoch 2 and three of the application epoch: the epoch once keyed, its next number, and the number from which on its
+// records may wait.
+const NEXT: usize = 1;
+
+const SEALED: usize = 2;
+
+pub const HANDSHAKE: usize = 12;
+
+pub const HANDSHAKE_NEXT: usize = HANDSHAKE + NEXT;
+
+pub const HANDSHAKE_SEALED: usize = HANDSHAKE + SEALED;
+
+pub const APPLICATION: usize = 15;
+
+pub const APPLICATION_NEXT: usize = APPLICATION + NEXT;
+
+pub const APPLICATION_SEALED: usize = APPLICATION + SEALED;
+// The next message number.
+const MESSAGE: usize = 18;
+// The length of the datagram in each of 16 slots.
+pub const LENGTHS: usize = 19;
+// Two words of each epoch's IV: the first four bytes, and the other eight.
+const BACK: usize = 1;
+
+const HANDSHAKE_IV: usize = 35;
+
+const APPLICATION_IV: usize = 37;
+
 fn count_of(w: &[u64]) -> usize
     ensures { λ r. ⌜ r ≡ length (now (w .entry)) ⌝ }
 {
@@ -32,254 +89,181 @@ fn count_of(w: &[u64]) -> usize
 }
 
 // How many words there are.
-pub fn sized(w: &[u64; 59]) -> usize
-    ensures { λ _. ⌜ length (now (w .entry)) ≡ 59 ⌝ }
+pub fn sized(w: &[u64; WORDS]) -> usize
+    ensures { λ _. ⌜ length (now (w .entry)) ≡ words ⌝ }
 {
     count_of(w)
 }
 
-fn wide(x: u16) -> u64
-    ensures { λ r. ⌜ (r ≡ x) × (r ≤ 65535) ⌝ }
-{
-    x as u64
-}
-
-fn byte(x: u8) -> u64
-    ensures { λ r. ⌜ (r ≡ x) × (r ≤ 255) ⌝ }
-{
-    x as u64
-}
-
 // ---- read
 
-fn lengths_of(w: &[u64; 59]) -> [u16; 16]
+fn lengths_of(w: &[u64; WORDS]) -> [u16; 16]
     ensures { λ r. ⌜ r ≡ lengthsOf (now (w .entry)) ⌝ }
 {
-    [
-        (w[19] % 65536) as u16,
-        (w[20] % 65536) as u16,
-        (w[21] % 65536) as u16,
-        (w[22] % 65536) as u16,
-        (w[23] % 65536) as u16,
-        (w[24] % 65536) as u16,
-        (w[25] % 65536) as u16,
-        (w[26] % 65536) as u16,
-        (w[27] % 65536) as u16,
-        (w[28] % 65536) as u16,
-        (w[29] % 65536) as u16,
-        (w[30] % 65536) as u16,
-        (w[31] % 65536) as u16,
-        (w[32] % 65536) as u16,
-        (w[33] % 65536) as u16,
-        (w[34] % 65536) as u16,
-    ]
+    let mut l = [0u16; 16];
+    let mut i: usize = 0;
+    while i < 16 {
+        let at = LENGTHS + i;
+        l[i] = (w[at] % 65536) as u16;
+        i += 1;
+    }
+    l
 }
 
-fn queue_of(w: &[u64; 59]) -> Queue
+fn queue_of(w: &[u64; WORDS]) -> Queue
     ensures { λ r. ⌜ r ≡ queueOf (now (w .entry)) ⌝ }
 {
     let l = lengths_of(w);
     Queue {
-        mtu: w[0] as usize,
-        limit: w[1] as usize,
-        first: w[2] as usize,
-        count: w[3] as usize,
-        closed: w[4] == 1,
+        mtu: w[MTU] as usize,
+        limit: w[LIMIT] as usize,
+        first: w[FIRST] as usize,
+        count: w[COUNT] as usize,
+        closed: w[CLOSED] == 1,
         lengths: l,
     }
 }
 
 // The oldest sealing that waits.
-pub fn waiting_of(w: &[u64; 59]) -> Waiting
+pub fn waiting_of(w: &[u64; WORDS]) -> Waiting
     ensures { λ r. ⌜ r ≡ waitingOf (now (w .entry)) ⌝ }
 {
     Waiting {
-        any: w[5] == 1,
-        slot: w[6] as usize,
-        start: w[7] as usize,
-        length: w[8] as usize,
-        epoch: (w[9] % 65536) as u16,
-        number: w[10],
+        any: w[SEALING] == 1,
+        slot: w[SEALING_SLOT] as usize,
+        start: w[SEALING_START] as usize,
+        length: w[SEALING_LENGTH] as usize,
+        epoch: (w[SEALING_EPOCH] % 65536) as u16,
+        number: w[SEALING_NUMBER],
     }
 }
 
-fn iv_from(w: &[u64; 59], at: usize) -> [u8; 12]
-    requires { ⌜ at ≤ 47 ⌝ }
-    ensures { λ r. ⌜ r ≡ ivFrom (now (w .entry)) at ⌝ }
-{
-    let j1 = at + 1;
-    let j2 = at + 2;
-    let j3 = at + 3;
-    let j4 = at + 4;
-    let j5 = at + 5;
-    let j6 = at + 6;
-    let j7 = at + 7;
-    let j8 = at + 8;
-    let j9 = at + 9;
-    let j10 = at + 10;
-    let j11 = at + 11;
-    [
-        (w[at] % 256) as u8,
-        (w[j1] % 256) as u8,
-        (w[j2] % 256) as u8,
-        (w[j3] % 256) as u8,
-        (w[j4] % 256) as u8,
-        (w[j5] % 256) as u8,
-        (w[j6] % 256) as u8,
-        (w[j7] % 256) as u8,
-        (w[j8] % 256) as u8,
-        (w[j9] % 256) as u8,
-        (w[j10] % 256) as u8,
-        (w[j11] % 256) as u8,
-    ]
-}
-
-fn epoch_from(w: &[u64; 59], b: usize, at: usize) -> SendEpoch
-    requires { ⌜ (b ≤ 15) × (at ≤ 47) ⌝ }
+fn epoch_from(w: &[u64; WORDS], b: usize, at: usize) -> SendEpoch
+    requires { ⌜ (b ≤ application-at) × (at ≤ application-iv-at) ⌝ }
     ensures { λ r. ⌜ r ≡ epochFrom (now (w .entry)) b at ⌝ }
 {
-    let iv = iv_from(w, at);
-    let n = b + 1;
-    let s = b + 2;
+    let back = at + BACK;
+    let next = b + NEXT;
+    let sealed = b + SEALED;
+    let iv = words::iv_of(w[at], w[back]);
     SendEpoch {
         epoch: (w[b] % 65536) as u16,
         iv: iv,
-        next: w[n],
-        sealed: w[s],
+        next: w[next],
+        sealed: w[sealed],
     }
 }
 
 // The state that the words stand for.
-pub fn load(w: &[u64; 59]) -> Sending
+pub fn load(w: &[u64; WORDS]) -> Sending
     ensures { λ r. ⌜ r ≡ stateOf (now (w .entry)) ⌝ }
 {
     let q = queue_of(w);
     let x = waiting_of(w);
-    let h = epoch_from(w, 12, 35);
-    let a = epoch_from(w, 15, 47);
+    let h = epoch_from(w, HANDSHAKE, HANDSHAKE_IV);
+    let a = epoch_from(w, APPLICATION, APPLICATION_IV);
     Sending {
         queue: q,
         waiting: x,
         keys: SendKeys {
-            plaintext_next: w[11],
+            plaintext_next: w[PLAINTEXT_NEXT],
             handshake: h,
             application: a,
         },
-        message_seq: (w[18] % 65536) as u16,
+        message_seq: (w[MESSAGE] % 65536) as u16,
     }
 }
 
 // Whether the words stand for a state: flags are 0 or 1.
-pub fn is_flat(w: &[u64; 59]) -> bool
+pub fn is_flat(w: &[u64; WORDS]) -> bool
     ensures { λ r. ⌜ r ≡ isFlat (now (w .entry)) ⌝ }
 {
-    if 1 < w[4] {
+    if 1 < w[CLOSED] {
         return false;
     }
-    w[5] <= 1
+    w[SEALING] <= 1
 }
 
 // ---- written
 
-fn put_lengths(w: &mut [u64; 59], l: [u16; 16])
-    ensures { λ _. ⌜ (now (w .exit) ≡ putLengths l (now (w .entry))) × LowLengths l ⌝ }
+// The elements of a slice have 16 bits.
+fn shorts(l: &[u16]) -> u16
+    requires { ⌜ 0 < length (now l) ⌝ }
+    ensures { λ _. ⌜ ((i : ℕ) → getD (now (l .entry)) i 0 ≤ 65535) ⌝ }
 {
-    w[19] = wide(l[0]);
-    w[20] = wide(l[1]);
-    w[21] = wide(l[2]);
-    w[22] = wide(l[3]);
-    w[23] = wide(l[4]);
-    w[24] = wide(l[5]);
-    w[25] = wide(l[6]);
-    w[26] = wide(l[7]);
-    w[27] = wide(l[8]);
-    w[28] = wide(l[9]);
-    w[29] = wide(l[10]);
-    w[30] = wide(l[11]);
-    w[31] = wide(l[12]);
-    w[32] = wide(l[13]);
-    w[33] = wide(l[14]);
-    w[34] = wide(l[15]);
+    l[0]
 }
 
-fn put_queue(w: &mut [u64; 59], q: Queue)
+fn put_lengths(w: &mut [u64; WORDS], l: [u16; 16])
+    ensures { λ _. ⌜ (now (w .exit) ≡ putLengths 16 l (now (w .entry))) × LowLengths l ⌝ }
+{
+    shorts(&l);
+    let mut i: usize = 0;
+    while i < 16 {
+        let at = LENGTHS + i;
+        w[at] = words::wide(l[i]);
+        i += 1;
+    }
+}
+
+fn put_queue(w: &mut [u64; WORDS], q: Queue)
     ensures { λ _. ⌜ (now (w .exit) ≡ putQueue q (now (w .entry))) × LowLengths (q .lengths) ⌝ }
 {
     let l = q.lengths;
-    w[0] = q.mtu as u64;
-    w[1] = q.limit as u64;
-    w[2] = q.first as u64;
-    w[3] = q.count as u64;
-    w[4] = q.closed as u64;
+    w[MTU] = q.mtu as u64;
+    w[LIMIT] = q.limit as u64;
+    w[FIRST] = q.first as u64;
+    w[COUNT] = q.count as u64;
+    w[CLOSED] = q.closed as u64;
     put_lengths(w, l);
 }
 
-pub fn put_waiting(w: &mut [u64; 59], x: Waiting)
+pub fn put_waiting(w: &mut [u64; WORDS], x: Waiting)
     ensures { λ _. ⌜ (now (w .exit) ≡ putWaiting x (now (w .entry))) × (x .epoch ≤ 65535) ⌝ }
 {
-    let epoch = wide(x.epoch);
-    w[5] = x.any as u64;
-    w[6] = x.slot as u64;
-    w[7] = x.start as u64;
-    w[8] = x.length as u64;
-    w[9] = epoch;
-    w[10] = x.number;
+    let epoch = words::wide(x.epoch);
+    w[SEALING] = x.any as u64;
+    w[SEALING_SLOT] = x.slot as u64;
+    w[SEALING_START] = x.start as u64;
+    w[SEALING_LENGTH] = x.length as u64;
+    w[SEALING_EPOCH] = epoch;
+    w[SEALING_NUMBER] = x.number;
 }
 
-fn put_iv(w: &mut [u64; 59], at: usize, iv: [u8; 12])
-    requires { ⌜ at ≤ 47 ⌝ }
+fn put_iv(w: &mut [u64; WORDS], at: usize, iv: [u8; 12])
+    requires { ⌜ at ≤ application-iv-at ⌝ }
     ensures { λ _. ⌜ (now (w .exit) ≡ putIv at iv (now (w .entry))) × LowIv iv ⌝ }
 {
-    let j1 = at + 1;
-    let j2 = at + 2;
-    let j3 = at + 3;
-    let j4 = at + 4;
-    let j5 = at + 5;
-    let j6 = at + 6;
-    let j7 = at + 7;
-    let j8 = at + 8;
-    let j9 = at + 9;
-    let j10 = at + 10;
-    let j11 = at + 11;
-    w[at] = byte(iv[0]);
-    w[j1] = byte(iv[1]);
-    w[j2] = byte(iv[2]);
-    w[j3] = byte(iv[3]);
-    w[j4] = byte(iv[4]);
-    w[j5] = byte(iv[5]);
-    w[j6] = byte(iv[6]);
-    w[j7] = byte(iv[7]);
-    w[j8] = byte(iv[8]);
-    w[j9] = byte(iv[9]);
-    w[j10] = byte(iv[10]);
-    w[j11] = byte(iv[11]);
+    let back = at + BACK;
+    words::bytes(&iv);
+    w[at] = words::be32(&iv, 0);
+    w[back] = words::be64(&iv, 4);
 }
 
-fn put_epoch(w: &mut [u64; 59], b: usize, at: usize, e: SendEpoch)
-    requires { ⌜ (b ≤ 15) × (at ≤ 47) ⌝ }
+fn put_epoch(w: &mut [u64; WORDS], b: usize, at: usize, e: SendEpoch)
+    requires { ⌜ (b ≤ application-at) × (at ≤ application-iv-at) ⌝ }
     ensures { λ _. ⌜ (now (w .exit) ≡ putEpoch b at e (now (w .entry))) × (e .epoch ≤ 65535) × LowIv (e .iv) ⌝ }
 {
     let iv = e.iv;
-    let n = b + 1;
-    let s = b + 2;
-    let epoch = wide(e.epoch);
-    w[b] = epoch;
-    w[n] = e.next;
-    w[s] = e.sealed;
+    let next = b + NEXT;
+    let sealed = b + SEALED;
+    w[b] = words::wide(e.epoch);
+    w[next] = e.next;
+    w[sealed] = e.sealed;
     put_iv(w, at, iv);
 }
 
 // A state written.
-pub fn save(w: &mut [u64; 59], s: Sending)
+pub fn save(w: &mut [u64; WORDS], s: Sending)
     ensures { λ _. ⌜ Kept s (now (w .exit)) ⌝ }
 {
     let k = s.keys;
-    let seq = wide(s.message_seq);
+    let seq = words::wide(s.message_seq);
     sized(w);
     put_queue(w, s.queue);
     put_waiting(w, s.waiting);
-    put_epoch(w, 12, 35, k.handshake);
-    put_epoch(w, 15, 47, k.application);
-    w[11] = k.plaintext_next;
-    w[18] = seq;
+    put_epoch(w, HANDSHAKE, HANDSHAKE_IV, k.handshake);
+    put_epoch(w, APPLICATION, APPLICATION_IV, k.application);
+    w[PLAINTEXT_NEXT] = k.plaintext_next;
+    w[MESSAGE] = seq;
 }

@@ -4,10 +4,9 @@ use mathlib.Core.Path.{_≡_, refl}
 use Prim.Native.Nat.{ℕ, _*_}
 use lib.ListN.{length, set}
 use Rattle.base.specs.Choose.{choose}
-use Rattle.words.specs.Fields.{firstOf}
+use Rattle.words.specs.Fields.{firstOf, by-words}
 use Rattle.outgoing.specs.declared.Sending.{Sending}
-use Rattle.send_words.specs.Words.{lengthsOf, ivFrom, stateOf, isFlat}
-use Rattle.send_words.specs.Laws.{by-words}
+use Rattle.send_words.specs.Words.{words, first-at, count-at, lowsFrom, stateOf, isFlat}
 use Rattle.taking.specs.declared.TakeAnswer.{TakeAnswer}
 use Rattle.taking.specs.Take.{frontLen, isTaken}
 
@@ -32,6 +31,6 @@ fronted s x y = record {
   «message_seq» = s .«message_seq»;
 }
 
-pub fronts : (w : List ℕ) (x y : ℕ) → length w ≡ 59 → Stands (fronted (stateOf w) x y) w (set (set w 2 x) 3 y)
-unfolding firstOf lengthsOf ivFrom isFlat
-fronts w x y h = by-words (λ (v : List ℕ). Stands (fronted (stateOf v) x y) v (set (set v 2 x) 3 y)) w h (refl, refl)
+pub fronts : (w : List ℕ) (x y : ℕ) → length w ≡ words → Stands (fronted (stateOf w) x y) w (set (set w first-at x) count-at y)
+unfolding firstOf lowsFrom isFlat
+fronts w x y h = by-words words (λ (v : List ℕ). Stands (fronted (stateOf v) x y) v (set (set v first-at x) count-at y)) w h (refl, refl)

@@ -1,7 +1,7 @@
 //! The C interface of the Rattle library, as far as it is timed.
 
 pub type LinkReceiving = [u64; 39];
-pub type LinkSending = [u64; 59];
+pub type LinkSending = [u64; 39];
 pub type LinkFlight = [u64; 73];
 pub type LinkNumbers = [u64; 384];
 

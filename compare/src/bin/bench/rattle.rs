@@ -28,7 +28,7 @@ pub struct Host {
 
 impl Host {
     pub fn new() -> Host {
-        let mut s = [0; 59];
+        let mut s = [0; 39];
         link_sending(&mut s, MTU, QUEUE);
         link_key_send(&mut s, 2, &IV);
         link_key_send(&mut s, 3, &IV);

@@ -1,63 +1,60 @@
--- `flight_words::entries_of` meets its contract. Assumes nothing.
+-- `flight_words::entries_of` meets its contract. Invariant: the entries before `i` are read. Assumes nothing.
 use borrow.Author.Needs.{needs}
-use Rattle.flight_words.specs.Words.{entriesOf}
+use mathlib.Core.Path.{_≡_, ap, _∙_}
+use mathlib.Core.List.{List}
+use Prim.Native.Nat.{_-_, _≤_}
+use native.Mathlib.Numerals.{add-one}
+use native.Mathlib.Omega.{arith}
+use lib.ListN.{set}
+use Rattle.flight.specs.declared.Entry.{Entry}
+use Rattle.flight_words.specs.Words.{entryAt}
+use Rattle.flight_words.specs.Laws.{reading, all-read}
 use Rattle.flight_words.proofs.entries_of.Statement.{statement}
 use Rattle.flight_words.proofs.entries_of.Tie as tie
 
-entry-of-requires : tie.Need-entry-of-requires
+abbrev Inv-loop : tie.InvT-loop
+Inv-loop w l₀ i₀ l i = (i ≤ 12) × (l ≡ reading w i)
+
+abbrev μ-loop : tie.MeasureT-loop
+μ-loop w l₀ i₀ l i = 12 - i
+
+loop-holds : tie.Need-loop-holds Inv-loop μ-loop
+loop-holds c = search needs
+
+entry-of-requires : tie.Need-entry-of-requires Inv-loop μ-loop
 entry-of-requires c κs = search needs
 
-entry-of-requires-2 : tie.Need-entry-of-requires-2
-entry-of-requires-2 c κs = search needs
+mul-l : tie.Need-mul-l Inv-loop μ-loop
+mul-l c = search needs
 
-entry-of-requires-3 : tie.Need-entry-of-requires-3
-entry-of-requires-3 c κs = search needs
+array-set-from-l : tie.Need-array-set-from-l Inv-loop μ-loop
+array-set-from-l c = search needs
 
-entry-of-requires-4 : tie.Need-entry-of-requires-4
-entry-of-requires-4 c κs = search needs
+add-i : tie.Need-add-i Inv-loop μ-loop
+add-i c = search needs
 
-entry-of-requires-5 : tie.Need-entry-of-requires-5
-entry-of-requires-5 c κs = search needs
+loop-less : tie.Need-loop-less Inv-loop μ-loop
+loop-less c = search needs
 
-entry-of-requires-6 : tie.Need-entry-of-requires-6
-entry-of-requires-6 c κs = search needs
+loop-again : tie.Need-loop-again Inv-loop μ-loop
+loop-again c = (omega arith, rw (add-one (c .before .before .loop .i), c .entry-of .ensures) (ap (λ (x : List Entry). set x (c .before .before .loop .i) (entryAt (c .before .before .before .args .w .now) (c .before .before .loop .i))) (c .before .before .loop .inv .1)))
 
-entry-of-requires-7 : tie.Need-entry-of-requires-7
-entry-of-requires-7 c κs = search needs
-
-entry-of-requires-8 : tie.Need-entry-of-requires-8
-entry-of-requires-8 c κs = search needs
-
-entry-of-requires-9 : tie.Need-entry-of-requires-9
-entry-of-requires-9 c κs = search needs
-
-entry-of-requires-10 : tie.Need-entry-of-requires-10
-entry-of-requires-10 c κs = search needs
-
-entry-of-requires-11 : tie.Need-entry-of-requires-11
-entry-of-requires-11 c κs = search needs
-
-entry-of-requires-12 : tie.Need-entry-of-requires-12
-entry-of-requires-12 c κs = search needs
-
-returns : tie.Need-returns
-unfolding entriesOf
-returns c = rw (c .before .before .before .before .before .before .before .before .before .before .before .entry-of .ensures, c .before .before .before .before .before .before .before .before .before .before .entry-of2 .ensures, c .before .before .before .before .before .before .before .before .before .entry-of3 .ensures, c .before .before .before .before .before .before .before .before .entry-of4 .ensures, c .before .before .before .before .before .before .before .entry-of5 .ensures, c .before .before .before .before .before .before .entry-of6 .ensures, c .before .before .before .before .before .entry-of7 .ensures, c .before .before .before .before .entry-of8 .ensures, c .before .before .before .entry-of9 .ensures, c .before .before .entry-of10 .ensures, c .before .entry-of11 .ensures, c .entry-of12 .ensures)
+returns : tie.Need-returns Inv-loop μ-loop
+returns c =
+    let e : c .before .loop .i ≡ 12 = omega arith in
+    c .before .loop .inv .1 ∙ ap (reading (c .before .before .args .w .now)) e ∙ all-read _
 
 pub entries-of-spec : {M : Type 1} → statement M
 entries-of-spec =
     tie.close
     (tie.spec
+    Inv-loop
+    μ-loop
+    loop-holds
     entry-of-requires
-    entry-of-requires-2
-    entry-of-requires-3
-    entry-of-requires-4
-    entry-of-requires-5
-    entry-of-requires-6
-    entry-of-requires-7
-    entry-of-requires-8
-    entry-of-requires-9
-    entry-of-requires-10
-    entry-of-requires-11
-    entry-of-requires-12
+    mul-l
+    array-set-from-l
+    add-i
+    loop-less
+    loop-again
     returns)

@@ -17,14 +17,14 @@ abbrev μ-loop : tie.MeasureT-loop
 loop-holds : tie.Need-loop-holds Inv-loop μ-loop
 loop-holds c = (omega arith, refl)
 
-sub-j : tie.Need-sub-j Inv-loop μ-loop
-sub-j c = omega arith
+sub-marked : tie.Need-sub-marked Inv-loop μ-loop
+sub-marked c = omega arith
 
-mul-j : tie.Need-mul-j Inv-loop μ-loop
-mul-j c = omega arith
+mul-marked : tie.Need-mul-marked Inv-loop μ-loop
+mul-marked c = omega arith
 
-add-j : tie.Need-add-j Inv-loop μ-loop
-add-j c = omega arith
+add-marked : tie.Need-add-marked Inv-loop μ-loop
+add-marked c = omega arith
 
 mul-if1 : tie.Need-mul-if1 Inv-loop μ-loop
 mul-if1 c = search needs
@@ -54,9 +54,9 @@ is-flat-spec =
     Inv-loop
     μ-loop
     loop-holds
-    sub-j
-    mul-j
-    add-j
+    sub-marked
+    mul-marked
+    add-marked
     mul-if1
     element-copy-out-if1
     returns

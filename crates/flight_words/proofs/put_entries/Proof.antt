@@ -1,113 +1,63 @@
--- `flight_words::put_entries` meets its contract. Assumes nothing.
+-- `flight_words::put_entries` meets its contract. Invariant: the entries before `i` are written. Assumes nothing.
 use borrow.Author.Needs.{needs}
-use mathlib.Core.Path.{_≡_, refl, sym, ap, _∙_}
-use Rattle.flight_words.specs.Words.{putEntry}
-use Rattle.flight_words.specs.Laws.{e₀, lows}
+use mathlib.Core.Path.{_≡_, ap, _∙_}
+use Prim.Native.Nat.{ℕ, _-_, _≤_}
+use native.Mathlib.Numerals.{add-one}
+use native.Mathlib.Omega.{arith}
 use lib.ListN.{getD}
+use Rattle.flight.specs.Flight.{noEntry}
+use Rattle.flight_words.specs.Words.{putEntry}
+use Rattle.flight_words.specs.Laws.{putEntries, LowTo, low-next}
 use Rattle.flight_words.proofs.put_entries.Statement.{statement}
 use Rattle.flight_words.proofs.put_entries.Tie as tie
 
-array-copy-out-put-entry : tie.Need-array-copy-out-put-entry
-array-copy-out-put-entry c = search needs
+abbrev Inv-loop : tie.InvT-loop
+Inv-loop w₀ l i₀ w i = (i ≤ 12) × (w ≡ putEntries i l w₀) × LowTo i l
 
-put-entry-requires : tie.Need-put-entry-requires
+abbrev μ-loop : tie.MeasureT-loop
+μ-loop w₀ l i₀ w i = 12 - i
+
+loop-holds : tie.Need-loop-holds Inv-loop μ-loop
+loop-holds c = search needs
+
+mul-e : tie.Need-mul-e Inv-loop μ-loop
+mul-e c = search needs
+
+array-copy-out-e : tie.Need-array-copy-out-e Inv-loop μ-loop
+array-copy-out-e c = search needs
+
+put-entry-requires : tie.Need-put-entry-requires Inv-loop μ-loop
 put-entry-requires c κs = search needs
 
-array-copy-out-put-entry-2 : tie.Need-array-copy-out-put-entry-2
-array-copy-out-put-entry-2 c = search needs
+add-i : tie.Need-add-i Inv-loop μ-loop
+add-i c = search needs
 
-put-entry-requires-2 : tie.Need-put-entry-requires-2
-put-entry-requires-2 c κs = search needs
+loop-less : tie.Need-loop-less Inv-loop μ-loop
+loop-less c = search needs
 
-array-copy-out-put-entry-3 : tie.Need-array-copy-out-put-entry-3
-array-copy-out-put-entry-3 c = search needs
+loop-again : tie.Need-loop-again Inv-loop μ-loop
+loop-again c =
+    let a = c .before .before .before .before .before .args in
+    let l = c .before .before .before .before .loop in
+    (omega arith, rw (add-one (l .i)) (c .put-entry .ensures .0 ∙ ap (putEntry (l .i) (getD (a .t2) (l .i) noEntry)) (l .inv .1)), low-next (l .i) (a .t2) (l .inv .2) (c .put-entry .ensures .1))
 
-put-entry-requires-3 : tie.Need-put-entry-requires-3
-put-entry-requires-3 c κs = search needs
-
-array-copy-out-put-entry-4 : tie.Need-array-copy-out-put-entry-4
-array-copy-out-put-entry-4 c = search needs
-
-put-entry-requires-4 : tie.Need-put-entry-requires-4
-put-entry-requires-4 c κs = search needs
-
-array-copy-out-put-entry-5 : tie.Need-array-copy-out-put-entry-5
-array-copy-out-put-entry-5 c = search needs
-
-put-entry-requires-5 : tie.Need-put-entry-requires-5
-put-entry-requires-5 c κs = search needs
-
-array-copy-out-put-entry-6 : tie.Need-array-copy-out-put-entry-6
-array-copy-out-put-entry-6 c = search needs
-
-put-entry-requires-6 : tie.Need-put-entry-requires-6
-put-entry-requires-6 c κs = search needs
-
-array-copy-out-put-entry-7 : tie.Need-array-copy-out-put-entry-7
-array-copy-out-put-entry-7 c = search needs
-
-put-entry-requires-7 : tie.Need-put-entry-requires-7
-put-entry-requires-7 c κs = search needs
-
-array-copy-out-put-entry-8 : tie.Need-array-copy-out-put-entry-8
-array-copy-out-put-entry-8 c = search needs
-
-put-entry-requires-8 : tie.Need-put-entry-requires-8
-put-entry-requires-8 c κs = search needs
-
-array-copy-out-put-entry-9 : tie.Need-array-copy-out-put-entry-9
-array-copy-out-put-entry-9 c = search needs
-
-put-entry-requires-9 : tie.Need-put-entry-requires-9
-put-entry-requires-9 c κs = search needs
-
-array-copy-out-put-entry-10 : tie.Need-array-copy-out-put-entry-10
-array-copy-out-put-entry-10 c = search needs
-
-put-entry-requires-10 : tie.Need-put-entry-requires-10
-put-entry-requires-10 c κs = search needs
-
-array-copy-out-put-entry-11 : tie.Need-array-copy-out-put-entry-11
-array-copy-out-put-entry-11 c = search needs
-
-put-entry-requires-11 : tie.Need-put-entry-requires-11
-put-entry-requires-11 c κs = search needs
-
-array-copy-out-put-entry-12 : tie.Need-array-copy-out-put-entry-12
-array-copy-out-put-entry-12 c = search needs
-
-put-entry-requires-12 : tie.Need-put-entry-requires-12
-put-entry-requires-12 c κs = search needs
-
-returns : tie.Need-returns
-returns c = (c .put-entry12 .ensures .0 ∙ ap (putEntry 11 (getD (c .before .before .before .before .before .before .before .before .before .before .before .before .before .before .before .before .before .before .before .before .before .before .before .before .before .before .before .before .before .before .before .before .before .before .before .before .args .t2) 11 e₀)) (c .before .before .before .put-entry11 .ensures .0 ∙ ap (putEntry 10 (getD (c .before .before .before .before .before .before .before .before .before .before .before .before .before .before .before .before .before .before .before .before .before .before .before .before .before .before .before .before .before .before .before .before .before .before .before .before .args .t2) 10 e₀)) (c .before .before .before .before .before .before .put-entry10 .ensures .0 ∙ ap (putEntry 9 (getD (c .before .before .before .before .before .before .before .before .before .before .before .before .before .before .before .before .before .before .before .before .before .before .before .before .before .before .before .before .before .before .before .before .before .before .before .before .args .t2) 9 e₀)) (c .before .before .before .before .before .before .before .before .before .put-entry9 .ensures .0 ∙ ap (putEntry 8 (getD (c .before .before .before .before .before .before .before .before .before .before .before .before .before .before .before .before .before .before .before .before .before .before .before .before .before .before .before .before .before .before .before .before .before .before .before .before .args .t2) 8 e₀)) (c .before .before .before .before .before .before .before .before .before .before .before .before .put-entry8 .ensures .0 ∙ ap (putEntry 7 (getD (c .before .before .before .before .before .before .before .before .before .before .before .before .before .before .before .before .before .before .before .before .before .before .before .before .before .before .before .before .before .before .before .before .before .before .before .before .args .t2) 7 e₀)) (c .before .before .before .before .before .before .before .before .before .before .before .before .before .before .before .put-entry7 .ensures .0 ∙ ap (putEntry 6 (getD (c .before .before .before .before .before .before .before .before .before .before .before .before .before .before .before .before .before .before .before .before .before .before .before .before .before .before .before .before .before .before .before .before .before .before .before .before .args .t2) 6 e₀)) (c .before .before .before .before .before .before .before .before .before .before .before .before .before .before .before .before .before .before .put-entry6 .ensures .0 ∙ ap (putEntry 5 (getD (c .before .before .before .before .before .before .before .before .before .before .before .before .before .before .before .before .before .before .before .before .before .before .before .before .before .before .before .before .before .before .before .before .before .before .before .before .args .t2) 5 e₀)) (c .before .before .before .before .before .before .before .before .before .before .before .before .before .before .before .before .before .before .before .before .before .put-entry5 .ensures .0 ∙ ap (putEntry 4 (getD (c .before .before .before .before .before .before .before .before .before .before .before .before .before .before .before .before .before .before .before .before .before .before .before .before .before .before .before .before .before .before .before .before .before .before .before .before .args .t2) 4 e₀)) (c .before .before .before .before .before .before .before .before .before .before .before .before .before .before .before .before .before .before .before .before .before .before .before .before .put-entry4 .ensures .0 ∙ ap (putEntry 3 (getD (c .before .before .before .before .before .before .before .before .before .before .before .before .before .before .before .before .before .before .before .before .before .before .before .before .before .before .before .before .before .before .before .before .before .before .before .before .args .t2) 3 e₀)) (c .before .before .before .before .before .before .before .before .before .before .before .before .before .before .before .before .before .before .before .before .before .before .before .before .before .before .before .put-entry3 .ensures .0 ∙ ap (putEntry 2 (getD (c .before .before .before .before .before .before .before .before .before .before .before .before .before .before .before .before .before .before .before .before .before .before .before .before .before .before .before .before .before .before .before .before .before .before .before .before .args .t2) 2 e₀)) (c .before .before .before .before .before .before .before .before .before .before .before .before .before .before .before .before .before .before .before .before .before .before .before .before .before .before .before .before .before .before .put-entry2 .ensures .0 ∙ ap (putEntry 1 (getD (c .before .before .before .before .before .before .before .before .before .before .before .before .before .before .before .before .before .before .before .before .before .before .before .before .before .before .before .before .before .before .before .before .before .before .before .before .args .t2) 1 e₀)) (c .before .before .before .before .before .before .before .before .before .before .before .before .before .before .before .before .before .before .before .before .before .before .before .before .before .before .before .before .before .before .before .before .before .put-entry .ensures .0))))))))))), lows _ (c .before .before .before .before .before .before .before .before .before .before .before .before .before .before .before .before .before .before .before .before .before .before .before .before .before .before .before .before .before .before .before .before .before .before .before .before .good .1 .0 .1 .0 .1) (c .before .before .before .before .before .before .before .before .before .before .before .before .before .before .before .before .before .before .before .before .before .before .before .before .before .before .before .before .before .before .before .before .before .put-entry .ensures .1) (c .before .before .before .before .before .before .before .before .before .before .before .before .before .before .before .before .before .before .before .before .before .before .before .before .before .before .before .before .before .before .put-entry2 .ensures .1) (c .before .before .before .before .before .before .before .before .before .before .before .before .before .before .before .before .before .before .before .before .before .before .before .before .before .before .before .put-entry3 .ensures .1) (c .before .before .before .before .before .before .before .before .before .before .before .before .before .before .before .before .before .before .before .before .before .before .before .before .put-entry4 .ensures .1) (c .before .before .before .before .before .before .before .before .before .before .before .before .before .before .before .before .before .before .before .before .before .put-entry5 .ensures .1) (c .before .before .before .before .before .before .before .before .before .before .before .before .before .before .before .before .before .before .put-entry6 .ensures .1) (c .before .before .before .before .before .before .before .before .before .before .before .before .before .before .before .put-entry7 .ensures .1) (c .before .before .before .before .before .before .before .before .before .before .before .before .put-entry8 .ensures .1) (c .before .before .before .before .before .before .before .before .before .put-entry9 .ensures .1) (c .before .before .before .before .before .before .put-entry10 .ensures .1) (c .before .before .before .put-entry11 .ensures .1) (c .put-entry12 .ensures .1))
+returns : tie.Need-returns Inv-loop μ-loop
+returns c =
+    let e : c .before .loop .i ≡ 12 = omega arith in
+    let a = c .before .before .args in
+    (c .before .loop .inv .1 ∙ ap (λ (n : ℕ). putEntries n (a .t2) (a .w .now)) e, record { long = search needs; each = rw e at (c .before .loop .inv .2) })
 
 pub put-entries-spec : {M : Type 1} → statement M
 put-entries-spec =
     tie.close
     (tie.spec
-    array-copy-out-put-entry
+    Inv-loop
+    μ-loop
+    loop-holds
+    mul-e
+    array-copy-out-e
     put-entry-requires
-    array-copy-out-put-entry-2
-    put-entry-requires-2
-    array-copy-out-put-entry-3
-    put-entry-requires-3
-    array-copy-out-put-entry-4
-    put-entry-requires-4
-    array-copy-out-put-entry-5
-    put-entry-requires-5
-    array-copy-out-put-entry-6
-    put-entry-requires-6
-    array-copy-out-put-entry-7
-    put-entry-requires-7
-    array-copy-out-put-entry-8
-    put-entry-requires-8
-    array-copy-out-put-entry-9
-    put-entry-requires-9
-    array-copy-out-put-entry-10
-    put-entry-requires-10
-    array-copy-out-put-entry-11
-    put-entry-requires-11
-    array-copy-out-put-entry-12
-    put-entry-requires-12
+    add-i
+    loop-less
+    loop-again
     returns)

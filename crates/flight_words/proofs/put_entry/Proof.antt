@@ -1,39 +1,38 @@
 -- `flight_words::put_entry` meets its contract. Assumes nothing.
+use Rattle.words.specs.Fields.{cast-bit}
 use borrow.Author.Needs.{needs}
-use mathlib.Core.Path.{_≡_, refl, sym, ap, _∙_}
-use Rattle.flight_words.specs.Laws.{cast-bit}
 use Rattle.flight_words.proofs.put_entry.Statement.{statement}
 use Rattle.flight_words.proofs.put_entry.Tie as tie
 
-mul-j0 : tie.Need-mul-j0
-mul-j0 c = search needs
+mul-row : tie.Need-mul-row
+mul-row c = search needs
 
-add-j1 : tie.Need-add-j1
-add-j1 c = search needs
+add-epoch : tie.Need-add-epoch
+add-epoch c = search needs
 
-add-j2 : tie.Need-add-j2
-add-j2 c = search needs
+add-number : tie.Need-add-number
+add-number c = search needs
 
-add-j3 : tie.Need-add-j3
-add-j3 c = search needs
+add-length : tie.Need-add-length
+add-length c = search needs
 
-add-j4 : tie.Need-add-j4
-add-j4 c = search needs
+add-marked : tie.Need-add-marked
+add-marked c = search needs
 
-add-j5 : tie.Need-add-j5
-add-j5 c = search needs
+add-remembered : tie.Need-add-remembered
+add-remembered c = search needs
 
 byte-requires : tie.Need-byte-requires
 byte-requires c κs = search needs
-
-wide-requires : tie.Need-wide-requires
-wide-requires c κs = search needs
 
 mul-w : tie.Need-mul-w
 mul-w c = search needs
 
 element-write-w : tie.Need-element-write-w
 element-write-w c = search needs
+
+wide-requires : tie.Need-wide-requires
+wide-requires c κs = search needs
 
 mul-w-2 : tie.Need-mul-w-2
 mul-w-2 c = search needs
@@ -75,16 +74,16 @@ pub put-entry-spec : {M : Type 1} → statement M
 put-entry-spec =
     tie.close
     (tie.spec
-    mul-j0
-    add-j1
-    add-j2
-    add-j3
-    add-j4
-    add-j5
+    mul-row
+    add-epoch
+    add-number
+    add-length
+    add-marked
+    add-remembered
     byte-requires
-    wide-requires
     mul-w
     element-write-w
+    wide-requires
     mul-w-2
     element-write-w-2
     mul-w-3

@@ -6,7 +6,7 @@ use mathlib.Core.Path.{_≡_, ap, _∙_}
 use native.Mathlib.Omega.{arith}
 use Rattle.outgoing.specs.declared.Waiting.{Waiting}
 use Rattle.sealing.specs.Sealing.{partStart, start-fits, part-fits, masked-laid}
-use Rattle.send_words.specs.Words.{stateOf}
+use Rattle.send_words.specs.Words.{mtu-at, sealing-slot-at, sealing-start-at, stateOf}
 use Rattle.seal_steps.proofs.reply.Statement.{statement}
 use Rattle.seal_steps.proofs.reply.Tie as tie
 
@@ -51,7 +51,7 @@ part-copy-start c = search needs
 
 part-copy-end : tie.Need-part-copy-end
 unfolding partStart
-part-copy-end c = let e : c .before .before .before .before .before .before .before .before .before .before .waiting-of .result .slot * getD (c .before .before .before .before .before .before .before .before .before .before .before .before .before .args .w .now) 0 0 ≡ getD (c .before .before .before .before .before .before .before .before .before .before .before .before .before .args .w .now) 6 0 * getD (c .before .before .before .before .before .before .before .before .before .before .before .before .before .args .w .now) 0 0 = ap (λ (x : Waiting). x .slot * getD (c .before .before .before .before .before .before .before .before .before .before .before .before .before .args .w .now) 0 0) (c .before .before .before .before .before .before .before .before .before .before .waiting-of .ensures) in let g : c .before .before .before .before .before .before .before .before .before .before .waiting-of .result .start ≡ getD (c .before .before .before .before .before .before .before .before .before .before .before .before .before .args .w .now) 7 0 = ap (λ (x : Waiting). x .start) (c .before .before .before .before .before .before .before .before .before .before .waiting-of .ensures) in let f = part-fits {s = stateOf (c .before .before .before .before .before .before .before .before .before .before .before .before .before .args .w .now)} {room = length (c .before .before .before .before .before .before .before .before .before .before .before .before .before .args .memory .now)} (c .before .before .before .before .before .before .before .before .before .before .before .before .before .pre .0) (c .before .before .before .before .before .before .before .before .before .before .before .before .before .pre .1) in omega (arith, e, g, f)
+part-copy-end c = let e : c .before .before .before .before .before .before .before .before .before .before .waiting-of .result .slot * getD (c .before .before .before .before .before .before .before .before .before .before .before .before .before .args .w .now) mtu-at 0 ≡ getD (c .before .before .before .before .before .before .before .before .before .before .before .before .before .args .w .now) sealing-slot-at 0 * getD (c .before .before .before .before .before .before .before .before .before .before .before .before .before .args .w .now) mtu-at 0 = ap (λ (x : Waiting). x .slot * getD (c .before .before .before .before .before .before .before .before .before .before .before .before .before .args .w .now) mtu-at 0) (c .before .before .before .before .before .before .before .before .before .before .waiting-of .ensures) in let g : c .before .before .before .before .before .before .before .before .before .before .waiting-of .result .start ≡ getD (c .before .before .before .before .before .before .before .before .before .before .before .before .before .args .w .now) sealing-start-at 0 = ap (λ (x : Waiting). x .start) (c .before .before .before .before .before .before .before .before .before .before .waiting-of .ensures) in let f = part-fits {s = stateOf (c .before .before .before .before .before .before .before .before .before .before .before .before .before .args .w .now)} {room = length (c .before .before .before .before .before .before .before .before .before .before .before .before .before .args .memory .now)} (c .before .before .before .before .before .before .before .before .before .before .before .before .before .pre .0) (c .before .before .before .before .before .before .before .before .before .before .before .before .before .pre .1) in omega (arith, e, g, f)
 
 copy-requires : tie.Need-copy-requires
 copy-requires c κs = search needs
@@ -64,7 +64,7 @@ same-length c = search needs
 
 returns : tie.Need-returns
 unfolding partStart
-returns c = let a = c .before .before .before .before .before .before .before .before .before .before .before .before .before .before .before .before .before .before .before .args in let e = ap (λ (x : Waiting). x .slot * getD (a .w .now) 0 0 + x .start + 5) (c .before .before .before .before .before .before .before .before .before .before .before .before .before .before .before .before .waiting-of .ensures) in (rw (c .before .before .before .before .before .before .before .before .before .before .before .before .before .before .before .before .waiting-of .ensures, c .before .before .before .before .before .before .before .before .before .seek-from .ensures, c .before .before .before .before .before .before .before .before .before .before .behind-oldest .ensures) at (c .settle .ensures), masked-laid (stateOf (a .w .now)) (a .mask) (a .memory .now) e (c .before .before .before .before .copy .ensures ∙ rw (c .before .before .before .before .before .before .before .before .before .before .before .before .before .before .before .before .waiting-of .ensures) at (c .before .before .before .before .before .before .before .masked-header .ensures)))
+returns c = let a = c .before .before .before .before .before .before .before .before .before .before .before .before .before .before .before .before .before .before .before .args in let e = ap (λ (x : Waiting). x .slot * getD (a .w .now) mtu-at 0 + x .start + 5) (c .before .before .before .before .before .before .before .before .before .before .before .before .before .before .before .before .waiting-of .ensures) in (rw (c .before .before .before .before .before .before .before .before .before .before .before .before .before .before .before .before .waiting-of .ensures, c .before .before .before .before .before .before .before .before .before .seek-from .ensures, c .before .before .before .before .before .before .before .before .before .before .behind-oldest .ensures) at (c .settle .ensures), masked-laid (stateOf (a .w .now)) (a .mask) (a .memory .now) e (c .before .before .before .before .copy .ensures ∙ rw (c .before .before .before .before .before .before .before .before .before .before .before .before .before .before .before .before .waiting-of .ensures) at (c .before .before .before .before .before .before .before .masked-header .ensures)))
 
 pub reply-spec : {M : Type 1} → statement M
 reply-spec =

@@ -8,6 +8,7 @@ use native.Mathlib.Nat.{mul-le-mul}
 use native.Mathlib.Omega.{arith}
 use Rattle.base.specs.Choose.{if-true, if-false}
 use Rattle.sealing.specs.Seek.{seekStep}
+use Rattle.send_words.specs.Words.{mtu-at}
 use Rattle.seal_steps.proofs.seek_step.Statement.{statement}
 use Rattle.seal_steps.proofs.seek_step.Tie as tie
 
@@ -44,10 +45,10 @@ element-copy-out-fragment : tie.Need-element-copy-out-fragment
 element-copy-out-fragment c = search needs
 
 mul-fragment : tie.Need-mul-fragment
-mul-fragment c = let h : c .before .before .before .slot-of .result ≤ 16 = omega (arith, c .before .before .before .slot-of .ensures .1, c .before .before .before .before .before .before .before .before .before .pre .limit) in let m : c .before .before .before .slot-of .result * getD (c .before .before .before .before .before .before .before .before .before .args .w .now) 0 0 ≤ 16 * 1500 = mul-le-mul h (c .before .before .before .before .before .before .before .before .before .pre .high) in omega arith
+mul-fragment c = let h : c .before .before .before .slot-of .result ≤ 16 = omega (arith, c .before .before .before .slot-of .ensures .1, c .before .before .before .before .before .before .before .before .before .pre .limit) in let m : c .before .before .before .slot-of .result * getD (c .before .before .before .before .before .before .before .before .before .args .w .now) mtu-at 0 ≤ 16 * 1500 = mul-le-mul h (c .before .before .before .before .before .before .before .before .before .pre .high) in omega arith
 
 add-fragment : tie.Need-add-fragment
-add-fragment c = let h : c .before .before .before .slot-of .result ≤ 16 = omega (arith, c .before .before .before .slot-of .ensures .1, c .before .before .before .before .before .before .before .before .before .pre .limit) in let m : c .before .before .before .slot-of .result * getD (c .before .before .before .before .before .before .before .before .before .args .w .now) 0 0 ≤ 16 * 1500 = mul-le-mul h (c .before .before .before .before .before .before .before .before .before .pre .high) in omega (arith, c .before .before .length-at .ensures .1, c .before .if2 .left)
+add-fragment c = let h : c .before .before .before .slot-of .result ≤ 16 = omega (arith, c .before .before .before .slot-of .ensures .1, c .before .before .before .before .before .before .before .before .before .pre .limit) in let m : c .before .before .before .slot-of .result * getD (c .before .before .before .before .before .before .before .before .before .args .w .now) mtu-at 0 ≤ 16 * 1500 = mul-le-mul h (c .before .before .before .before .before .before .before .before .before .pre .high) in omega (arith, c .before .before .length-at .ensures .1, c .before .if2 .left)
 
 sub-fragment : tie.Need-sub-fragment
 sub-fragment c = search needs

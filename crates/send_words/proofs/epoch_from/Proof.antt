@@ -3,51 +3,71 @@ use borrow.Author.Needs.{needs}
 use Rattle.send_words.proofs.epoch_from.Statement.{statement}
 use Rattle.send_words.proofs.epoch_from.Tie as tie
 
-iv-from-requires : tie.Need-iv-from-requires
-iv-from-requires c κs = search needs
+add-back : tie.Need-add-back
+add-back c = search needs
 
-add-n : tie.Need-add-n
-add-n c = search needs
+add-next : tie.Need-add-next
+add-next c = search needs
 
-add-s : tie.Need-add-s
-add-s c = search needs
+add-sealed : tie.Need-add-sealed
+add-sealed c = search needs
 
-mul-t7 : tie.Need-mul-t7
-mul-t7 c = search needs
+mul-iv-of : tie.Need-mul-iv-of
+mul-iv-of c = search needs
 
-element-copy-out-t10 : tie.Need-element-copy-out-t10
-element-copy-out-t10 c = search needs
+element-copy-out-iv-of : tie.Need-element-copy-out-iv-of
+element-copy-out-iv-of c = search needs
 
-cast-t12 : tie.Need-cast-t12
-cast-t12 c = search needs
+mul-iv-of-2 : tie.Need-mul-iv-of-2
+mul-iv-of-2 c = search needs
 
-mul-t13 : tie.Need-mul-t13
-mul-t13 c = search needs
+element-copy-out-iv-of-2 : tie.Need-element-copy-out-iv-of-2
+element-copy-out-iv-of-2 c = search needs
 
-element-copy-out-t16 : tie.Need-element-copy-out-t16
-element-copy-out-t16 c = search needs
+iv-of-requires : tie.Need-iv-of-requires
+iv-of-requires c κs = search needs
 
-mul-t17 : tie.Need-mul-t17
-mul-t17 c = search needs
+mul-t8 : tie.Need-mul-t8
+mul-t8 c = search needs
 
-element-copy-out-t20 : tie.Need-element-copy-out-t20
-element-copy-out-t20 c = search needs
+element-copy-out-t15 : tie.Need-element-copy-out-t15
+element-copy-out-t15 c = search needs
+
+cast-t18 : tie.Need-cast-t18
+cast-t18 c = search needs
+
+mul-t12 : tie.Need-mul-t12
+mul-t12 c = search needs
+
+element-copy-out-t21 : tie.Need-element-copy-out-t21
+element-copy-out-t21 c = search needs
+
+mul-t22 : tie.Need-mul-t22
+mul-t22 c = search needs
+
+element-copy-out-t25 : tie.Need-element-copy-out-t25
+element-copy-out-t25 c = search needs
 
 returns : tie.Need-returns
-returns c = rw (c .before .before .before .iv-from .ensures)
+returns c = rw (c .before .before .before .iv-of .ensures)
 
 pub epoch-from-spec : {M : Type 1} → statement M
 epoch-from-spec =
     tie.close
     (tie.spec
-    iv-from-requires
-    add-n
-    add-s
-    mul-t7
-    element-copy-out-t10
-    cast-t12
-    mul-t13
-    element-copy-out-t16
-    mul-t17
-    element-copy-out-t20
+    add-back
+    add-next
+    add-sealed
+    mul-iv-of
+    element-copy-out-iv-of
+    mul-iv-of-2
+    element-copy-out-iv-of-2
+    iv-of-requires
+    mul-t8
+    element-copy-out-t15
+    cast-t18
+    mul-t12
+    element-copy-out-t21
+    mul-t22
+    element-copy-out-t25
     returns)

@@ -1,14 +1,13 @@
 -- `send_words::put_epoch` meets its contract. Assumes nothing.
 use borrow.Author.Needs.{needs}
-use mathlib.Core.Path.{_≡_, refl, sym, ap, _∙_}
 use Rattle.send_words.proofs.put_epoch.Statement.{statement}
 use Rattle.send_words.proofs.put_epoch.Tie as tie
 
-add-n : tie.Need-add-n
-add-n c = search needs
+add-next : tie.Need-add-next
+add-next c = search needs
 
-add-s : tie.Need-add-s
-add-s c = search needs
+add-sealed : tie.Need-add-sealed
+add-sealed c = search needs
 
 wide-requires : tie.Need-wide-requires
 wide-requires c κs = search needs
@@ -41,8 +40,8 @@ pub put-epoch-spec : {M : Type 1} → statement M
 put-epoch-spec =
     tie.close
     (tie.spec
-    add-n
-    add-s
+    add-next
+    add-sealed
     wide-requires
     mul-w
     element-write-w

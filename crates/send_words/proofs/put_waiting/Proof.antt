@@ -1,7 +1,6 @@
 -- `send_words::put_waiting` meets its contract. Assumes nothing.
 use borrow.Author.Needs.{needs}
-use mathlib.Core.Path.{_≡_, refl, sym, ap, _∙_}
-use Rattle.send_words.specs.Laws.{cast-bit}
+use Rattle.words.specs.Fields.{cast-bit}
 use Rattle.send_words.proofs.put_waiting.Statement.{statement}
 use Rattle.send_words.proofs.put_waiting.Tie as tie
 

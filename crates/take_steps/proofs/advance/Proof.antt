@@ -3,7 +3,7 @@ use borrow.Author.Needs.{needs}
 use Prim.Native.Nat.{ℕ, _-_}
 use lib.ListN.{getD, set}
 use mathlib.Core.Path.{sym}
-use Rattle.send_words.specs.Words.{stateOf}
+use Rattle.send_words.specs.Words.{count-at, stateOf}
 use Rattle.taking.specs.Take.{afterTake}
 use Rattle.take_steps.specs.Front.{Stands, fronts}
 use Rattle.take_steps.proofs.advance.Statement.{statement}
@@ -34,7 +34,7 @@ element-write-w-2 : tie.Need-element-write-w-2
 element-write-w-2 c = search needs
 
 returns : tie.Need-returns
-returns c = let w = c .before .before .before .before .before .before .args .w .now in rw (c .before .next-slot .ensures) (fronts w _ (getD w 3 0 - 1) (c .before .before .before .before .sized .ensures))
+returns c = let w = c .before .before .before .before .before .before .args .w .now in rw (c .before .next-slot .ensures) (fronts w _ (getD w count-at 0 - 1) (c .before .before .before .before .sized .ensures))
 
 pub advance-spec : {M : Type 1} → statement M
 advance-spec =
