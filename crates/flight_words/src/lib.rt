@@ -49,7 +49,8 @@ fn byte(x: u8) -> u64
     x as u64
 }
 
-fn entry_of(w: &[u64; WORDS], i: usize) -> Entry
+// A saved record.
+pub fn entry_of(w: &[u64; WORDS], i: usize) -> Entry
     requires { ⌜ i < 12 ⌝ }
     ensures { λ r. ⌜ r ≡ entryAt (now (w .entry)) i ⌝ }
 {

@@ -72,7 +72,7 @@ pub const APPLICATION_NEXT: usize = APPLICATION + NEXT;
 
 pub const APPLICATION_SEALED: usize = APPLICATION + SEALED;
 // The next message number.
-const MESSAGE: usize = 18;
+pub const MESSAGE: usize = 18;
 // The length of the datagram in each of 16 slots.
 pub const LENGTHS: usize = 19;
 // Two words of each epoch's IV: the first four bytes, and the other eight.

@@ -7,16 +7,19 @@ use Rattle.sendings.proofs.lay_lengths.Statement.{statement}
 use Rattle.sendings.proofs.lay_lengths.Tie as tie
 
 abbrev Inv-loop : tie.InvT-loop
-Inv-loop q out₀ at n₀ i₀ out n i = (i ≤ 16) × (length out ≡ length out₀)
+Inv-loop w count out₀ at n₀ i₀ out n i = (i ≤ count) × (length out ≡ length out₀)
 
 abbrev μ-loop : tie.MeasureT-loop
-μ-loop q out₀ at n₀ i₀ out n i = 16 - i
+μ-loop w count out₀ at n₀ i₀ out n i = count - i
 
 loop-holds : tie.Need-loop-holds Inv-loop μ-loop
 loop-holds c = search needs
 
-push-length-requires : tie.Need-push-length-requires Inv-loop μ-loop
-push-length-requires c κs = search needs
+length-at-requires : tie.Need-length-at-requires Inv-loop μ-loop
+length-at-requires c κs = search needs
+
+push2-requires : tie.Need-push2-requires Inv-loop μ-loop
+push2-requires c κs = search needs
 
 add-i : tie.Need-add-i Inv-loop μ-loop
 add-i c = search needs
@@ -40,7 +43,8 @@ lay-lengths-spec =
     Inv-loop
     μ-loop
     loop-holds
-    push-length-requires
+    length-at-requires
+    push2-requires
     add-i
     loop-less
     loop-again

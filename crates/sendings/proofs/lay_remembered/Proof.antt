@@ -7,16 +7,19 @@ use Rattle.sendings.proofs.lay_remembered.Statement.{statement}
 use Rattle.sendings.proofs.lay_remembered.Tie as tie
 
 abbrev Inv-loop : tie.InvT-loop
-Inv-loop f i d out₀ at n₀ k₀ out n k = (k ≤ 32) × (length out ≡ length out₀)
+Inv-loop numbers i count out₀ at n₀ k₀ out n k = (k ≤ count) × (length out ≡ length out₀)
 
 abbrev μ-loop : tie.MeasureT-loop
-μ-loop f i d out₀ at n₀ k₀ out n k = 32 - k
+μ-loop numbers i count out₀ at n₀ k₀ out n k = count - k
 
 loop-holds : tie.Need-loop-holds Inv-loop μ-loop
 loop-holds c = search needs
 
-push-remembered-requires : tie.Need-push-remembered-requires Inv-loop μ-loop
-push-remembered-requires c κs = search needs
+remembered-requires : tie.Need-remembered-requires Inv-loop μ-loop
+remembered-requires c κs = search needs
+
+push8-requires : tie.Need-push8-requires Inv-loop μ-loop
+push8-requires c κs = search needs
 
 add-k : tie.Need-add-k Inv-loop μ-loop
 add-k c = search needs
@@ -40,7 +43,8 @@ lay-remembered-spec =
     Inv-loop
     μ-loop
     loop-holds
-    push-remembered-requires
+    remembered-requires
+    push8-requires
     add-k
     loop-less
     loop-again

@@ -7,13 +7,10 @@ use Rattle.sendings.proofs.replay_lines.Statement.{statement}
 use Rattle.sendings.proofs.replay_lines.Tie as tie
 
 abbrev Inv-loop : tie.InvT-loop
-Inv-loop text memory₀ kept₀ e₀ i₀ memory kept e i = (i ≤ length text) × (length memory ≡ length memory₀) × (length kept ≡ length kept₀)
+Inv-loop w₀ f₀ numbers₀ count₀ epochs₀ noted₀ sizes₀ text queue₀ kept₀ i₀ w f numbers count epochs noted sizes queue kept i = (i ≤ length text) × (length queue ≡ length queue₀) × (length kept ≡ length kept₀)
 
 abbrev μ-loop : tie.MeasureT-loop
-μ-loop text memory₀ kept₀ e₀ i₀ memory kept e i = length text - i
-
-nothing-requires : tie.Need-nothing-requires Inv-loop μ-loop
-nothing-requires c κs = search needs
+μ-loop w₀ f₀ numbers₀ count₀ epochs₀ noted₀ sizes₀ text queue₀ kept₀ i₀ w f numbers count epochs noted sizes queue kept i = length text - i
 
 loop-holds : tie.Need-loop-holds Inv-loop μ-loop
 loop-holds c = search needs
@@ -54,7 +51,6 @@ replay-lines-spec =
     (tie.spec
     Inv-loop
     μ-loop
-    nothing-requires
     loop-holds
     behind-requires
     line-len-requires
