@@ -1,45 +1,10 @@
 // Resends and ACKs as a host calls them. The words of the sending side and of the flight are those of link_sending and link_flight.
 // What is noted for the outgoing ACK is a count and two tables of 32 words.
 ghost use mathlib.Core.Path.{_≡_};
-ghost use Rattle.outgoing.specs.State as sends;
-ghost use Rattle.resend.specs.Tests.{refusal};
 ghost use Rattle.acks.specs.Acks as noting;
 ghost use Rattle.link_acks.specs.Calls.{notesOf, ResendCall, ProcessAckCall, NoteCall, SendAckCall};
 use acks::NoteAnswer;
 use acks::Notes;
-use outgoing::SendAnswer;
-use resend::ResendAnswer;
-
-fn resent_of(a: ResendAnswer) -> u8
-    ensures { λ r. ⌜ r ≡ refusal a ⌝ }
-{
-    match a {
-        ResendAnswer::Done => 0,
-        ResendAnswer::OutOfRange => 12,
-        ResendAnswer::BadEpoch => 13,
-        ResendAnswer::BadRecord => 14,
-        ResendAnswer::KeysAbsent => 17,
-        ResendAnswer::HistoryFull => 22,
-        ResendAnswer::QueueFull => 19,
-        ResendAnswer::NumbersSpent => 20,
-    }
-}
-
-fn answer_of(a: SendAnswer) -> u8
-    ensures { λ r. ⌜ r ≡ sends.refusal a ⌝ }
-{
-    match a {
-        SendAnswer::Done => 0,
-        SendAnswer::OutOfRange => 12,
-        SendAnswer::BadEpoch => 13,
-        SendAnswer::BadRecord => 14,
-        SendAnswer::KeysAbsent => 17,
-        SendAnswer::MessagesSpent => 21,
-        SendAnswer::FlightFull => 18,
-        SendAnswer::QueueFull => 19,
-        SendAnswer::NumbersSpent => 20,
-    }
-}
 
 fn note_of(a: NoteAnswer) -> u8
     ensures { λ r. ⌜ r ≡ noting.refusal a ⌝ }
@@ -79,9 +44,9 @@ pub fn resend(
                 resend_steps::close(w);
                 let h = resend_steps::resend_all(w, g, numbers, kept, queue);
                 flight_words::save_records(f, h);
-                return resent_of(a);
+                return resend::refusal(a);
             }
-            return resent_of(a);
+            return resend::refusal(a);
         }
         return 12;
     }
@@ -102,7 +67,7 @@ pub fn process_ack(
         let a = k.answer;
         let h = k.records;
         flight_words::save_records(f, h);
-        return answer_of(a);
+        return outgoing::refusal(a);
     }
     12
 }
@@ -157,7 +122,7 @@ pub fn send_ack(
         *epochs = x;
         let y = m.numbers;
         *numbers = y;
-        return answer_of(a);
+        return outgoing::refusal(a);
     }
     12
 }

@@ -1,26 +1,7 @@
 // The calls that save records in the flight, as a host makes them. Beside the words of the sending side the host keeps the words of the
 // flight, its table of 384 numbers, and a buffer for the saved contents.
-ghost use mathlib.Core.Path.{_≡_};
-ghost use Rattle.outgoing.specs.State.{refusal};
 ghost use Rattle.link_flight.specs.Calls.{FreshCall, BeginFlightCall, SendSavedCall, CreateHandshakeCall};
 use flight_words::SAVED;
-use outgoing::SendAnswer;
-
-fn answer_of(a: SendAnswer) -> u8
-    ensures { λ r. ⌜ r ≡ refusal a ⌝ }
-{
-    match a {
-        SendAnswer::Done => 0,
-        SendAnswer::OutOfRange => 12,
-        SendAnswer::BadEpoch => 13,
-        SendAnswer::BadRecord => 14,
-        SendAnswer::KeysAbsent => 17,
-        SendAnswer::MessagesSpent => 21,
-        SendAnswer::FlightFull => 18,
-        SendAnswer::QueueFull => 19,
-        SendAnswer::NumbersSpent => 20,
-    }
-}
 
 // Nothing saved, whatever stood in the words.
 pub fn fresh(f: &mut [u64; flight_words::WORDS], numbers: &mut [u64; 384])
@@ -67,7 +48,7 @@ pub fn send_saved(
             let h = k.records;
             send_words::save(w, k.state);
             flight_words::save_records(f, h);
-            return answer_of(a);
+            return outgoing::refusal(a);
         }
         return 12;
     }
@@ -95,7 +76,7 @@ pub fn create_handshake(
             let h = k.records;
             send_words::save(w, k.state);
             flight_words::save_records(f, h);
-            return answer_of(a);
+            return outgoing::refusal(a);
         }
         return 12;
     }

@@ -6,11 +6,11 @@ use mathlib.Core.Path.{_≡_, refl, sym, ap, _∙_}
 use Prim.Native.Nat.{ℕ, _*_}
 use native.Mathlib.Omega.{arith}
 use borrow.Author.Tests.{ltb-true}
-use lib.ListN.{replicate, length}
-use Rattle.base.specs.Choose.{choose, if-true, if-false, by-test}
+use lib.ListN.{replicate, length, set}
+use Rattle.base.specs.Choose.{choose, if-true, if-false, both-true, by-test}
 use Rattle.base.specs.Parts.{part, splice}
 use Rattle.send_keys.specs.Keys as keying
-use Rattle.outgoing.specs.State.{refusal, started, keyingState, isDone}
+use Rattle.outgoing.specs.State.{refusal, noWaiting, freshSending, started, keyingState, isDone}
 use Rattle.outgoing.specs.declared.Sending.{Sending}
 use Rattle.outgoing.specs.declared.Sent.{Sent}
 use Rattle.outgoing.specs.declared.Keying.{Keying}
@@ -22,10 +22,11 @@ use Rattle.sealing.specs.declared.Reply.{Reply}
 use Rattle.taking.specs.declared.Take.{Take}
 use Rattle.taking.specs.declared.TakeAnswer.{TakeAnswer}
 use Rattle.taking.specs.declared.TakeAnswer.the-variants as take
-use Rattle.send_words.specs.Words.{stateOf, isFlat}
-use Rattle.send_words.specs.Laws.{Kept, slot-length}
+use Rattle.words.specs.Packed.{ivOf}
+use Rattle.send_words.specs.Words.{words, mtu-at, limit-at, lowsFrom, stateOf, isFlat}
+use Rattle.send_words.specs.Laws.{slot-length}
 use Rattle.send_words.specs.Partly.{Partly}
-use Rattle.queue.specs.Queue.{ready}
+use Rattle.queue.specs.Queue.{isSetting, ready}
 use Rattle.take_steps.specs.Front.{frontStart}
 use Rattle.outgoing.specs.declared.SendAnswer.{SendAnswer}
 use Rattle.outgoing.specs.Send.{sendAnswer, sendState, sendMemory, laidState, laidMemory}
@@ -135,9 +136,22 @@ TakeInPlaceCall r v w q =
 
 -- ---- from the parts to the whole
 
--- a state written is the state behind the call
-pub after : (v w : List ℕ) (x s : Sending) → isFlat w ≡ true → Kept x v → x ≡ s → After v w s
-after v w x s f k e = (k .0 ∙ e ∙ sym (if-true _ _ f), k .1 ∙ sym f)
+-- words of 0 but for the settings
+abbrev zeros : ℕ → ℕ → List ℕ
+zeros mtu limit = set (set (replicate words 0) mtu-at mtu) limit-at limit
+
+zeros-fresh : (mtu limit : ℕ) → (stateOf (zeros mtu limit) ≡ freshSending mtu limit) × (isFlat (zeros mtu limit) ≡ true)
+unfolding lowsFrom ivOf isFlat freshSending noWaiting keying.noKeys keying.noEpoch
+zeros-fresh mtu limit = (refl, both-true refl)
+
+module _ (mtu limit : ℕ) where
+  pub starts-done : isSetting mtu limit ≡ true → FreshCall 0 (zeros mtu limit) mtu limit
+  unfolding started
+  starts-done h = let z = zeros-fresh mtu limit in (ap refusal (sym (if-true _ _ h)), z .0, z .1)
+
+  pub starts-refused : isSetting mtu limit ≡ false → FreshCall 12 (zeros mtu limit) mtu limit
+  unfolding started
+  starts-refused h = let z = zeros-fresh mtu limit in (ap refusal (sym (if-false _ _ h)), z .0, z .1)
 
 -- ---- a record laid, or refused
 

@@ -1,9 +1,6 @@
 // The sending side of a link as a host calls it. The state is words that the host keeps and lends, and the queue a buffer of its own.
 // Whatever stands in the words, a call ends with an answer.
 ghost use mathlib.Core.Path.{_≡_};
-ghost use Rattle.send_keys.specs.Keys as keying;
-ghost use Rattle.outgoing.specs.State.{refusal};
-ghost use Rattle.sealing.specs.Sealing as sealings;
 ghost use Rattle.link_sending.specs.Calls.{
   flatSealing,
   noSealing,
@@ -19,11 +16,9 @@ ghost use Rattle.link_sending.specs.Calls.{
   TakeCall,
   TakeInPlaceCall,
 };
-use outgoing::SendAnswer;
-use outgoing::Sending;
-use sealing::SealAnswer;
 use sealing::SealQuestion;
-use send_keys::KeyAnswer;
+use send_words::LIMIT;
+use send_words::MTU;
 use send_words::WORDS;
 use taking::TakeAnswer;
 
@@ -60,44 +55,7 @@ pub struct LinkPart {
     pub length: usize,
 }
 
-// ---- answers as numbers
-
-fn answer_of(a: SendAnswer) -> u8
-    ensures { λ r. ⌜ r ≡ refusal a ⌝ }
-{
-    match a {
-        SendAnswer::Done => 0,
-        SendAnswer::OutOfRange => 12,
-        SendAnswer::BadEpoch => 13,
-        SendAnswer::BadRecord => 14,
-        SendAnswer::KeysAbsent => 17,
-        SendAnswer::MessagesSpent => 21,
-        SendAnswer::FlightFull => 18,
-        SendAnswer::QueueFull => 19,
-        SendAnswer::NumbersSpent => 20,
-    }
-}
-
-fn key_answer_of(a: KeyAnswer) -> u8
-    ensures { λ r. ⌜ r ≡ keying.refusal a ⌝ }
-{
-    match a {
-        KeyAnswer::Keyed => 0,
-        KeyAnswer::OutOfRange => 12,
-        KeyAnswer::BadEpoch => 13,
-        KeyAnswer::SealingWaits => 23,
-    }
-}
-
-fn seal_answer_of(a: SealAnswer) -> u8
-    ensures { λ r. ⌜ r ≡ sealings.refusal a ⌝ }
-{
-    match a {
-        SealAnswer::Done => 0,
-        SealAnswer::OutOfRange => 12,
-        SealAnswer::NoQuestion => 15,
-    }
-}
+// ---- answers flat
 
 fn no_sealing(kind: u8, refusal: u8) -> LinkSealing
     ensures { λ r. ⌜ r ≡ noSealing kind refusal ⌝ }
@@ -194,10 +152,13 @@ fn flat_part(a: TakeAnswer, start: usize) -> LinkPart
 pub fn fresh(w: &mut [u64; WORDS], mtu: usize, limit: usize) -> u8
     ensures { λ r. ⌜ FreshCall r (now (w .exit)) mtu limit ⌝ }
 {
-    let k = Sending::fresh(mtu, limit);
-    let a = k.answer;
-    send_words::save(w, k.state);
-    answer_of(a)
+    *w = [0u64; WORDS];
+    w[MTU] = mtu as u64;
+    w[LIMIT] = limit as u64;
+    if queue::is_setting(mtu, limit) {
+        return 0;
+    }
+    12
 }
 
 // Keys an epoch to send, with its IV.
@@ -206,11 +167,7 @@ pub fn key_send(w: &mut [u64; WORDS], epoch: u16, iv: &[u8; 12]) -> u8
 {
     if send_words::is_flat(w) {
         let v = *iv;
-        let s = send_words::load(w);
-        let k = s.key_send(epoch, v);
-        let a = k.answer;
-        send_words::save(w, k.state);
-        return key_answer_of(a);
+        return send_keys::refusal(key_steps::key_send(w, epoch, v));
     }
     12
 }
@@ -231,9 +188,9 @@ pub fn send(
         let p = v.place;
         if outgoing::is_done(a) {
             send_steps::lay(w, p, epoch, content_type, content, queue);
-            return answer_of(a);
+            return outgoing::refusal(a);
         }
-        return answer_of(a);
+        return outgoing::refusal(a);
     }
     12
 }
@@ -243,7 +200,7 @@ pub fn sealing(w: &[u64; WORDS]) -> LinkSealing
     ensures { λ r. ⌜ SealingCall r (now (w .entry)) ⌝ }
 {
     if send_words::is_flat(w) {
-        let q = sealing::sealing(send_words::load(w));
+        let q = seal_steps::question(w);
         let k = q.question;
         let nonce = q.nonce;
         let header = q.header;
@@ -257,7 +214,7 @@ pub fn sealed(w: &mut [u64; WORDS], length: usize, mask_0: u8, mask_1: u8, queue
     ensures { λ r. ⌜ SealedCall r (now (w .exit)) (now (w .entry)) length «mask_0» «mask_1» (now (queue .exit)) (now (queue .entry)) ⌝ }
 {
     if send_words::is_flat(w) {
-        return seal_answer_of(seal_steps::sealed(w, length, [mask_0, mask_1], queue));
+        return sealing::refusal(seal_steps::sealed(w, length, [mask_0, mask_1], queue));
     }
     12
 }

@@ -8,7 +8,7 @@ ghost use Rattle.queue.specs.Laid.{recordLen};
 ghost use Rattle.send_keys.specs.declared.SendKeys.{SendKeys};
 ghost use Rattle.send_keys.specs.Keys.{nextOf};
 ghost use Rattle.record.specs.Record.{isType};
-ghost use Rattle.outgoing.specs.State.{noWaiting, freshSending, started, isContentType, isAllowed, isDone, isKeyedNow, keyingState};
+ghost use Rattle.outgoing.specs.State.{refusal, noWaiting, freshSending, started, isContentType, isAllowed, isDone, isKeyedNow, keyingState};
 ghost use Rattle.outgoing.specs.Send.{sendingOf, waitsBehind, laidState, laidMemory, sendAnswer, sendState, sendMemory, Open, Clear};
 use queue::Place;
 use queue::Queue;
@@ -62,6 +62,23 @@ pub struct Laying {
 pub struct Keying {
     pub answer: KeyAnswer,
     pub state: Sending,
+}
+
+// The number of an answer; 0 where a call is done.
+pub fn refusal(a: SendAnswer) -> u8
+    ensures { λ r. ⌜ r ≡ refusal a ⌝ }
+{
+    match a {
+        SendAnswer::Done => 0,
+        SendAnswer::OutOfRange => 12,
+        SendAnswer::BadEpoch => 13,
+        SendAnswer::BadRecord => 14,
+        SendAnswer::KeysAbsent => 17,
+        SendAnswer::MessagesSpent => 21,
+        SendAnswer::FlightFull => 18,
+        SendAnswer::QueueFull => 19,
+        SendAnswer::NumbersSpent => 20,
+    }
 }
 
 pub fn is_done(a: SendAnswer) -> bool
@@ -256,7 +273,7 @@ pub fn lay(s: Sending, d: &mut [u8], epoch: u16, t: u8, content: &[u8]) -> Sendi
     }
 }
 
-fn is_keyed_now(a: KeyAnswer) -> bool
+pub fn is_keyed_now(a: KeyAnswer) -> bool
     ensures { λ r. ⌜ r ≡ isKeyedNow a ⌝ }
 {
     match a {

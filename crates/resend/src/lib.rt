@@ -8,7 +8,7 @@ ghost use lib.ListN.{length};
 ghost use Rattle.base.specs.Choose.{choose};
 ghost use Rattle.queue.specs.Queue.{InRange, Tailed};
 ghost use Rattle.send_keys.specs.Keys.{nextOf};
-ghost use Rattle.resend.specs.Tests.{isDone, remembers, hasRoom, passes, passedWith, passedAfter, joined, surveyedWith, surveyedAfter, isOver, closedState, fitAnswer, resendAnswer, Joins, Fitting};
+ghost use Rattle.resend.specs.Tests.{refusal, isDone, remembers, hasRoom, passes, passedWith, passedAfter, joined, surveyedWith, surveyedAfter, isOver, closedState, fitAnswer, resendAnswer, Joins, Fitting};
 ghost use Rattle.resend.specs.Resend.{canRemember, newEntry, newTable, sentEntry, sentTable, laying, againAfter, resentWhole, resendState, resendQueue};
 ghost use Rattle.flight.specs.Flight.{isKept, whole};
 use flight::Entry;
@@ -67,6 +67,22 @@ pub struct Survey {
 pub struct Again {
     pub state: Sending,
     pub records: SavedRecords,
+}
+
+// The number of an answer; 0 where the flight is sent again.
+pub fn refusal(a: ResendAnswer) -> u8
+    ensures { λ r. ⌜ r ≡ refusal a ⌝ }
+{
+    match a {
+        ResendAnswer::Done => 0,
+        ResendAnswer::OutOfRange => 12,
+        ResendAnswer::BadEpoch => 13,
+        ResendAnswer::BadRecord => 14,
+        ResendAnswer::KeysAbsent => 17,
+        ResendAnswer::HistoryFull => 22,
+        ResendAnswer::QueueFull => 19,
+        ResendAnswer::NumbersSpent => 20,
+    }
 }
 
 pub fn is_done(a: ResendAnswer) -> bool

@@ -1,21 +1,28 @@
-// The reply to a sealing, over the words that hold the sending side's state: of a datagram searched only its length is read, and only the
-// sealing that waits and its epoch's sealed number are written.
+// A sealing asked for and the reply to it, over the words that hold the sending side's state: of a datagram searched only its length is
+// read, and only the sealing that waits and its epoch's sealed number are written.
 ghost use mathlib.Core.Path.{_≡_};
 ghost use Prim.Native.Nat.{_-_, _*_, _≤_, _<_};
 ghost use lib.ListN.{length};
 ghost use Rattle.base.specs.Parts.{splice};
 ghost use Rattle.queue.specs.Queue.{InRange};
+ghost use Rattle.send_keys.specs.Keys.{ivOf};
 ghost use Rattle.sealing.specs.Seek.{seekStep, seek};
-ghost use Rattle.sealing.specs.Sealing.{isHeld, partStart, maskedHeader, behindOldest, sealAnswer, afterSealing, sealedState, sealedMemory, Held};
+ghost use Rattle.sealing.specs.Sealing.{isHeld, partStart, asked, questionOf, maskedHeader, behindOldest, sealAnswer, afterSealing, sealedState, sealedMemory, Held};
 ghost use Rattle.send_words.specs.Words.{queueOf, stateOf};
 ghost use Rattle.send_words.specs.Partly.{Partly};
 ghost use Rattle.seal_steps.specs.Settles.{settled};
 use outgoing::Waiting;
+use sealing::Question;
 use sealing::SealAnswer;
+use sealing::SealQuestion;
 use sealing::Search;
+use send_words::APPLICATION_IV;
+use send_words::APPLICATION_IV_BACK;
 use send_words::APPLICATION_SEALED;
 use send_words::COUNT;
 use send_words::FIRST;
+use send_words::HANDSHAKE_IV;
+use send_words::HANDSHAKE_IV_BACK;
 use send_words::HANDSHAKE_SEALED;
 use send_words::LIMIT;
 use send_words::MTU;
@@ -58,6 +65,64 @@ fn seal_answer(w: &[u64; WORDS], room: usize, length: usize) -> SealAnswer
         return SealAnswer::NoQuestion;
     }
     SealAnswer::NoQuestion
+}
+
+// The first byte to be sealed of the oldest record that waits.
+fn part_start(w: &[u64; WORDS]) -> usize
+    requires { ⌜ Held (stateOf (now w)) ⌝ }
+    ensures { λ r. ⌜ r ≡ partStart (stateOf (now (w .entry))) ⌝ }
+{
+    w[SEALING_SLOT] as usize * w[MTU] as usize + w[SEALING_START] as usize + 5
+}
+
+// ---- the question
+
+// The IV of epoch 2, or of the application epoch.
+fn iv_of(w: &[u64; WORDS], epoch: u16) -> [u8; 12]
+    ensures { λ r. ⌜ r ≡ ivOf (stateOf (now (w .entry)) .keys) epoch ⌝ }
+{
+    if epoch == 2 {
+        return words::iv_of(w[HANDSHAKE_IV], w[HANDSHAKE_IV_BACK]);
+    }
+    words::iv_of(w[APPLICATION_IV], w[APPLICATION_IV_BACK])
+}
+
+// The sealing that waits: full epoch and number, nonce, header with its number not masked, and the place of what is to be sealed.
+fn oldest(w: &[u64; WORDS]) -> Question
+    requires { ⌜ Held (stateOf (now w)) ⌝ }
+    ensures { λ r. ⌜ r ≡ asked (stateOf (now (w .entry))) ⌝ }
+{
+    let x = send_words::waiting_of(w);
+    let start = part_start(w);
+    let iv = iv_of(w, x.epoch);
+    let nonce = dtls_aead::nonce_xor(iv, x.number);
+    let header = headers::unified_header(x.epoch, x.number, x.length as u16);
+    Question {
+        question: SealQuestion::Seal {
+            epoch: x.epoch,
+            number: x.number,
+            start: start,
+            length: x.length,
+        },
+        nonce: nonce,
+        header: header,
+    }
+}
+
+// What the host is asked.
+pub fn question(w: &[u64; WORDS]) -> Question
+    ensures { λ r. ⌜ r ≡ questionOf (stateOf (now (w .entry))) ⌝ }
+{
+    if !send_steps::is_sound(w) {
+        return sealing::nothing(SealQuestion::OutOfRange);
+    }
+    if !is_held(w) {
+        return sealing::nothing(SealQuestion::OutOfRange);
+    }
+    if w[SEALING] == 1 {
+        return oldest(w);
+    }
+    sealing::nothing(SealQuestion::Nothing)
 }
 
 // ---- the next record that waits
@@ -146,7 +211,7 @@ fn reply(w: &mut [u64; WORDS], mask: [u8; 2], memory: &mut [u8])
     ensures { λ _. ⌜ Partly (afterSealing (stateOf (now (w .entry))) (now (memory .entry))) (now (w .entry)) (now (w .exit)) × (now (memory .exit) ≡ splice (partStart (stateOf (now (w .entry))) - 5) (maskedHeader (stateOf (now (w .entry)) .waiting .epoch) (stateOf (now (w .entry)) .waiting .number) (stateOf (now (w .entry)) .waiting .length) mask) (now (memory .entry))) ⌝ }
 {
     let x = send_words::waiting_of(w);
-    let inner = x.slot * w[MTU] as usize + x.start + 5;
+    let inner = part_start(w);
     let from = inner - 5;
     let next = seek_from(w, memory, behind_oldest(w));
     let header = sealing::masked_header(x.epoch, x.number, x.length as u16, mask);

@@ -6,7 +6,7 @@ ghost use Rattle.base.specs.Bytes.{beAt};
 ghost use Rattle.queue.specs.Queue.{InRange, Ready};
 ghost use Rattle.record.specs.Record.{parsed};
 ghost use Rattle.sealing.specs.Seek.{nthOf, beyond, passed, stepOf, recordAt, seekStep, seek};
-ghost use Rattle.sealing.specs.Sealing.{isSpan, isHeld, isAsked, partStart, questionOf, nothingAsked, partOf, isPut, putMemory, maskedHeader, behindOldest, sealAnswer, isSealed, sealedState, sealedMemory, Held};
+ghost use Rattle.sealing.specs.Sealing.{refusal, isSpan, isHeld, isAsked, partStart, questionOf, nothingAsked, partOf, isPut, putMemory, maskedHeader, behindOldest, sealAnswer, isSealed, sealedState, sealedMemory, Held};
 use outgoing::Sending;
 use outgoing::Waiting;
 use queue::Queue;
@@ -249,7 +249,7 @@ fn is_held(s: Sending) -> bool
     true
 }
 
-fn nothing(q: SealQuestion) -> Question
+pub fn nothing(q: SealQuestion) -> Question
     ensures { λ r. ⌜ r ≡ nothingAsked q ⌝ }
 {
     Question {
@@ -374,6 +374,17 @@ fn seal_answer(s: Sending, room: usize, length: usize) -> SealAnswer
         return SealAnswer::NoQuestion;
     }
     SealAnswer::NoQuestion
+}
+
+// The number of an answer; 0 where a reply is taken.
+pub fn refusal(a: SealAnswer) -> u8
+    ensures { λ r. ⌜ r ≡ refusal a ⌝ }
+{
+    match a {
+        SealAnswer::Done => 0,
+        SealAnswer::OutOfRange => 12,
+        SealAnswer::NoQuestion => 15,
+    }
 }
 
 pub fn is_sealed(a: SealAnswer) -> bool

@@ -1,7 +1,7 @@
 // The epochs to send in, after `Keys` of engine.rs: their IVs and the next numbers.
 ghost use mathlib.Core.Path.{_≡_};
 ghost use Prim.Native.Nat.{_<_};
-ghost use Rattle.send_keys.specs.Keys.{isUsable, isKeyed, nextOf, ivOf, used, sealedUpTo, keyAnswer, keyed, noEpoch, noKeys};
+ghost use Rattle.send_keys.specs.Keys.{refusal, isUsable, isKeyed, nextOf, ivOf, used, sealedUpTo, keyAnswer, keyed, noEpoch, noKeys};
 
 // A send epoch, 0 where none is keyed: its IV, its next number, and the number from which on its records may wait for their sealing.
 pub struct SendEpoch {
@@ -26,6 +26,18 @@ pub enum KeyAnswer {
     BadEpoch,
     // A sealing under the application epoch waits.
     SealingWaits,
+}
+
+// The number of an answer; 0 where an epoch is keyed.
+pub fn refusal(a: KeyAnswer) -> u8
+    ensures { λ r. ⌜ r ≡ refusal a ⌝ }
+{
+    match a {
+        KeyAnswer::Keyed => 0,
+        KeyAnswer::OutOfRange => 12,
+        KeyAnswer::BadEpoch => 13,
+        KeyAnswer::SealingWaits => 23,
+    }
 }
 
 pub fn no_epoch() -> SendEpoch

@@ -2,7 +2,7 @@
 ghost use mathlib.Core.Path.{_≡_};
 ghost use Prim.Native.Nat.{_+_, _≤_, _<_};
 ghost use lib.ListN.{length, getD};
-ghost use Rattle.queue.specs.Queue.{InRange, Tailed, isReady, lastLen, tailOf};
+ghost use Rattle.queue.specs.Queue.{InRange, Tailed, isSound, isReady, lastLen, tailOf};
 ghost use Rattle.send_keys.specs.Keys.{isUsable, isKeyed, nextOf, used};
 ghost use Rattle.outgoing.specs.State.{withKeys};
 ghost use Rattle.outgoing.specs.Send.{spotOf, laidState, laidMemory, Clear};
@@ -55,7 +55,7 @@ fn queue_at(w: &[u64; WORDS]) -> Queue
 }
 
 // The keys but for their IVs.
-fn keys_at(w: &[u64; WORDS]) -> SendKeys
+pub fn keys_at(w: &[u64; WORDS]) -> SendKeys
     ensures { λ r. ⌜ r ≡ bareKeys (now (w .entry)) ⌝ }
 {
     let h = SendEpoch {
@@ -75,6 +75,13 @@ fn keys_at(w: &[u64; WORDS]) -> SendKeys
         handshake: h,
         application: a,
     }
+}
+
+// Whether settings and ring are in range.
+pub fn is_sound(w: &[u64; WORDS]) -> bool
+    ensures { λ r. ⌜ r ≡ isSound (queueOf (now (w .entry))) ⌝ }
+{
+    queue::is_sound(queue_at(w))
 }
 
 // Whether settings and ring are in range and the buffer lent for the queue is long enough.

@@ -78,9 +78,13 @@ pub const LENGTHS: usize = 19;
 // Two words of each epoch's IV: the first four bytes, and the other eight.
 const BACK: usize = 1;
 
-const HANDSHAKE_IV: usize = 35;
+pub const HANDSHAKE_IV: usize = 35;
 
-const APPLICATION_IV: usize = 37;
+pub const HANDSHAKE_IV_BACK: usize = HANDSHAKE_IV + BACK;
+
+pub const APPLICATION_IV: usize = 37;
+
+pub const APPLICATION_IV_BACK: usize = APPLICATION_IV + BACK;
 
 fn count_of(w: &[u64]) -> usize
     ensures { λ r. ⌜ r ≡ length (now (w .entry)) ⌝ }
@@ -240,7 +244,7 @@ fn put_iv(w: &mut [u64; WORDS], at: usize, iv: [u8; 12])
     w[back] = words::be64(&iv, 4);
 }
 
-fn put_epoch(w: &mut [u64; WORDS], b: usize, at: usize, e: SendEpoch)
+pub fn put_epoch(w: &mut [u64; WORDS], b: usize, at: usize, e: SendEpoch)
     requires { ⌜ (b ≤ application-at) × (at ≤ application-iv-at) ⌝ }
     ensures { λ _. ⌜ (now (w .exit) ≡ putEpoch b at e (now (w .entry))) × (e .epoch ≤ 65535) × LowIv (e .iv) ⌝ }
 {

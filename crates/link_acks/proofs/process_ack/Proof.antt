@@ -19,12 +19,12 @@ ack-records-requires c κs = search needs
 save-records-requires : tie.Need-save-records-requires
 save-records-requires c κs = search needs
 
-answer-of-requires : tie.Need-answer-of-requires
-answer-of-requires c κs = search needs
+refusal-requires : tie.Need-refusal-requires
+refusal-requires c κs = search needs
 
 returns : tie.Need-returns
 returns c =
-    acts _ _ _ _ _ (ackedWhole (c .before .before .before .before .ack-records .result) (c .before .before .before .before .before .before .before .before .before .before .before .before .args .numbers .now)) _ (sym (c .before .before .before .before .before .before .before .before .before .is-flat .ensures) ∙ c .before .before .before .before .before .before .before .before .if1 .taken) (c .answer-of .ensures) (c .before .save-records .ensures (c .before .before .before .before .before .before .before .before .before .before .before .before .args .numbers .now)) refl
+    acts _ _ _ _ _ (ackedWhole (c .before .before .before .before .ack-records .result) (c .before .before .before .before .before .before .before .before .before .before .before .before .args .numbers .now)) _ (sym (c .before .before .before .before .before .before .before .before .before .is-flat .ensures) ∙ c .before .before .before .before .before .before .before .before .if1 .taken) (c .refusal .ensures) (c .before .save-records .ensures (c .before .before .before .before .before .before .before .before .before .before .before .before .args .numbers .now)) refl
     (rw (c .before .before .before .before .before .before .load-records .ensures) at (c .before .before .before .before .ack-records .ensures))
 
 returns-2 : tie.Need-returns-2
@@ -38,6 +38,6 @@ process-ack-spec =
     load-records-requires
     ack-records-requires
     save-records-requires
-    answer-of-requires
+    refusal-requires
     returns
     returns-2)

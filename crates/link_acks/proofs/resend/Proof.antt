@@ -43,8 +43,8 @@ resend-all-requires c κs =
 save-records-requires : tie.Need-save-records-requires
 save-records-requires c κs = search needs
 
-resent-of-requires : tie.Need-resent-of-requires
-resent-of-requires c κs = search needs
+refusal-requires : tie.Need-refusal-requires
+refusal-requires c κs = search needs
 
 same-length : tie.Need-same-length
 same-length c = search needs
@@ -62,10 +62,10 @@ returns c =
     y .0 ∙ ap (λ (s : Sending). againAfter (a .kept .now) (laying s (g .result) (a .numbers .now) (a .queue .now)) (g .result .saved)) (x .0)
     ∙ ap (λ (z : SavedRecords). againAfter (a .kept .now) (laying (closedState (stateOf (a .w .now))) z (a .numbers .now) (a .queue .now)) (z .saved)) (g .ensures)
     in
-    rw (← e) (resends-all _ _ (a .w .now) (a .f .now) (a .numbers .now) (a .kept .now) (a .queue .now) p q (c .resent-of .ensures) _ _ _ _ _ (sym (c .before .before .before .before .before .before .before .before .before .before .before .before .is-done .ensures) ∙ c .before .before .before .before .before .before .before .before .before .before .before .if3 .taken) (y .1 (x .1 p)) (c .before .save-records .ensures) l)
+    rw (← e) (resends-all _ _ (a .w .now) (a .f .now) (a .numbers .now) (a .kept .now) (a .queue .now) p q (c .refusal .ensures) _ _ _ _ _ (sym (c .before .before .before .before .before .before .before .before .before .before .before .before .is-done .ensures) ∙ c .before .before .before .before .before .before .before .before .before .before .before .if3 .taken) (y .1 (x .1 p)) (c .before .save-records .ensures) l)
 
-resent-of-requires-2 : tie.Need-resent-of-requires-2
-resent-of-requires-2 c κs = search needs
+refusal-requires-2 : tie.Need-refusal-requires-2
+refusal-requires-2 c κs = search needs
 
 returns-2 : tie.Need-returns-2
 returns-2 c =
@@ -73,7 +73,7 @@ returns-2 c =
     let p = sym (c .before .before .before .before .before .before .before .before .before .before .before .before .is-flat .ensures) ∙ c .before .before .before .before .before .before .before .before .before .before .before .if1 .taken in
     let q = sym (c .before .before .before .before .before .before .before .before .before .is-flat2 .ensures) ∙ c .before .before .before .before .before .before .before .before .if2 .taken in
     let e = rw (c .before .before .before .before .load .ensures, c .before .before .before .before .before .before .load-records .ensures) at (c .before .before .before .resend-answer .ensures (a .numbers .now)) in
-    rw (← e) (resends-nothing _ _ (a .w .now) (a .f .now) (a .numbers .now) (a .kept .now) (a .queue .now) p q (c .resent-of2 .ensures) (sym (c .before .before .is-done .ensures) ∙ c .before .if3 .left))
+    rw (← e) (resends-nothing _ _ (a .w .now) (a .f .now) (a .numbers .now) (a .kept .now) (a .queue .now) p q (c .refusal2 .ensures) (sym (c .before .before .is-done .ensures) ∙ c .before .if3 .left))
 
 returns-3 : tie.Need-returns-3
 returns-3 c =
@@ -98,10 +98,10 @@ resend-spec =
     close-requires
     resend-all-requires
     save-records-requires
-    resent-of-requires
+    refusal-requires
     same-length
     returns
-    resent-of-requires-2
+    refusal-requires-2
     returns-2
     returns-3
     returns-4)

@@ -21,14 +21,14 @@ send-ack-requires c κs = search needs
 save-requires : tie.Need-save-requires
 save-requires c κs = search needs
 
-answer-of-requires : tie.Need-answer-of-requires
-answer-of-requires c κs = search needs
+refusal-requires : tie.Need-refusal-requires
+refusal-requires c κs = search needs
 
 same-length : tie.Need-same-length
 same-length c = search needs
 
 returns : tie.Need-returns
-returns c = (acknowledges _ _ _ _ _ _ _ (sym (c .before .before .before .before .before .before .before .before .before .before .before .before .before .before .before .before .before .before .is-flat .ensures) ∙ c .before .before .before .before .before .before .before .before .before .before .before .before .before .before .before .before .before .if1 .taken) (c .answer-of .ensures) (c .before .before .before .before .save .ensures) refl (rw (c .before .before .before .before .before .before .before .before .before .before .before .before .before .before .before .load .ensures, c .before .before .before .before .before .before .before .before .before .before .before .notes-of .ensures) at (c .before .before .before .before .before .before .before .before .before .send-ack .ensures .0)), (rw (c .before .before .before .before .before .before .before .before .before .before .before .before .before .before .before .load .ensures, c .before .before .before .before .before .before .before .before .before .before .before .notes-of .ensures) at (c .before .before .before .before .before .before .before .before .before .send-ack .ensures .1)) ∙ sym (if-true _ _ (sym (c .before .before .before .before .before .before .before .before .before .before .before .before .before .before .before .before .before .before .is-flat .ensures) ∙ c .before .before .before .before .before .before .before .before .before .before .before .before .before .before .before .before .before .if1 .taken)))
+returns c = (acknowledges _ _ _ _ _ _ _ (sym (c .before .before .before .before .before .before .before .before .before .before .before .before .before .before .before .before .before .before .is-flat .ensures) ∙ c .before .before .before .before .before .before .before .before .before .before .before .before .before .before .before .before .before .if1 .taken) (c .refusal .ensures) (c .before .before .before .before .save .ensures) refl (rw (c .before .before .before .before .before .before .before .before .before .before .before .before .before .before .before .load .ensures, c .before .before .before .before .before .before .before .before .before .before .before .notes-of .ensures) at (c .before .before .before .before .before .before .before .before .before .send-ack .ensures .0)), (rw (c .before .before .before .before .before .before .before .before .before .before .before .before .before .before .before .load .ensures, c .before .before .before .before .before .before .before .before .before .before .before .notes-of .ensures) at (c .before .before .before .before .before .before .before .before .before .send-ack .ensures .1)) ∙ sym (if-true _ _ (sym (c .before .before .before .before .before .before .before .before .before .before .before .before .before .before .before .before .before .before .is-flat .ensures) ∙ c .before .before .before .before .before .before .before .before .before .before .before .before .before .before .before .before .before .if1 .taken)))
 
 returns-2 : tie.Need-returns-2
 returns-2 c = (((sym (if-false _ _ (sym (c .before .is-flat .ensures) ∙ c .if1 .left))), (sym (if-false _ _ (sym (c .before .is-flat .ensures) ∙ c .if1 .left))), refl, (sym (if-false _ _ (sym (c .before .is-flat .ensures) ∙ c .if1 .left)))), (sym (if-false _ _ (sym (c .before .is-flat .ensures) ∙ c .if1 .left))))
@@ -42,7 +42,7 @@ send-ack-spec =
     notes-of-requires
     send-ack-requires
     save-requires
-    answer-of-requires
+    refusal-requires
     same-length
     returns
     returns-2)

@@ -1,22 +1,25 @@
 -- `link_sending::fresh` meets its contract. Assumes nothing.
 use borrow.Author.Needs.{needs}
-use mathlib.Core.Path.{_≡_, refl, sym, ap, _∙_}
-use Rattle.outgoing.specs.declared.Sent.{Sent}
-use Rattle.outgoing.specs.State.{refusal}
+use mathlib.Core.Path.{sym, _∙_}
+use Rattle.link_sending.specs.Calls.{starts-done, starts-refused}
 use Rattle.link_sending.proofs.fresh.Statement.{statement}
 use Rattle.link_sending.proofs.fresh.Tie as tie
 
-fresh-requires : tie.Need-fresh-requires
-fresh-requires c κs = search needs
+element-write-w : tie.Need-element-write-w
+element-write-w c = search needs
 
-save-requires : tie.Need-save-requires
-save-requires c κs = search needs
+element-write-w-2 : tie.Need-element-write-w-2
+element-write-w-2 c = search needs
 
-answer-of-requires : tie.Need-answer-of-requires
-answer-of-requires c κs = search needs
+is-setting-requires : tie.Need-is-setting-requires
+is-setting-requires c κs = search needs
 
 returns : tie.Need-returns
-returns c = let e = c .before .before .before .fresh .ensures in (c .answer-of .ensures ∙ ap (λ (x : Sent). refusal (x .answer)) e, c .before .save .ensures .0 ∙ ap (λ (x : Sent). x .state) e, c .before .save .ensures .1)
+returns c = starts-done (c .before .before .before .args .mtu) (c .before .before .before .args .limit) (sym (c .before .is-setting .ensures) ∙ c .if1 .taken)
+
+returns-2 : tie.Need-returns-2
+returns-2 c = starts-refused (c .before .before .before .args .mtu) (c .before .before .before .args .limit) (sym (c .before .is-setting .ensures) ∙ c .if1 .left)
 
 pub fresh-spec : {M : Type 1} → statement M
-fresh-spec = tie.close (tie.spec fresh-requires save-requires answer-of-requires returns)
+fresh-spec =
+    tie.close (tie.spec element-write-w element-write-w-2 is-setting-requires returns returns-2)

@@ -12,15 +12,15 @@ is-flat-requires c κs = search needs
 sealed-requires : tie.Need-sealed-requires
 sealed-requires c κs = search needs
 
-seal-answer-of-requires : tie.Need-seal-answer-of-requires
-seal-answer-of-requires c κs = search needs
+refusal-requires : tie.Need-refusal-requires
+refusal-requires c κs = search needs
 
 same-length : tie.Need-same-length
 same-length c = search needs
 
 returns : tie.Need-returns
 unfolding sealedState
-returns c = let d = sym (c .before .before .before .before .before .before .before .is-flat .ensures) ∙ c .before .before .before .before .before .before .if1 .taken in let e = c .before .before .before .sealed .ensures .0 in ((c .seal-answer-of .ensures ∙ ap refusal e ∙ sym (if-true _ _ d), (rw e at (c .before .before .before .sealed .ensures .1 .0) ∙ sym (if-true _ _ d), c .before .before .before .sealed .ensures .1 .1 d ∙ sym d)), rw e at (c .before .before .before .sealed .ensures .2) ∙ sym (if-true _ _ d))
+returns c = let d = sym (c .before .before .before .before .before .before .before .is-flat .ensures) ∙ c .before .before .before .before .before .before .if1 .taken in let e = c .before .before .before .sealed .ensures .0 in ((c .refusal .ensures ∙ ap refusal e ∙ sym (if-true _ _ d), (rw e at (c .before .before .before .sealed .ensures .1 .0) ∙ sym (if-true _ _ d), c .before .before .before .sealed .ensures .1 .1 d ∙ sym d)), rw e at (c .before .before .before .sealed .ensures .2) ∙ sym (if-true _ _ d))
 
 returns-2 : tie.Need-returns-2
 returns-2 c = let z = sym (c .before .is-flat .ensures) ∙ c .if1 .left in ((sym (if-false _ _ z), (sym (if-false _ _ z), refl)), sym (if-false _ _ z))
@@ -31,7 +31,7 @@ sealed-spec =
     (tie.spec
     is-flat-requires
     sealed-requires
-    seal-answer-of-requires
+    refusal-requires
     same-length
     returns
     returns-2)

@@ -1,26 +1,23 @@
 -- `link_sending::sealing` meets its contract. Assumes nothing.
 use borrow.Author.Needs.{needs}
-use mathlib.Core.Path.{_≡_, refl, sym, ap, _∙_}
-use Rattle.base.specs.Choose.{if-true, if-false, both-true, both-false}
-use Rattle.link_sending.specs.Calls.{flatSealing}
+use mathlib.Core.Path.{sym, ap, _∙_}
+use Rattle.base.specs.Choose.{if-true, if-false}
 use Rattle.sealing.specs.declared.Question.{Question}
+use Rattle.link_sending.specs.Calls.{flatSealing}
 use Rattle.link_sending.proofs.sealing.Statement.{statement}
 use Rattle.link_sending.proofs.sealing.Tie as tie
 
 is-flat-requires : tie.Need-is-flat-requires
 is-flat-requires c κs = search needs
 
-load-requires : tie.Need-load-requires
-load-requires c κs = search needs
-
-sealing-requires : tie.Need-sealing-requires
-sealing-requires c κs = search needs
+question-requires : tie.Need-question-requires
+question-requires c κs = search needs
 
 flat-sealing-requires : tie.Need-flat-sealing-requires
 flat-sealing-requires c κs = search needs
 
 returns : tie.Need-returns
-returns c = let e = rw (c .before .before .before .before .load .ensures) at (c .before .before .before .sealing .ensures) in c .flat-sealing .ensures ∙ ap (λ (x : Question). flatSealing (x .question) (x .nonce) (x .header)) e ∙ sym (if-true _ _ (sym (c .before .before .before .before .before .before .is-flat .ensures) ∙ c .before .before .before .before .before .if1 .taken))
+returns c = c .flat-sealing .ensures ∙ ap (λ (x : Question). flatSealing (x .question) (x .nonce) (x .header)) (c .before .before .before .question .ensures) ∙ sym (if-true _ _ (sym (c .before .before .before .before .before .is-flat .ensures) ∙ c .before .before .before .before .if1 .taken))
 
 no-sealing-requires : tie.Need-no-sealing-requires
 no-sealing-requires c κs = search needs
@@ -33,8 +30,7 @@ sealing-spec =
     tie.close
     (tie.spec
     is-flat-requires
-    load-requires
-    sealing-requires
+    question-requires
     flat-sealing-requires
     returns
     no-sealing-requires

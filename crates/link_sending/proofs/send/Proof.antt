@@ -21,20 +21,20 @@ is-done-requires c κs = search needs
 lay-requires : tie.Need-lay-requires
 lay-requires c κs = let a = c .before .before .before .before .before .before .before .before .before .before .before .before .args in let d = sym (c .before .before .before .is-done .ensures) ∙ c .before .before .if2 .taken in (send-clear (stateOf (a .w .now)) (length (a .queue .now)) (a .epoch) (a .content-type) (length (a .content .now)) (rw (c .before .before .before .before .before .send-answer .ensures .answer) at d), c .before .before .before .before .before .send-answer .ensures .place d)
 
-answer-of-requires : tie.Need-answer-of-requires
-answer-of-requires c κs = search needs
+refusal-requires : tie.Need-refusal-requires
+refusal-requires c κs = search needs
 
 same-length : tie.Need-same-length
 same-length c = search needs
 
 returns : tie.Need-returns
-returns c = let a = c .before .before .before .before .before .before .before .before .before .before .before .before .before .before .before .before .args in rw (← c .before .before .before .before .before .before .before .before .before .send-answer .ensures .answer) (sends-laid (a .w .now) _ (a .epoch) (a .content-type) (a .content .now) (a .queue .now) (sym (c .before .before .before .before .before .before .before .before .before .before .before .before .is-flat .ensures) ∙ c .before .before .before .before .before .before .before .before .before .before .before .if1 .taken) (c .answer-of .ensures) _ _ (sym (c .before .before .before .before .before .before .before .is-done .ensures) ∙ c .before .before .before .before .before .before .if2 .taken) (c .before .before .before .lay .ensures .0) (c .before .before .before .lay .ensures .1))
+returns c = let a = c .before .before .before .before .before .before .before .before .before .before .before .before .before .before .before .before .args in rw (← c .before .before .before .before .before .before .before .before .before .send-answer .ensures .answer) (sends-laid (a .w .now) _ (a .epoch) (a .content-type) (a .content .now) (a .queue .now) (sym (c .before .before .before .before .before .before .before .before .before .before .before .before .is-flat .ensures) ∙ c .before .before .before .before .before .before .before .before .before .before .before .if1 .taken) (c .refusal .ensures) _ _ (sym (c .before .before .before .before .before .before .before .is-done .ensures) ∙ c .before .before .before .before .before .before .if2 .taken) (c .before .before .before .lay .ensures .0) (c .before .before .before .lay .ensures .1))
 
-answer-of-requires-2 : tie.Need-answer-of-requires-2
-answer-of-requires-2 c κs = search needs
+refusal-requires-2 : tie.Need-refusal-requires-2
+refusal-requires-2 c κs = search needs
 
 returns-2 : tie.Need-returns-2
-returns-2 c = let a = c .before .before .before .before .before .before .before .before .before .before .before .args in rw (← c .before .before .before .before .send-answer .ensures .answer) (sends-nothing (a .w .now) _ (a .epoch) (a .content-type) (a .content .now) (a .queue .now) (sym (c .before .before .before .before .before .before .before .is-flat .ensures) ∙ c .before .before .before .before .before .before .if1 .taken) (c .answer-of2 .ensures) (sym (c .before .before .is-done .ensures) ∙ c .before .if2 .left))
+returns-2 c = let a = c .before .before .before .before .before .before .before .before .before .before .before .args in rw (← c .before .before .before .before .send-answer .ensures .answer) (sends-nothing (a .w .now) _ (a .epoch) (a .content-type) (a .content .now) (a .queue .now) (sym (c .before .before .before .before .before .before .before .is-flat .ensures) ∙ c .before .before .before .before .before .before .if1 .taken) (c .refusal2 .ensures) (sym (c .before .before .is-done .ensures) ∙ c .before .if2 .left))
 
 returns-3 : tie.Need-returns-3
 returns-3 c = ((sym (if-false _ _ (sym (c .before .is-flat .ensures) ∙ c .if1 .left)), (sym (if-false _ _ (sym (c .before .is-flat .ensures) ∙ c .if1 .left)), refl)), sym (if-false _ _ (sym (c .before .is-flat .ensures) ∙ c .if1 .left)))
@@ -47,9 +47,9 @@ send-spec =
     send-answer-requires
     is-done-requires
     lay-requires
-    answer-of-requires
+    refusal-requires
     same-length
     returns
-    answer-of-requires-2
+    refusal-requires-2
     returns-2
     returns-3)
