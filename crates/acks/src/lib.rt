@@ -112,7 +112,7 @@ fn pair(epoch: u64, number: u64) -> [u8; 16]
 }
 
 // A noted record written from a place on.
-fn write_pair(d: &mut [u8], at: usize, epoch: u64, number: u64)
+pub fn write_pair(d: &mut [u8], at: usize, epoch: u64, number: u64)
     requires { ⌜ at + 16 ≤ length (now d) ⌝ }
     ensures { λ _. ⌜ now (d .exit) ≡ splice at (pairOf epoch number) (now (d .entry)) ⌝ }
 {
@@ -122,7 +122,7 @@ fn write_pair(d: &mut [u8], at: usize, epoch: u64, number: u64)
 }
 
 // The length of what follows, in two bytes.
-fn write_length(d: &mut [u8], n: usize)
+pub fn write_length(d: &mut [u8], n: usize)
     requires { ⌜ 2 ≤ length (now d) ⌝ }
     ensures { λ _. ⌜ now (d .exit) ≡ splice 0 (be 2 n) (now (d .entry)) ⌝ }
 {

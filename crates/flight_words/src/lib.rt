@@ -7,6 +7,7 @@ ghost use Prim.Native.Nat.{ℕ};
 ghost use Rattle.flight.specs.Flight.{whole};
 ghost use Rattle.flight_words.specs.Words.{words, entryAt, entriesOf, recordsOf, flightOf, flatTo, putEntry, LowEntry};
 ghost use Rattle.flight_words.specs.Laws.{putEntries, Lows, Kept};
+ghost use Rattle.flight_words.specs.Entries.{Entered, withMarked, withNumbers};
 use flight::Entry;
 use flight::Flight;
 use flight::SavedRecords;
@@ -175,4 +176,28 @@ pub fn save_records(w: &mut [u64; WORDS], r: SavedRecords)
     sized(w);
     put_entries(w, l);
     w[SAVED] = r.saved as u64;
+}
+
+// ---- one entry, in place
+
+// Whether the i-th entry is acknowledged, written.
+pub fn put_mark(w: &mut [u64; WORDS], i: usize, m: bool)
+    requires { ⌜ i < 12 ⌝ }
+    ensures { λ _. ⌜ Entered i (withMarked (entryAt (now (w .entry)) i) m) (now (w .entry)) (now (w .exit)) ⌝ }
+{
+    sized(w);
+    let marked = ROW * i + MARKED;
+    w[marked] = m as u64;
+}
+
+// The i-th entry's number, and how many earlier ones it remembers, written.
+pub fn put_numbers(w: &mut [u64; WORDS], i: usize, number: u64, remembered: usize)
+    requires { ⌜ i < 12 ⌝ }
+    ensures { λ _. ⌜ Entered i (withNumbers (entryAt (now (w .entry)) i) number remembered) (now (w .entry)) (now (w .exit)) ⌝ }
+{
+    sized(w);
+    let at = ROW * i + NUMBER;
+    let count = ROW * i + REMEMBERED;
+    w[at] = number;
+    w[count] = remembered as u64;
 }

@@ -4,8 +4,9 @@ use mathlib.Core.Bool.{Bool, true, false}
 use mathlib.Core.List.{List}
 use mathlib.Core.Path.{_≡_, refl, sym, ap, _∙_}
 use Prim.Native.Nat.{ℕ}
-use lib.ListN.{getD, length}
+use lib.ListN.{length}
 use Rattle.base.specs.Choose.{choose, both, if-true, if-false, both-true, both-false}
+use Rattle.outgoing.specs.declared.SendAnswer.{SendAnswer}
 use Rattle.outgoing.specs.State as sends
 use Rattle.flight.specs.declared.SavedRecords.{SavedRecords}
 use Rattle.flight.specs.Flight.{whole}
@@ -23,6 +24,8 @@ use Rattle.send_words.specs.Words.{stateOf, isFlat}
 use Rattle.send_words.specs.Laws as sent
 use Rattle.flight_words.specs.Words.{flightOf, flatTo}
 use Rattle.flight_words.specs.Laws as flights
+use Rattle.ack_steps.specs.Steps.{SendsAck}
+pub use Rattle.ack_steps.specs.Steps.{notesOf}
 
 -- both words stand for something
 abbrev pub areFlat : List ℕ → List ℕ → Bool
@@ -44,10 +47,6 @@ abbrev pub Acts : ℕ → List ℕ → List ℕ → List ℕ → List ℕ → Ac
 Acts r g f m n k =
     (r ≡ choose (flatTo f 12) (sends.refusal (k .answer)) 12)
     × (flightOf g m ≡ choose (flatTo f 12) (k .flight) (flightOf f n)) × (flatTo g 12 ≡ flatTo f 12)
-
--- what is noted: a count and two tables
-abbrev pub notesOf : List ℕ → List ℕ → List ℕ → noted.Notes
-notesOf c e n = record { count = getD c 0 0; epochs = e; numbers = n }
 
 abbrev pub Noted : ℕ → noted.Notes → Noting → Type 0
 Noted r m k = (r ≡ noting.refusal (k .answer)) × (m ≡ k .notes)
@@ -120,13 +119,10 @@ acts r g f m n x k q a t z e = (
   t .1 ∙ sym q,
 )
 
-pub acknowledges : (r : ℕ) (v w : List ℕ) (m n : noted.Notes) (x k : AckSent) → isFlat w ≡ true → r ≡ sends.refusal (x .answer)
-    → sent.Kept (x .state) v → m ≡ x .notes → x ≡ k → Acknowledges r v w m n k
-acknowledges r v w m n x k p a s z e = (
-  a ∙ ap (λ (y : AckSent). sends.refusal (y .answer)) e ∙ sym (if-true _ _ p),
-  s .0 ∙ ap (λ (y : AckSent). y .state) e ∙ sym (if-true _ _ p),
-  s .1 ∙ sym p,
-  z ∙ ap (λ (y : AckSent). y .notes) e ∙ sym (if-true _ _ p),
+pub acknowledges : (r : ℕ) (x : SendAnswer) (v w : List ℕ) (b a : noted.Notes) (p q : List ℕ) → isFlat w ≡ true → r ≡ sends.refusal x → SendsAck x v w b a p q → SendAckCall r v w b a p q
+acknowledges r x v w b a p q f e s = (
+  (e ∙ ap sends.refusal (s .answer) ∙ sym (if-true _ _ f), s .state ∙ sym (if-true _ _ f), s .flat f ∙ sym f, s .notes ∙ sym (if-true _ _ f)),
+  s .memory ∙ sym (if-true _ _ f),
 )
 
 pub notes : (r : ℕ) (m : noted.Notes) (x k : Noting) → r ≡ noting.refusal (x .answer) → m ≡ x .notes → x ≡ k → Noted r m k

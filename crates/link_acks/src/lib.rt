@@ -2,9 +2,9 @@
 // What is noted for the outgoing ACK is a count and two tables of 32 words.
 ghost use mathlib.Core.Path.{_≡_};
 ghost use Rattle.acks.specs.Acks as noting;
-ghost use Rattle.link_acks.specs.Calls.{notesOf, ResendCall, ProcessAckCall, NoteCall, SendAckCall};
+ghost use Rattle.ack_steps.specs.Steps.{notesOf};
+ghost use Rattle.link_acks.specs.Calls.{ResendCall, ProcessAckCall, NoteCall, SendAckCall};
 use acks::NoteAnswer;
-use acks::Notes;
 
 fn note_of(a: NoteAnswer) -> u8
     ensures { λ r. ⌜ r ≡ noting.refusal a ⌝ }
@@ -13,16 +13,6 @@ fn note_of(a: NoteAnswer) -> u8
         NoteAnswer::Noted => 0,
         NoteAnswer::Full => 0,
         NoteAnswer::OutOfRange => 12,
-    }
-}
-
-fn notes_of(count: [u64; 1], epochs: [u64; 32], numbers: [u64; 32]) -> Notes
-    ensures { λ r. ⌜ r ≡ notesOf count epochs numbers ⌝ }
-{
-    Notes {
-        count: count[0] as usize,
-        epochs: epochs,
-        numbers: numbers,
     }
 }
 
@@ -62,12 +52,7 @@ pub fn process_ack(
     ensures { λ r. ⌜ ProcessAckCall r (now (f .exit)) (now (f .entry)) (now (numbers .exit)) (now (numbers .entry)) (now (content .entry)) ⌝ }
 {
     if flight_words::is_flat(f) {
-        let g = flight_words::load_records(f);
-        let k = process_ack::ack_records(g, numbers, content);
-        let a = k.answer;
-        let h = k.records;
-        flight_words::save_records(f, h);
-        return outgoing::refusal(a);
+        return outgoing::refusal(ack_steps::process_ack(f, numbers, content));
     }
     12
 }
@@ -82,19 +67,7 @@ pub fn note(
 ) -> u8
     ensures { λ r. ⌜ NoteCall r (notesOf (now (count .exit)) (now (epochs .exit)) (now (numbers .exit))) (notesOf (now (count .entry)) (now (epochs .entry)) (now (numbers .entry))) epoch number ⌝ }
 {
-    let c = *count;
-    let e = *epochs;
-    let u = *numbers;
-    let n = notes_of(c, e, u);
-    let k = acks::note(n, epoch, number);
-    let a = k.answer;
-    let m = k.notes;
-    *count = [m.count as u64];
-    let x = m.epochs;
-    *epochs = x;
-    let y = m.numbers;
-    *numbers = y;
-    note_of(a)
+    note_of(ack_steps::note(count, epochs, numbers, epoch, number))
 }
 
 // Sends the ACK of all that is noted, if anything is, wholly or not at all; then nothing is noted.
@@ -108,21 +81,7 @@ pub fn send_ack(
     ensures { λ r. ⌜ SendAckCall r (now (w .exit)) (now (w .entry)) (notesOf (now (count .exit)) (now (epochs .exit)) (now (numbers .exit))) (notesOf (now (count .entry)) (now (epochs .entry)) (now (numbers .entry))) (now (queue .exit)) (now (queue .entry)) ⌝ }
 {
     if send_words::is_flat(w) {
-        let s = send_words::load(w);
-        let c = *count;
-        let e = *epochs;
-        let u = *numbers;
-        let n = notes_of(c, e, u);
-        let k = acks::send_ack(s, n, queue);
-        let a = k.answer;
-        let m = k.notes;
-        send_words::save(w, k.state);
-        *count = [m.count as u64];
-        let x = m.epochs;
-        *epochs = x;
-        let y = m.numbers;
-        *numbers = y;
-        return outgoing::refusal(a);
+        return outgoing::refusal(ack_steps::send_ack(w, count, epochs, numbers, queue));
     }
     12
 }

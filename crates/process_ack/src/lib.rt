@@ -39,7 +39,7 @@ fn be64(d: &[u8], i: usize) -> u64
 }
 
 // Whether the content of an ACK has its form: a length, and as many bytes, in pairs of 16.
-fn is_formed(d: &[u8]) -> bool
+pub fn is_formed(d: &[u8]) -> bool
     ensures { λ r. ⌜ r ≡ isFormed (now (d .entry)) ⌝ }
 {
     let n = d.len();
@@ -105,7 +105,7 @@ fn lesser(a: usize, b: usize) -> usize
 }
 
 // Whether the i-th saved record is acknowledged: it was, or a pair has its epoch and one of its numbers.
-fn is_acked(d: &[u8], n: usize, numbers: &[u64; 384], i: usize, e: Entry) -> bool
+pub fn is_acked(d: &[u8], n: usize, numbers: &[u64; 384], i: usize, e: Entry) -> bool
     requires { ⌜ (2 + n * 16 ≤ length (now d)) × (i < 12) ⌝ }
     ensures { λ r. ⌜ r ≡ isAcked (now (d .entry)) n (now (numbers .entry)) i e ⌝ }
 {
@@ -137,7 +137,7 @@ fn mark_all(g: SavedRecords, numbers: &[u64; 384], d: &[u8], n: usize) -> SavedR
 }
 
 // One saved record more.
-fn tallied(t: Tally, e: Entry) -> Tally
+pub fn tallied(t: Tally, e: Entry) -> Tally
     ensures { λ r. ⌜ r ≡ tallyWith t e ⌝ }
 {
     if e.epoch == 2 {

@@ -111,7 +111,7 @@ fn remembers(e: Entry) -> bool
 }
 
 // Whether its present number can be remembered besides, if it is to be.
-fn has_room(e: Entry) -> bool
+pub fn has_room(e: Entry) -> bool
     ensures { λ r. ⌜ r ≡ hasRoom e ⌝ }
 {
     if remembers(e) {
@@ -139,7 +139,7 @@ fn passes(test: u8, k: SendKeys, mtu: usize, e: Entry) -> bool
     has_room(e)
 }
 
-fn both(a: bool, b: bool) -> bool
+pub fn both(a: bool, b: bool) -> bool
     ensures { λ r. ⌜ r ≡ choose a b false ⌝ }
 {
     if a {
@@ -209,7 +209,7 @@ fn one_if(e: Entry, epoch: u16) -> usize
 }
 
 // A record more.
-fn surveyed_with(d: Survey, mtu: usize, epoch: u16, e: Entry) -> Survey
+pub fn surveyed_with(d: Survey, mtu: usize, epoch: u16, e: Entry) -> Survey
     requires { ⌜ (mtu ≤ 1500) × Tailed (d .tail) × (d .tail .count ≤ 64) × Joins mtu e × (d .plaintext ≤ 64) × (d .handshake ≤ 64) × (d .application ≤ 64) ⌝ }
     ensures { λ r. ⌜ (r ≡ surveyedWith d mtu epoch e) × (r .plaintext ≤ d .plaintext + 1) × (r .handshake ≤ d .handshake + 1) × (r .application ≤ d .application + 1) ⌝ }
 {
@@ -243,7 +243,7 @@ fn survey_all(mtu: usize, epoch: u16, from: Tail, g: SavedRecords) -> Survey
 }
 
 // Whether so many numbers from one on would use 2^48 - 1.
-fn is_over(next: u64, count: usize) -> bool
+pub fn is_over(next: u64, count: usize) -> bool
     requires { ⌜ count ≤ 12 ⌝ }
     ensures { λ r. ⌜ r ≡ isOver next count ⌝ }
 {

@@ -9,6 +9,7 @@ ghost use Rattle.outgoing.specs.Send.{spotOf, laidState, laidMemory, Clear};
 ghost use Rattle.send_words.specs.Words.{queueOf, stateOf};
 ghost use Rattle.send_words.specs.Partly.{Partly, withWaiting};
 ghost use Rattle.send_steps.specs.Steps.{bareQueue, bareKeys, endAt, waits, Judged, Lays};
+ghost use Rattle.send_steps.specs.Sends.{Sends};
 use outgoing::SendAnswer;
 use outgoing::Waiting;
 use queue::Place;
@@ -91,13 +92,13 @@ pub fn is_ready(w: &[u64; WORDS], room: usize) -> bool
     queue::is_ready(queue_at(w), room)
 }
 
-fn is_usable(w: &[u64; WORDS], epoch: u16) -> bool
+pub fn is_usable(w: &[u64; WORDS], epoch: u16) -> bool
     ensures { λ r. ⌜ r ≡ isUsable (stateOf (now (w .entry)) .keys) epoch ⌝ }
 {
     send_keys::is_usable(keys_at(w), epoch)
 }
 
-fn is_keyed(w: &[u64; WORDS], epoch: u16) -> bool
+pub fn is_keyed(w: &[u64; WORDS], epoch: u16) -> bool
     ensures { λ r. ⌜ r ≡ isKeyed (stateOf (now (w .entry)) .keys) epoch ⌝ }
 {
     send_keys::is_keyed(keys_at(w), epoch)
@@ -141,7 +142,7 @@ fn is_joinable(w: &[u64; WORDS]) -> bool
     0 < w[COUNT]
 }
 
-fn tail_of(w: &[u64; WORDS]) -> Tail
+pub fn tail_of(w: &[u64; WORDS]) -> Tail
     requires { ⌜ InRange (queueOf (now w)) ⌝ }
     ensures { λ r. ⌜ (r ≡ tailOf (queueOf (now (w .entry)))) × Tailed r ⌝ }
 {
@@ -284,4 +285,18 @@ pub fn lay(w: &mut [u64; WORDS], p: Place, epoch: u16, t: u8, content: &[u8], d:
     let at = slot * (w[MTU] as usize) + p.offset;
     queue::lay_record(d, at, epoch, t, number, content);
     put_laid(w, p, slot, epoch, n, number);
+}
+
+// A record sent, if no refusal applies.
+pub fn send(w: &mut [u64; WORDS], epoch: u16, t: u8, content: &[u8], d: &mut [u8]) -> SendAnswer
+    ensures { λ r. ⌜ Sends r epoch t (now (content .entry)) (now (w .entry)) (now (w .exit)) (now (d .entry)) (now (d .exit)) ⌝ }
+{
+    let v = send_answer(w, d.len(), epoch, t, content.len());
+    let a = v.answer;
+    let p = v.place;
+    if outgoing::is_done(a) {
+        lay(w, p, epoch, t, content, d);
+        return a;
+    }
+    a
 }
