@@ -129,7 +129,7 @@ pub fn is_flat(w: &[u64; WORDS]) -> bool
     true
 }
 
-fn put_entry(w: &mut [u64; WORDS], i: usize, e: Entry)
+pub fn put_entry(w: &mut [u64; WORDS], i: usize, e: Entry)
     requires { ⌜ i < 12 ⌝ }
     ensures { λ _. ⌜ (now (w .exit) ≡ putEntry i e (now (w .entry))) × LowEntry e ⌝ }
 {

@@ -64,7 +64,7 @@ fn greater(a: usize, b: usize) -> usize
 }
 
 // ClientHello and ServerHello use epoch 0, every other message epoch 2.
-fn epoch_of(kind: u8) -> u16
+pub fn epoch_of(kind: u8) -> u16
     ensures { λ r. ⌜ r ≡ epochOf kind ⌝ }
 {
     if kind == 1 {
@@ -77,7 +77,7 @@ fn epoch_of(kind: u8) -> u16
 }
 
 // How many bytes of the body the next piece takes.
-fn piece_size(mtu: usize, over: usize, used: usize, rest: usize) -> usize
+pub fn piece_size(mtu: usize, over: usize, used: usize, rest: usize) -> usize
     requires { ⌜ (576 ≤ mtu) × (over ≤ 34) × (used ≤ 65535) ⌝ }
     ensures { λ r. ⌜ r ≡ pieceSize mtu over used rest ⌝ }
 {
@@ -107,7 +107,7 @@ fn cut_next(mtu: usize, over: usize, c: Cut) -> Cut
 }
 
 // A dry run: how many pieces there are, up to thirteen, and how many datagrams the queue then has.
-fn survey(mtu: usize, over: usize, from: Cut) -> Plan
+pub fn survey(mtu: usize, over: usize, from: Cut) -> Plan
     requires { ⌜ (576 ≤ mtu) × (mtu ≤ 1500) × (over ≤ 34) × Sound 13 mtu from ⌝ }
     ensures { λ r. ⌜ (r .count ≡ planCount 13 mtu over from) × (r .reach ≡ planReach 13 mtu over from) ⌝ }
 {
@@ -133,7 +133,7 @@ fn survey(mtu: usize, over: usize, from: Cut) -> Plan
 }
 
 // The content of a piece's record: the handshake header, and the piece of the body.
-fn write_content(d: &mut [u8], kind: u8, seq: u16, body: &[u8], at: usize, size: usize)
+pub fn write_content(d: &mut [u8], kind: u8, seq: u16, body: &[u8], at: usize, size: usize)
     requires { ⌜ (length (now d) ≡ 12 + size) × (at + size ≤ length (now body)) × (length (now body) ≤ 16384) ⌝ }
     ensures { λ _. ⌜ now (d .exit) ≡ contentOf kind seq (now (body .entry)) at size ⌝ }
 {
@@ -306,7 +306,7 @@ fn plan_of(q: Queue, epoch: u16, n: usize) -> Plan
 }
 
 // Whether flight, queue and numbers have room for what was planned.
-fn plan_answer(saved: usize, limit: usize, next: u64, p: Plan) -> SendAnswer
+pub fn plan_answer(saved: usize, limit: usize, next: u64, p: Plan) -> SendAnswer
     requires { ⌜ (saved ≤ 12) × (p .count ≤ 13) ⌝ }
     ensures { λ r. ⌜ r ≡ planAnswer saved limit next (p .count) (p .reach) ⌝ }
 {

@@ -120,7 +120,7 @@ pub fn length_at(w: &[u64; WORDS], slot: usize) -> usize
 }
 
 // The last datagram's length, closed or not; 0 where there is none.
-fn last_len(w: &[u64; WORDS]) -> usize
+pub fn last_len(w: &[u64; WORDS]) -> usize
     requires { ⌜ InRange (queueOf (now w)) ⌝ }
     ensures { λ r. ⌜ (r ≡ lastLen (queueOf (now (w .entry)))) × (r ≤ 65535) ⌝ }
 {
@@ -165,7 +165,7 @@ fn spot_of(w: &[u64; WORDS], epoch: u16, n: usize) -> Place
     queue::place_of(w[MTU] as usize, t, len)
 }
 
-fn refused(a: SendAnswer) -> Verdict
+pub fn refused(a: SendAnswer) -> Verdict
     ensures { λ r. ⌜ r .answer ≡ a ⌝ }
 {
     Verdict {
