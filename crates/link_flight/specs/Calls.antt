@@ -8,6 +8,7 @@ use lib.Dec.{leb}
 use lib.ListN.{length, set, replicate}
 use Rattle.base.specs.Choose.{choose, both, if-true, if-false, both-true, both-false}
 use Rattle.outgoing.specs.State.{refusal}
+use Rattle.outgoing.specs.declared.SendAnswer.{SendAnswer}
 use Rattle.outgoing.specs.declared.SendAnswer.the-variants.{Done, OutOfRange}
 use Rattle.outgoing.specs.declared.Sending.{Sending}
 use Rattle.flight.specs.declared.Flight.{Flight}
@@ -17,10 +18,8 @@ use Rattle.flight.specs.Flight.{begun, freshFlight}
 use Rattle.flight.specs.Save.{saveState, saveQueue, saveKept}
 use Rattle.messages.specs.Message.{messageAnswer, messageState, messageQueue, messageKept}
 use Rattle.send_words.specs.Words.{stateOf, isFlat}
-use Rattle.send_words.specs.Laws as sent
 use Rattle.flight_words.specs.Words.{words, saved-at, entriesOf, flightOf, flatTo}
 use Rattle.flight_words.specs.Laws.{begins}
-use Rattle.flight_words.specs.Laws as flights
 
 -- both words stand for something
 abbrev pub areFlat : List ℕ → List ℕ → Bool
@@ -67,15 +66,17 @@ CreateHandshakeCall r v w g f m n t b p q j k =
 
 -- ---- from the parts to the whole
 
-pub saves : (r : ℕ) (v w g f m n : List ℕ) (x k : Saved) → isFlat w ≡ true → flatTo f 12 ≡ true → r ≡ refusal (x .answer)
-    → sent.Kept (x .state) v → flights.Kept (x .flight) g → m ≡ x .flight .numbers → x ≡ k → Saves r v w g f m n k
-saves r v w g f m n x k p q a s t z e =
+-- a call over flat words is the call on what they stand for
+pub saves : (a : SendAnswer) (r : ℕ) (v w g f n : List ℕ) (k : Saved) → isFlat w ≡ true → flatTo f 12 ≡ true → r ≡ refusal a
+    → record { answer = a; state = stateOf v; flight = flightOf g n } ≡ k → (isFlat w ≡ true → isFlat v ≡ true)
+    → (flatTo f 12 ≡ true → flatTo g 12 ≡ true) → Saves r v w g f n n k
+saves a r v w g f n k p q x e s t =
     let h : areFlat w f ≡ true = both-true p ∙ q in (
-      a ∙ ap (λ (y : Saved). refusal (y .answer)) e ∙ sym (if-true _ _ h),
-      s .0 ∙ ap (λ (y : Saved). y .state) e ∙ sym (if-true _ _ h),
-      s .1 ∙ sym p,
-      ap (flightOf g) z ∙ t .0 ∙ ap (λ (y : Saved). y .flight) e ∙ sym (if-true _ _ h),
-      t .1 ∙ sym q,
+      x ∙ ap (λ (y : Saved). refusal (y .answer)) e ∙ sym (if-true _ _ h),
+      ap (λ (y : Saved). y .state) e ∙ sym (if-true _ _ h),
+      s p ∙ sym p,
+      ap (λ (y : Saved). y .flight) e ∙ sym (if-true _ _ h),
+      t q ∙ sym q,
     )
 
 pub begins-to : (f n : List ℕ) → length f ≡ words → flatTo f 12 ≡ true → leb (flightOf f n .saved) 12 ≡ true → Begins 0 (set f saved-at 0) f n

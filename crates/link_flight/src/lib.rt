@@ -41,13 +41,7 @@ pub fn send_saved(
 {
     if send_words::is_flat(w) {
         if flight_words::is_flat(f) {
-            let s = send_words::load(w);
-            let g = flight_words::load_records(f);
-            let k = flight::send_record(s, g, epoch, content_type, content, queue, kept);
-            let a = k.answer;
-            let h = k.records;
-            send_words::save(w, k.state);
-            flight_words::save_records(f, h);
+            let a = save_steps::send_saved(w, f, epoch, content_type, content, queue, kept);
             return outgoing::refusal(a);
         }
         return 12;
@@ -69,13 +63,7 @@ pub fn create_handshake(
 {
     if send_words::is_flat(w) {
         if flight_words::is_flat(f) {
-            let s = send_words::load(w);
-            let g = flight_words::load_records(f);
-            let k = messages::create_records(s, g, kind, body, queue, kept);
-            let a = k.answer;
-            let h = k.records;
-            send_words::save(w, k.state);
-            flight_words::save_records(f, h);
+            let a = message_steps::create_handshake(w, f, kind, body, queue, kept);
             return outgoing::refusal(a);
         }
         return 12;

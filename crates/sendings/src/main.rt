@@ -158,14 +158,9 @@ fn reply(w: &mut [u64; WORDS], input: &[u8], queue: &mut [u8]) -> u8 {
     let q = link_sending::sealing(w);
     let sealed = base::fragment(base::behind(input, 4), 0, q.length);
     let length = lines::get2(input, 2) as usize;
+    let mask_0 = lines::get1(input, 0);
     lines::push_all(queue, q.start, sealed);
-    link_sending::sealed(
-        w,
-        length,
-        lines::get1(input, 0),
-        lines::get1(input, 1),
-        queue,
-    )
+    link_sending::sealed(w, length, mask_0, lines::get1(input, 1), queue)
 }
 
 fn save(
@@ -228,10 +223,7 @@ fn send_ack(
 ) -> LinkSealing {
     let none = count[0] == 0;
     let a = link_acks::send_ack(w, count, epochs, noted, queue);
-    if a == 0 {
-        return bare(a, none as u8, 0);
-    }
-    bare(a, 0, 0)
+    bare(a, (none && a == 0) as u8, 0)
 }
 
 // The first bytes of a buffer.
@@ -246,11 +238,8 @@ fn take(w: &mut [u64; WORDS], input: &[u8], queue: &[u8]) {
     let mut buffer = [0xEEu8; 1600];
     let n = lines::get2(input, 0) as usize;
     let r = link_sending::take(w, front(&mut buffer, n), queue);
-    say(
-        b't',
-        bare(r.refusal, r.kind, r.length),
-        base::fragment(&buffer, 0, n),
-    );
+    let t = bare(r.refusal, r.kind, r.length);
+    say(b't', t, base::fragment(&buffer, 0, n));
 }
 
 // ---- steps that show
@@ -272,18 +261,12 @@ fn question(w: &[u64; WORDS], queue: &[u8]) {
 fn length_at(w: &[u64; WORDS], i: usize) -> u64 {
     let limit = w[LIMIT] as usize;
     let first = w[FIRST] as usize;
-    if limit == 0 {
-        return 0;
-    }
-    if 16 < first {
-        return 0;
-    }
-    if 16 < i {
-        return 0;
-    }
-    let slot = (first + i) % limit;
-    if slot < 16 {
-        return send_steps::length_at(w, slot) as u64;
+    if limit <= 16 {
+        if first < limit {
+            if i < limit {
+                return send_steps::length_at(w, queue::slot_of(first, limit, i)) as u64;
+            }
+        }
     }
     0
 }
