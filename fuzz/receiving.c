@@ -36,8 +36,8 @@ static LinkReceiving plain(const LinkReceiving *x)
         p.word[i] %= 65536;
     p.word[W_HIGHEST] %= 65536;
     p.word[W_EPOCH] %= 65536;
-    for (int i = W_IVS; i < WORDS; i++)
-        p.word[i] %= 256;
+    for (int i = W_IVS; i < W_IVS + 5; i++) /* an IV's first four bytes; the row behind has the other eight of each */
+        p.word[i] %= 4294967296u;
     if (p.word[W_ASKED] == 0)
         memset(&p.word[W_EPOCH], 0, (W_NUMBER - W_EPOCH) * sizeof(uint64_t));
     if (p.word[W_ASKED] != 2)
