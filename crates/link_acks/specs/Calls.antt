@@ -8,12 +8,10 @@ use lib.ListN.{length}
 use Rattle.base.specs.Choose.{choose, both, if-true, if-false, both-true, both-false}
 use Rattle.outgoing.specs.declared.SendAnswer.{SendAnswer}
 use Rattle.outgoing.specs.State as sends
-use Rattle.flight.specs.declared.SavedRecords.{SavedRecords}
-use Rattle.flight.specs.Flight.{whole}
 use Rattle.resend.specs.declared.Resent.{Resent}
 use Rattle.resend.specs.declared.ResendAnswer.{ResendAnswer}
 use Rattle.resend.specs.Tests.{refusal, isDone, resendAnswer}
-use Rattle.resend.specs.Resend.{Laying, laying, allAgain, resendState, resendQueue}
+use Rattle.resend.specs.Resend.{Laying, allAgain, resendState, resendQueue}
 use Rattle.process_ack.specs.Ack.{acked}
 use Rattle.process_ack.specs.declared.Acked.{Acked}
 use Rattle.acks.specs.declared.Notes as noted
@@ -24,6 +22,7 @@ use Rattle.send_words.specs.Words.{stateOf, isFlat}
 use Rattle.send_words.specs.Laws as sent
 use Rattle.flight_words.specs.Words.{flightOf, flatTo}
 use Rattle.flight_words.specs.Laws as flights
+use Rattle.resend_steps.specs.Again.{layingOf}
 use Rattle.ack_steps.specs.Steps.{SendsAck}
 pub use Rattle.ack_steps.specs.Steps.{notesOf}
 
@@ -93,12 +92,11 @@ resends r v w g f m n x k p q a s t z e =
 
 -- tested: all sent again, or nothing written
 module _ (r : ℕ) (a : ResendAnswer) (w f n k q : List ℕ) (i : isFlat w ≡ true) (j : flatTo f 12 ≡ true) (c : r ≡ refusal a) where
-  pub resends-all : (v g m p : List ℕ) (h : SavedRecords) → isDone a ≡ true → isFlat v ≡ true → ((z : List ℕ) → flights.Kept (whole h z) g)
-      → laying (stateOf v) h m p ≡ allAgain (stateOf w) (flightOf f n) k q
+  pub resends-all : (v g m p : List ℕ) → isDone a ≡ true → isFlat v ≡ true → flatTo g 12 ≡ true → layingOf v g m p ≡ allAgain (stateOf w) (flightOf f n) k q
       → Resends r v w g f m n (resendState a (stateOf w) (flightOf f n) k q) × (p ≡ either w f (resendQueue a (stateOf w) (flightOf f n) k q) q)
   unfolding resendState resendQueue
-  resends-all v g m p h d l t e = (
-    resends r v w g f m n (record { answer = a; state = stateOf v; flight = whole h m }) _ i j c (refl, l) (t m) refl
+  resends-all v g m p d l t e = (
+    resends r v w g f m n (record { answer = a; state = stateOf v; flight = flightOf g m }) _ i j c (refl, l) (refl, t) refl
         (ap (λ (y : Laying). record { answer = a; state = y .state; flight = y .flight }) e ∙ sym (if-true _ _ d)),
     ap (λ (y : Laying). y .queue) e ∙ sym (if-true _ _ d) ∙ sym (if-true _ _ (both-true i ∙ j)),
   )

@@ -28,12 +28,10 @@ pub fn resend(
 {
     if send_words::is_flat(w) {
         if flight_words::is_flat(f) {
-            let g = flight_words::load_records(f);
-            let a = resend::resend_answer(send_words::load(w), g, queue.len(), kept.len());
+            let a = resend_steps::resend_answer(w, f, queue.len(), kept.len());
             if resend::is_done(a) {
                 resend_steps::close(w);
-                let h = resend_steps::resend_all(w, g, numbers, kept, queue);
-                flight_words::save_records(f, h);
+                resend_steps::resend_all(w, f, numbers, kept, queue);
                 return resend::refusal(a);
             }
             return resend::refusal(a);

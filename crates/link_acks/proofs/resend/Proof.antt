@@ -1,14 +1,14 @@
 -- `link_acks::resend` meets its contract. Assumes nothing.
-use borrow.Author.Needs.{needs}
-use mathlib.Core.Path.{refl, sym, ap, subst, _∙_}
-use Rattle.base.specs.Choose.{if-false, both-true, both-false}
-use Rattle.queue.specs.Queue.{InRange}
-use Rattle.outgoing.specs.declared.Sending.{Sending}
-use Rattle.flight.specs.declared.SavedRecords.{SavedRecords}
-use Rattle.resend.specs.Tests.{isDone, closedState, resend-safe, kept-few, closed-range}
-use Rattle.resend.specs.Resend.{laying, againAfter}
-use Rattle.send_words.specs.Words.{stateOf}
 use Rattle.link_acks.specs.Calls.{resends-all, resends-nothing}
+use Rattle.flight_words.specs.Words.{flightOf}
+use Rattle.send_words.specs.Words.{stateOf}
+use Rattle.resend.specs.Resend.{againAfter}
+use Rattle.resend.specs.Tests.{isDone, resend-safe, kept-few, closed-range}
+use Rattle.outgoing.specs.declared.Sending.{Sending}
+use Rattle.queue.specs.Queue.{InRange}
+use Rattle.base.specs.Choose.{if-false, both-true, both-false}
+use mathlib.Core.Path.{refl, sym, ap, subst, _∙_}
+use borrow.Author.Needs.{needs}
 use Rattle.link_acks.proofs.resend.Statement.{statement}
 use Rattle.link_acks.proofs.resend.Tie as tie
 
@@ -17,12 +17,6 @@ is-flat-requires c κs = search needs
 
 is-flat-requires-2 : tie.Need-is-flat-requires-2
 is-flat-requires-2 c κs = search needs
-
-load-records-requires : tie.Need-load-records-requires
-load-records-requires c κs = search needs
-
-load-requires : tie.Need-load-requires
-load-requires c κs = search needs
 
 resend-answer-requires : tie.Need-resend-answer-requires
 resend-answer-requires c κs = search needs
@@ -35,13 +29,9 @@ close-requires c κs = search needs
 
 resend-all-requires : tie.Need-resend-all-requires
 resend-all-requires c κs =
-    let a = c .before .before .before .before .before .before .before .before .before .before .before .before .before .before .before .before .before .before .before .before .args in
-    let e = rw (c .before .before .before .before .before .before .before .before .load .ensures) at (c .before .before .before .before .before .before .before .resend-answer .ensures (a .numbers .now)) in
-    let k = resend-safe _ _ _ _ (ap isDone (sym e) ∙ sym (c .before .before .before .before .before .before .is-done .ensures) ∙ c .before .before .before .before .before .if3 .taken) in
-    (subst (λ (s : Sending). InRange (s .queue)) (sym (c .before .before .before .close .ensures .0)) (closed-range (stateOf (a .w .now)) (k .0 .range)), kept-few _ _ _ (k .1))
-
-save-records-requires : tie.Need-save-records-requires
-save-records-requires c κs = search needs
+    let a = c .before .before .before .before .before .before .before .before .before .before .before .before .before .before .before .before .before .before .before .args in
+    let k = resend-safe _ _ _ _ (ap isDone (sym (c .before .before .before .before .before .before .before .before .resend-answer .ensures (a .numbers .now))) ∙ sym (c .before .before .before .before .before .before .before .is-done .ensures) ∙ c .before .before .before .before .before .before .if3 .taken) in
+    (subst (λ (s : Sending). InRange (s .queue)) (sym (c .before .before .before .before .close .ensures .0)) (closed-range (stateOf (a .w .now)) (k .0 .range)), kept-few _ _ _ (k .1))
 
 refusal-requires : tie.Need-refusal-requires
 refusal-requires c κs = search needs
@@ -51,29 +41,23 @@ same-length c = search needs
 
 returns : tie.Need-returns
 returns c =
-    let a = c .before .before .before .before .before .before .before .before .before .before .before .before .before .before .before .before .before .before .before .before .before .before .before .before .before .before .args in
-    let g = c .before .before .before .before .before .before .before .before .before .before .before .before .before .before .before .before .load-records in
-    let x = c .before .before .before .before .before .before .before .before .before .close .ensures in
-    let y = c .before .before .before .before .before .resend-all .ensures in
-    let p = sym (c .before .before .before .before .before .before .before .before .before .before .before .before .before .before .before .before .before .before .before .before .before .before .is-flat .ensures) ∙ c .before .before .before .before .before .before .before .before .before .before .before .before .before .before .before .before .before .before .before .before .before .if1 .taken in
-    let q = sym (c .before .before .before .before .before .before .before .before .before .before .before .before .before .before .before .before .before .before .before .is-flat2 .ensures) ∙ c .before .before .before .before .before .before .before .before .before .before .before .before .before .before .before .before .before .before .if2 .taken in
-    let e = rw (c .before .before .before .before .before .before .before .before .before .before .before .before .before .before .load .ensures, g .ensures) at (c .before .before .before .before .before .before .before .before .before .before .before .before .before .resend-answer .ensures (a .numbers .now)) in
-    let l =
-    y .0 ∙ ap (λ (s : Sending). againAfter (a .kept .now) (laying s (g .result) (a .numbers .now) (a .queue .now)) (g .result .saved)) (x .0)
-    ∙ ap (λ (z : SavedRecords). againAfter (a .kept .now) (laying (closedState (stateOf (a .w .now))) z (a .numbers .now) (a .queue .now)) (z .saved)) (g .ensures)
-    in
-    rw (← e) (resends-all _ _ (a .w .now) (a .f .now) (a .numbers .now) (a .kept .now) (a .queue .now) p q (c .refusal .ensures) _ _ _ _ _ (sym (c .before .before .before .before .before .before .before .before .before .before .before .before .is-done .ensures) ∙ c .before .before .before .before .before .before .before .before .before .before .before .if3 .taken) (y .1 (x .1 p)) (c .before .save-records .ensures) l)
+    let a = c .before .before .before .before .before .before .before .before .before .before .before .before .before .before .before .before .before .before .before .before .before .before .before .args in
+    let x = c .before .before .before .before .before .before .before .before .close .ensures in
+    let y = c .before .before .before .resend-all .ensures in
+    let p = sym (c .before .before .before .before .before .before .before .before .before .before .before .before .before .before .before .before .before .before .before .is-flat .ensures) ∙ c .before .before .before .before .before .before .before .before .before .before .before .before .before .before .before .before .before .before .if1 .taken in
+    let q = sym (c .before .before .before .before .before .before .before .before .before .before .before .before .before .before .before .before .is-flat2 .ensures) ∙ c .before .before .before .before .before .before .before .before .before .before .before .before .before .before .before .if2 .taken in
+    let l = y .0 ∙ ap (λ (s : Sending). againAfter (a .kept .now) (record { state = s; flight = flightOf (a .f .now) (a .numbers .now); queue = a .queue .now }) (flightOf (a .f .now) (a .numbers .now) .saved)) (x .0) in
+    rw (← (c .before .before .before .before .before .before .before .before .before .before .before .before .resend-answer .ensures (a .numbers .now))) (resends-all _ _ (a .w .now) (a .f .now) (a .numbers .now) (a .kept .now) (a .queue .now) p q (c .refusal .ensures) _ _ _ _ (sym (c .before .before .before .before .before .before .before .before .before .before .before .is-done .ensures) ∙ c .before .before .before .before .before .before .before .before .before .before .if3 .taken) (y .1 (x .1 p)) (y .2 q) l)
 
 refusal-requires-2 : tie.Need-refusal-requires-2
 refusal-requires-2 c κs = search needs
 
 returns-2 : tie.Need-returns-2
 returns-2 c =
-    let a = c .before .before .before .before .before .before .before .before .before .before .before .before .before .before .before .before .args in
-    let p = sym (c .before .before .before .before .before .before .before .before .before .before .before .before .is-flat .ensures) ∙ c .before .before .before .before .before .before .before .before .before .before .before .if1 .taken in
-    let q = sym (c .before .before .before .before .before .before .before .before .before .is-flat2 .ensures) ∙ c .before .before .before .before .before .before .before .before .if2 .taken in
-    let e = rw (c .before .before .before .before .load .ensures, c .before .before .before .before .before .before .load-records .ensures) at (c .before .before .before .resend-answer .ensures (a .numbers .now)) in
-    rw (← e) (resends-nothing _ _ (a .w .now) (a .f .now) (a .numbers .now) (a .kept .now) (a .queue .now) p q (c .refusal2 .ensures) (sym (c .before .before .is-done .ensures) ∙ c .before .if3 .left))
+    let a = c .before .before .before .before .before .before .before .before .before .before .before .before .before .before .args in
+    let p = sym (c .before .before .before .before .before .before .before .before .before .before .is-flat .ensures) ∙ c .before .before .before .before .before .before .before .before .before .if1 .taken in
+    let q = sym (c .before .before .before .before .before .before .before .is-flat2 .ensures) ∙ c .before .before .before .before .before .before .if2 .taken in
+    rw (← (c .before .before .before .resend-answer .ensures (a .numbers .now))) (resends-nothing _ _ (a .w .now) (a .f .now) (a .numbers .now) (a .kept .now) (a .queue .now) p q (c .refusal2 .ensures) (sym (c .before .before .is-done .ensures) ∙ c .before .if3 .left))
 
 returns-3 : tie.Need-returns-3
 returns-3 c =
@@ -91,13 +75,10 @@ resend-spec =
     (tie.spec
     is-flat-requires
     is-flat-requires-2
-    load-records-requires
-    load-requires
     resend-answer-requires
     is-done-requires
     close-requires
     resend-all-requires
-    save-records-requires
     refusal-requires
     same-length
     returns
