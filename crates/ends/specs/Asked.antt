@@ -2,30 +2,27 @@
 -- Assumes nothing.
 use Prim.Native.Nat.{ℕ, _+_}
 use borrow.Author.Tests.{eqb-true, eq-eqb}
-use lib.Dec.{eqb}
 use lib.ListN.{length}
-use mathlib.Core.Bool.{Bool, false}
 use mathlib.Core.List.{List, [], _∷_, _++_, List·Memᴰ as Mem, List·Memᴰ·head as here, List·Memᴰ·tail as there}
 use mathlib.Core.Option.{Option, none, some}
 use mathlib.Core.Path.{_≡_, refl, sym, ap, subst, _∙_}
 use native.Mathlib.Omega.{arith}
-use Rattle.base.specs.Choose.{choose, if-true, if-false, by-test, test-cases, both-left, both-right, both-true, both-false}
-use Rattle.base.specs.Parts.{part, splice}
+use Rattle.base.specs.Choose.{if-true, by-test, both-left, both-right, both-true}
+use Rattle.base.specs.Parts.{part}
 use Rattle.dtls_aead.specs.Nonce.{nonceOf}
 use Rattle.record.specs.Record.{unifiedHeader}
 use Rattle.queue.specs.Laid.{trailerOf}
 use Rattle.send_keys.specs.Keys.{ivOf}
 use Rattle.outgoing.specs.declared.Sending.{Sending}
 use Rattle.sealing.specs.declared.Question.{Question}
-use Rattle.sealing.specs.Sealing.{isAsked, partStart, questionOf, partOf, isPut, putMemory}
+use Rattle.sealing.specs.Sealing.{isAsked, partStart, questionOf, partOf}
 use Rattle.waiting.specs.Effects.{Waited, longer, written, answered}
 use Rattle.waiting.specs.Facts.{Apart, Once, each-as-laid, waits-once}
 use Rattle.waiting.specs.First.{putWith}
-use Rattle.waiting.specs.Oldest.{none-waiting, first-of, names-first, question-shows, question-none, part-shows}
-use Rattle.waiting.specs.Queued.{Queued, plain, waits, sealed, flat, waitingOf, waitsIn, AsLaid, Holds}
-use Rattle.waiting.specs.Seals.{any-same, held-again, ready-always}
+use Rattle.waiting.specs.Oldest.{waiting-cases, names-first, question-shows, question-none, part-shows}
+use Rattle.waiting.specs.Queued.{Queued, plain, waits, sealed, flat, waitingOf, AsLaid, Holds}
+use Rattle.waiting.specs.Seals.{held-again, ready-always}
 use Rattle.history.specs.Lists.{mem-by}
-use Rattle.ends.specs.Calls.{writtenIn}
 use Rattle.ends.specs.Sender.{Lent, firstBytes, lentBy, lends}
 
 -- the question about a record that waits
@@ -55,14 +52,6 @@ Shows o (waits e t n x p ∷ us) = firstBytes o e n p ≡ x ++ trailerOf t e n
 Shows o (sealed e t n x m p ∷ us) = Unit {0}
 
 -- ---- those that wait
-
--- a list of those that wait begins with one that waits
-pub waiting-cases : {C : Type 0} (rs : List Queued) (ws : List Queued) → waitingOf rs ≡ ws → (ws ≡ [] → C)
-    → ((e t n : ℕ) (x p : List ℕ) (us : List Queued) → waitingOf rs ≡ waits e t n x p ∷ us → ws ≡ waits e t n x p ∷ us → C) → C
-waiting-cases rs ws q f g =
-    test-cases (waitsIn rs)
-    (λ t. let h = first-of rs t in g (h .epoch) (h .kind) (h .number) (h .content) (h .part) (h .others) (h .is) (sym q ∙ h .is))
-    (λ t. f (sym q ∙ none-waiting rs t))
 
 waiting-mem : (r : Queued) (rs : List Queued) → Mem r (waitingOf rs) → Mem r rs
 waiting-mem r [] m = m
@@ -114,29 +103,6 @@ module _ (s : Sending) (q : List ℕ) (ds : List (List Queued)) (h : Holds s q d
       let f = names-first s q ds h e t n x p us y in
       ap (λ (k : ℕ). part (partStart s) k q) (sym (f .size))
       ∙ sym (if-true _ _ (both-true (ready-always s q ds h) ∙ both-true (held-again s q ds h) ∙ f .any)) ∙ part-shows s q ds h e t n x p us y .0
-
-  -- when the host's writing is taken
-  pub not-put : waitingOf (flat ds) ≡ [] → (v : List ℕ) → isPut s (length v) (length q) ≡ false
-  unfolding isPut isAsked
-  not-put z v =
-      let none-waits : s .waiting .any ≡ false = any-same s q ds h ∙ test-cases (waitsIn (flat ds)) (λ y. let f = first-of (flat ds) y in let g = f .is in absurd (let w : _≡_ {A = ℕ} 0 1 = cc in omega arith)) (λ y. y) in
-      both-false _ (both-true (ready-always s q ds h) ∙ both-true (held-again s q ds h) ∙ none-waits)
-
-  pub put-test : (e t n : ℕ) (x p : List ℕ) (us : List Queued) → waitingOf (flat ds) ≡ waits e t n x p ∷ us → (v : List ℕ) → isPut s (length v) (length q) ≡ eqb (length v) (length x + 17)
-  unfolding isPut isAsked
-  put-test e t n x p us y v =
-      let f = names-first s q ds h e t n x p us y in
-      both-true (both-true (ready-always s q ds h) ∙ both-true (held-again s q ds h) ∙ f .any) ∙ ap (eqb (length v)) (f .size)
-
-  -- what the host writes where the question shows it is written into the oldest's part
-  pub written-is : (v : List ℕ) → writtenIn (questionOf s .question) v q ≡ putMemory s v q
-  unfolding putMemory
-  written-is v =
-      waiting-cases (flat ds) (waitingOf (flat ds)) refl
-      (λ z. ap (λ (r : Question). writtenIn (r .question) v q) (question-none s q ds h z) ∙ sym (if-false _ _ (not-put z v)))
-      (λ e t n x p us y z.
-      ap (λ (r : Question). writtenIn (r .question) v q) (question-shows s q ds h e t n x p us y)
-      ∙ ap (λ (b : Bool). choose b (splice (partStart s) v q) q) (sym (put-test e t n x p us y v)))
 
   pub lends-is : (old : Option Lent) → Shows old (waitingOf (flat ds)) → LentIs s (lends s q old) (waitingOf (flat ds))
   unfolding lends

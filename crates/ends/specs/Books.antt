@@ -20,7 +20,7 @@ use Rattle.acks.specs.Acks.{ackEpoch, ackContent, ackLen, ackAnswer}
 use Rattle.resend.specs.declared.ResendAnswer.{ResendAnswer}
 use Rattle.resend.specs.Resend.{Laying as Again, contentAt, againAnswer, againAfter}
 use Rattle.resend.specs.Tests.{isDone as isResent, closedState, resendAnswer}
-use Rattle.ends.specs.Calls.{Stores, SendCall, keySend·, send·, save·, message·, beginFlight·, resend·, note·, sendAck·, ack·, fill·, sealed·, take·, stored}
+use Rattle.waiting.specs.Calls.{Stores, SendCall, keySend·, send·, save·, message·, beginFlight·, resend·, note·, sendAck·, ack·, fill·, sealed·, take·, stored}
 use Rattle.ends.specs.Sender.{Books, Sender, enters, turns, keyedBy, sealedBy, finishedBy, takenBy}
 
 -- a record sent: under the number that was next in its epoch, with the type and content that the host gave

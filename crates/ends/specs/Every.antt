@@ -9,9 +9,9 @@ use Rattle.outgoing.specs.State.{keyingState}
 use Rattle.sealing.specs.declared.SealAnswer.{SealAnswer}
 use Rattle.sealing.specs.Sealing.{sealAnswer}
 use Rattle.taking.specs.Take.{takeAnswer, takeBuffer}
+use Rattle.waiting.specs.Calls.{Stores, SendCall, keySend·, send·, save·, message·, beginFlight·, resend·, note·, sendAck·, ack·, fill·, sealed·, take·, stored}
 use Rattle.history.specs.Claim.{Masks}
 use Rattle.ends.specs.Books.{booksBy, sendsBy}
-use Rattle.ends.specs.Calls.{Stores, SendCall, keySend·, send·, save·, message·, beginFlight·, resend·, note·, sendAck·, ack·, fill·, sealed·, take·, stored}
 use Rattle.ends.specs.Ledger.{Sent, Ledger}
 use Rattle.ends.specs.Marking.{ack-does, begin-does}
 use Rattle.ends.specs.Matches.{Matches, Does}

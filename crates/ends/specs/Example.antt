@@ -35,6 +35,7 @@ use Rattle.flight.specs.Save as flight-save
 use Rattle.handshake.specs.Header as handshake-header
 use Rattle.messages.specs.Cut as messages-cut
 use Rattle.messages.specs.Message as messages-message
+use Rattle.waiting.specs.Calls.{SendCall, keySend·, send·, save·, message·, beginFlight·, resend·, note·, sendAck·, ack·, fill·, sealed·, take·, Reply, only}
 use Rattle.history.specs.Account as history-account
 use Rattle.history.specs.Receiver as history-receiver
 use Rattle.process_ack.specs.Ack as process-ack-ack
@@ -48,11 +49,10 @@ use Rattle.history.specs.Claim.{Masks}
 use Rattle.history.specs.Example.{yes-fair}
 use Rattle.history.specs.Lists.{mem-by}
 use Rattle.history.specs.Receiver.{Sealed, Handed, Call, key·, encrypt·, begin·, read·, mask·, write·, open·}
-use Rattle.ends.specs.Calls.{SendCall, keySend·, send·, save·, message·, beginFlight·, resend·, note·, sendAck·, ack·, fill·, sealed·, take·}
 use Rattle.ends.specs.Claim.{Holds, Startable}
 use Rattle.ends.specs.Flights.{FairAck}
 use Rattle.ends.specs.Ledger as ends-ledger
-use Rattle.ends.specs.Ledger.{Sent, Item, Kept, Name, Ledger, newLedger, withKeys, withSaved, withMessages, total, Reply, only, keyed, sendNumber, saveNumber, posted, messageNumber, resendNumber}
+use Rattle.ends.specs.Ledger.{Sent, Item, Kept, Name, Ledger, newLedger, withKeys, withSaved, withMessages, total, keyed, sendNumber, saveNumber, posted, messageNumber, resendNumber}
 use Rattle.ends.specs.Proof.{every-list}
 use Rattle.ends.specs.Sender as ends-sender
 use Rattle.ends.specs.World.{Side, post, gateway, Said, Deed, sending, receiving, Event, run, Setting, fresh-pair, Honest}

@@ -5,8 +5,8 @@ use mathlib.Core.Path.{_≡_}
 use Rattle.base.specs.Parts.{part}
 use Rattle.flight.specs.declared.Flight.{Flight}
 use Rattle.flight.specs.Flight.{entryAt}
+use Rattle.waiting.specs.Calls.{SendCall, keySend·, send·, save·, message·, beginFlight·, resend·, note·, sendAck·, ack·, fill·, sealed·, take·}
 use Rattle.history.specs.Receiver.{Handed}
-use Rattle.ends.specs.Calls.{SendCall, keySend·, send·, save·, message·, beginFlight·, resend·, note·, sendAck·, ack·, fill·, sealed·, take·}
 use Rattle.ends.specs.Ledger.{Kept, Name, namesIn}
 
 -- one of its sendings, as it is handed over

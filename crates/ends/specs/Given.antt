@@ -1,6 +1,6 @@
 -- What the host wrote into the part lent for a sealing lies there until its reply, and a take changes the host's buffer by the datagram alone. Assumes
 -- nothing.
-use Prim.Native.Nat.{ℕ, _+_, _*_, _<_, _≤_}
+use Prim.Native.Nat.{ℕ, _+_, _*_}
 use lib.Dec.{eqb}
 use lib.ListN.{length, drop, length-take, length-drop}
 use mathlib.Core.Bool.{true, false, false≢true}
@@ -19,27 +19,20 @@ use Rattle.sealing.specs.Sealing.{partStart, questionOf, isPut, sealAnswer, isS
 use Rattle.taking.specs.declared.TakeAnswer.{TakeAnswer}
 use Rattle.taking.specs.Laws.{kept-buffer}
 use Rattle.taking.specs.Take.{frontLen, takeAnswer, isTaken, takeBuffer, takes, front-fits}
-use Rattle.outgoing.specs.Send.{sendAnswer}
-use Rattle.flight.specs.Save.{saveAnswer}
-use Rattle.messages.specs.Message.{beginning}
-use Rattle.resend.specs.Tests.{resendAnswer}
-use Rattle.waiting.specs.Calls as call
-use Rattle.waiting.specs.Calls.Call.{key, send, save, message, begin, reply, take, resend, act, ack}
+use Rattle.waiting.specs.Answers.{takeReply, answered}
+use Rattle.waiting.specs.Calls.{Stores, SendCall, keySend·, send·, save·, message·, beginFlight·, resend·, note·, sendAck·, ack·, fill·, sealed·, take·, stored, Short, Reply}
+use Rattle.waiting.specs.Effects.{Effect, stays, adds, writes, seals, takes as taken}
 use Rattle.waiting.specs.First.{putWith, flat-first}
 use Rattle.waiting.specs.Lists.{waiting-append}
-use Rattle.waiting.specs.Oldest.{names-first, question-shows, question-none, waiting-put, waiting-later}
-use Rattle.waiting.specs.Pieces.{Behind, behind-send, behind-all}
+use Rattle.waiting.specs.Oldest.{waiting-cases, names-first, question-shows, question-none, waiting-put, waiting-later, not-put, put-test}
 use Rattle.waiting.specs.Queued.{Queued, plain, waits, sealed, flat, waitingOf, Holds}
-use Rattle.waiting.specs.Resends.{behind-resend, behind-ack}
-use Rattle.waiting.specs.Seals.{afterPut, put-holds}
+use Rattle.waiting.specs.Runs.{after, Narrow, call-holds, call-effect}
+use Rattle.waiting.specs.Seals.{afterPut}
 use Rattle.waiting.specs.Takes.{afterTaken, taken-settled}
 use Rattle.history.specs.Lists.{by-both, mem-by, some-inj, some≢none, splice-behind}
-use Rattle.ends.specs.Answers.{takeReply, answered}
-use Rattle.ends.specs.Asked.{LentIs, lentFor, waiting-cases, part-is, not-put, put-test, written-is}
-use Rattle.ends.specs.Calls.{Stores, SendCall, keySend·, send·, save·, message·, beginFlight·, resend·, note·, sendAck·, ack·, fill·, sealed·, take·, stored, Short}
+use Rattle.ends.specs.Asked.{LentIs, lentFor, part-is}
 use Rattle.ends.specs.Sender.{Lent}
 use Rattle.ends.specs.Claim.{TookOnly}
-use Rattle.ends.specs.Ledger.{Reply}
 use Rattle.ends.specs.Sends.{taken-length}
 use Rattle.ends.specs.Short.{short-memory}
 use Rattle.ends.specs.World.{Took, Over, givenIn, givenBy, tookBy, overOf, oversBy}
@@ -61,9 +54,21 @@ given-longer (some v) (plain t n x ∷ ws) more g = g
 given-longer (some v) (waits e t n x p ∷ ws) more g = g
 given-longer (some v) (sealed e t n x m p ∷ ws) more g = g
 
-given-behind : (o : Option (List ℕ)) (rs us : List Queued) → Behind rs us → GivenIs o (waitingOf rs) → GivenIs o (waitingOf us)
-given-behind o rs us b g =
-    subst (GivenIs o) (sym (ap waitingOf (b .all) ∙ waiting-append rs (b .more))) (given-longer o (waitingOf rs) (waitingOf (b .more)) g)
+-- a call that only adds records, or does nothing to them
+abbrev Aside : {rs us : List Queued} → Effect rs us → Type 0
+Aside (stays s) = Unit {0}
+Aside (adds more a s) = Unit {0}
+Aside (writes v s) = ⊥
+Aside (seals m s) = ⊥
+Aside (taken d t s) = ⊥
+
+given-aside : (o : Option (List ℕ)) (rs us : List Queued) (f : Effect rs us) → Aside f → GivenIs o (waitingOf rs) → GivenIs o (waitingOf us)
+given-aside o rs us (stays s) a g = subst (λ (l : List Queued). GivenIs o (waitingOf l)) (sym s) g
+given-aside o rs us (adds more b s) a g =
+    subst (GivenIs o) (sym (ap waitingOf s ∙ waiting-append rs more)) (given-longer o (waitingOf rs) (waitingOf more) g)
+given-aside o rs us (writes v s) a g = absurd a
+given-aside o rs us (seals m s) a g = absurd a
+given-aside o rs us (taken d t s) a g = absurd a
 
 -- the memory means datagrams of which that holds
 pub record Given (s : Sending) (q : List ℕ) (o : Option (List ℕ)) : Type 0 where
@@ -77,9 +82,6 @@ sealed-zero : (a : SealAnswer) → eqb (sealing.refusal a) 0 ≡ isSealed a
 sealed-zero replied.Done = refl
 sealed-zero replied.OutOfRange = refl
 sealed-zero replied.NoQuestion = refl
-
-abbrev endOf : Stores → call.End
-endOf w = record { state = w .state; queue = w .queue; flight = w .flight; kept = w .kept }
 
 -- the host's writing takes place where a record waits and the length is its part's
 module _ (s : Sending) (q : List ℕ) (ds : List (List Queued)) (h : Holds s q ds) (v : List ℕ) where
@@ -102,8 +104,11 @@ module _ (s : Sending) (q : List ℕ) (ds : List (List Queued)) (h : Holds s q d
   given-put o g = waiting-cases (flat ds) (waitingOf (flat ds)) refl (λ z. none-put z o g) (λ e t n x p us y z. one-put e t n x p us y o g)
 
 module _ (w : Stores) (o : Option (List ℕ)) (g : Given (w .state) (w .queue) o) where
-  by-call : (c : call.Call) → call.Narrow c → GivenIs o (waitingOf (flat (call.after (endOf w) c (g .ds)))) → Given (call.does (endOf w) c .state) (call.does (endOf w) c .queue) o
-  by-call c n i = record { ds = call.after (endOf w) c (g .ds); holds = call.call-holds (endOf w) c (g .ds) n (g .holds); is = i }
+  by-call : (c : SendCall) (o′ : Option (List ℕ)) → Narrow c → GivenIs o′ (waitingOf (flat (after w c (g .ds)))) → Given (stored w c .state) (stored w c .queue) o′
+  by-call c o′ n i = record { ds = after w c (g .ds); holds = call-holds w c (g .ds) n (g .holds); is = i }
+
+  aside : (c : SendCall) → Narrow c → Aside (call-effect w c (g .ds) (g .holds)) → Given (stored w c .state) (stored w c .queue) o
+  aside c n a = by-call c o n (given-aside o _ _ (call-effect w c (g .ds) (g .holds)) a (g .is))
 
   -- a record taken did not wait
   take-is : (have : ℕ) (ds : List (List Queued)) → Holds (w .state) (w .queue) ds → GivenIs o (waitingOf (flat ds))
@@ -113,39 +118,24 @@ module _ (w : Stores) (o : Option (List ℕ)) (g : Given (w .state) (w .queue) o
       by-test (λ (us : List (List Queued)). GivenIs o (waitingOf (flat us)))
       (λ t. subst (GivenIs o) (waiting-later d (flat ds) (taken-settled (w .state) (w .queue) d ds h have t)) i) (λ t. i)
 
-  pub given-keeps : w .notes .count ≤ 32 → (r : Reply) (c : SendCall) → r ≡ answered w c → ((e : ℕ) (iv : List ℕ) → c ≡ keySend· e iv → e < 65536) → Given (stored w c .state) (stored w c .queue) (givenBy w r c o)
-  given-keeps few r (keySend· e iv) is small = by-call (key e iv) (small e iv refl) (g .is)
-  given-keeps few r (send· e t x) is small =
-      by-call (send e t x) tt (given-behind o _ _ (behind-send (sendAnswer (w .state) (length (w .queue)) e t (length x)) (w .state) e t x (g .ds)) (g .is))
-  given-keeps few r (save· e t x) is small =
-      by-call (save e t x) tt
-      (given-behind o _ _ (behind-send (saveAnswer (w .state) (w .flight) (length (w .queue)) (length (w .kept)) e t (length x)) (w .state) e t x (g .ds)) (g .is))
-  given-keeps few r (message· kind body) is small =
-      by-call (message kind body) tt
-      (by-test (λ (us : List (List Queued)). GivenIs o (waitingOf (flat us)))
-      (λ z. given-behind o _ _ (behind-all 13 kind body 0 (beginning (w .state) (w .flight) (w .queue) (w .kept)) (g .ds)) (g .is)) (λ z. g .is))
-  given-keeps few r beginFlight· is small = by-call begin tt (g .is)
-  given-keeps few r resend· is small =
-      by-call resend tt (given-behind o _ _ (behind-resend (resendAnswer (w .state) (w .flight) (length (w .queue)) (length (w .kept))) (w .state) (w .flight) (w .kept) (w .queue) (g .ds)) (g .is))
-  given-keeps few r (note· e n) is small = by-call begin tt (g .is)
-  given-keeps few r sendAck· is small = by-call (ack (w .notes)) few (given-behind o _ _ (behind-ack (w .state) (w .notes) (w .queue) (g .ds)) (g .is))
-  given-keeps few r (ack· d) is small = by-call (act d) tt (g .is)
-  given-keeps few r (fill· v) is small =
-      subst (λ (q : List ℕ). Given (w .state) q (givenIn (questionOf (w .state) .question) v o)) (sym (written-is (w .state) (w .queue) (g .ds) (g .holds) v))
-      (record {
-        ds = putDs (w .state) (w .queue) (g .ds) (g .holds) v;
-        holds = put-holds (w .state) (w .queue) (g .ds) (g .holds) v;
-        is = given-put (w .state) (w .queue) (g .ds) (g .holds) v o (g .is);
-      })
-  given-keeps few r (sealed· n m) is small =
-      let a : SealAnswer = sealAnswer (w .state) (length (w .queue)) n in
+  pub given-keeps : (r : Reply) (c : SendCall) → r ≡ answered w c → Narrow c → Given (stored w c .state) (stored w c .queue) (givenBy w r c o)
+  unfolding call-effect
+  given-keeps r (keySend· e iv) is n = aside (keySend· e iv) n tt
+  given-keeps r (send· e t x) is n = aside (send· e t x) n tt
+  given-keeps r (save· e t x) is n = aside (save· e t x) n tt
+  given-keeps r (message· kind body) is n = aside (message· kind body) n tt
+  given-keeps r beginFlight· is n = aside beginFlight· n tt
+  given-keeps r resend· is n = aside resend· n tt
+  given-keeps r (note· e k) is n = aside (note· e k) n tt
+  given-keeps r sendAck· is n = aside sendAck· n tt
+  given-keeps r (ack· d) is n = aside (ack· d) n tt
+  given-keeps r (fill· v) is n = by-call (fill· v) _ n (given-put (w .state) (w .queue) (g .ds) (g .holds) v o (g .is))
+  given-keeps r (sealed· k m) is n =
+      let a : SealAnswer = sealAnswer (w .state) (length (w .queue)) k in
       let same : eqb (r .number) 0 ≡ isSealed a = ap (λ (k : Reply). eqb (k .number) 0) is ∙ sealed-zero a in
-      record {
-        ds = call.after (endOf w) (reply n m) (g .ds);
-        holds = call.call-holds (endOf w) (reply n m) (g .ds) tt (g .holds);
-        is = by-both (λ (a : Option (List ℕ)) (us : List (List Queued)). GivenIs a (waitingOf (flat us))) (sym same) (λ z. tt) (λ z. g .is);
-      }
-  given-keeps few r (take· b) is small = by-call (take (length b)) tt (take-is (length b) (g .ds) (g .holds) (g .is))
+      by-call (sealed· k m) _ n
+      (by-both (λ (a : Option (List ℕ)) (us : List (List Queued)). GivenIs a (waitingOf (flat us))) (sym same) (λ z. tt) (λ z. g .is))
+  given-keeps r (take· b) is n = by-call (take· b) o n (take-is (length b) (g .ds) (g .holds) (g .is))
 
 -- ---- so it lies where the question shows
 

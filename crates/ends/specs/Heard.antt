@@ -10,10 +10,10 @@ use mathlib.Core.Logic.{⊎-elim}
 use mathlib.Core.Path.{_≡_, refl, sym, ap, subst, _∙_}
 use native.Mathlib.Omega.{arith}
 use Rattle.base.specs.Choose.{choose, both, if-true, by-test, both-left, both-right, either-true, either-false}
+use Rattle.waiting.specs.Calls.{SendCall, keySend·, send·, save·, message·, beginFlight·, resend·, note·, sendAck·, ack·, fill·, sealed·, take·}
 use Rattle.history.specs.Account.{upd, isIn}
 use Rattle.history.specs.Lists.{upd-same, upd-other, upd-by, mem-by, by-both, either-cases}
 use Rattle.history.specs.Receiver.{Handed}
-use Rattle.ends.specs.Calls.{SendCall, keySend·, send·, save·, message·, beginFlight·, resend·, note·, sendAck·, ack·, fill·, sealed·, take·}
 use Rattle.ends.specs.Flights.{handedAs, Arrived, FairAck, FairNames, Differ, Away, Apart}
 use Rattle.ends.specs.Laws.{upd-grows, enters-append, under, markedAs}
 use Rattle.ends.specs.Ledger.{ofTwo, cleared, Sent, Kept, Name, Ledger, Going, withSaved, lays, keyed, isUsable, saves, saveNumber, pieceSize, overhead, epochFor, pieceContent, savesOn, pieces, posted, firstOf, known, sendsAgain, passes, again, resent, all, resendNumber, namesIn, isNamed, marked, allTwo, isOver, ackedBy, ackEpoch, ackBytes, acking, owed, leaves, gives, after, sentBy, closes}

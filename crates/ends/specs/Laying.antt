@@ -23,6 +23,7 @@ use Rattle.flight.specs.declared.Saved.{Saved}
 use Rattle.flight.specs.Save.{saveAnswer, saveState, saveQueue}
 use Rattle.messages.specs.Cut.{epochOf, overhead, size-rest}
 use Rattle.messages.specs.Message.{contentOf, Laid, pieceOf, sendAll, numbered, beginning, messageState, messageQueue, length-content}
+use Rattle.waiting.specs.Calls.{Stores}
 use Rattle.waiting.specs.Pieces.{allSent, numbered-holds, afterMessage}
 use Rattle.waiting.specs.Queued.{Queued, plain, waits, sealed, bytesOf, flat, Holds}
 use Rattle.waiting.specs.Sends.{Sent, sent, saved, recordOf, sentTo, laid-holds, afterSend, sent-last}
@@ -30,7 +31,6 @@ use Rattle.history.specs.Claim.{asHanded}
 use Rattle.history.specs.Lists.{upd-same}
 use Rattle.history.specs.Receiver.{Sealed, Handed}
 use Rattle.ends.specs.Books.{written, lays, pieceSize, piece, pieceBooks, laysAll, messageBooks}
-use Rattle.ends.specs.Calls.{Stores}
 use Rattle.ends.specs.Laws.{upd-grows, by-three, by-four}
 use Rattle.ends.specs.Numbers.{Numbers, sent-numbers, Ivs, used-ivs}
 use Rattle.ends.specs.Sender.{Line, done, due, Books, plainBytes, lineOf}

@@ -8,8 +8,8 @@ use mathlib.Core.List.{List, [], _∷_, _++_}
 use mathlib.Core.Option.{Option, none, some}
 use Rattle.base.specs.Bytes.{be, beAt}
 use Rattle.base.specs.Choose.{choose, both, either}
+use Rattle.waiting.specs.Calls.{SendCall, keySend·, send·, save·, message·, beginFlight·, resend·, note·, sendAck·, ack·, fill·, sealed·, take·, Reply, only}
 use Rattle.history.specs.Account.{upd, isIn}
-use Rattle.ends.specs.Calls.{SendCall, keySend·, send·, save·, message·, beginFlight·, resend·, note·, sendAck·, ack·, fill·, sealed·, take·}
 
 -- ---- 01's numbers
 
@@ -268,16 +268,6 @@ settles (d ∷ ds) = choose (anyWaits d) (settlesIn d ∷ ds) (d ∷ settles ds)
 abbrev pub behindFront : List (List Item) → List (List Item)
 behindFront [] = []
 behindFront (d ∷ ds) = ds
-
--- ---- what the host sees of a call: 01's number of its refusal, 0 where it is done, and what is told besides: the length of the datagram taken
--- or the length needed for it, 1 where a record was noted or an ACK sent
-
-pub record Reply : Type 0 where
-  pub number : ℕ
-  pub told : ℕ
-
-abbrev pub only : ℕ → Reply
-only n = record { number = n; told = 0 }
 
 -- ---- keying: 13, 23
 

@@ -1,6 +1,4 @@
-pub mod Calls
 pub mod Ledger
-pub mod Answers
 pub mod Sender
 pub mod Flights
 pub mod Books

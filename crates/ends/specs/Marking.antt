@@ -21,12 +21,12 @@ use Rattle.process_ack.specs.declared.Acked.{Acked}
 use Rattle.process_ack.specs.declared.Tally.{Tally}
 use Rattle.process_ack.specs.Ack as program
 use Rattle.process_ack.specs.Ack.{pairsIn, isPair, isRemembered, isAcked, withMark, markAt, marksAfter, tallyWith, tallyAfter, emptied, acked, marks-saved, later-same}
+use Rattle.waiting.specs.Calls.{Stores, beginFlight·, ack·, only}
 use Rattle.history.specs.Account.{isIn}
 use Rattle.history.specs.Lists.{by-both}
-use Rattle.ends.specs.Calls.{Stores, beginFlight·, ack·}
 use Rattle.ends.specs.Laws.{markedAs, or-is}
 use Rattle.ends.specs.Ledger as ledger
-use Rattle.ends.specs.Ledger.{Kept, Name, Ledger, only, known, isFormed, pairsOf, namesIn, isNamed, marked, anyTwo, allTwo, isOver, ackedBy, after, sentBy}
+use Rattle.ends.specs.Ledger.{Kept, Name, Ledger, known, isFormed, pairsOf, namesIn, isNamed, marked, anyTwo, allTwo, isOver, ackedBy, after, sentBy}
 use Rattle.ends.specs.Matches.{older, EntryIs, Entries, FlightIs, Matches, Does}
 use Rattle.ends.specs.Matching.{beside}
 

@@ -14,10 +14,10 @@ use Rattle.flight.specs.declared.Flight.{Flight}
 use Rattle.flight.specs.Flight.{entryAt}
 use Rattle.acks.specs.declared.Notes.{Notes}
 use Rattle.acks.specs.Acks.{pairsOf}
+use Rattle.waiting.specs.Answers.{answered}
+use Rattle.waiting.specs.Calls.{Stores, SendCall, stored}
 use Rattle.waiting.specs.Queued.{Queued, plain, waits, sealed, Holds}
-use Rattle.ends.specs.Answers.{answered}
 use Rattle.ends.specs.Books.{booksBy}
-use Rattle.ends.specs.Calls.{Stores, SendCall, stored}
 use Rattle.ends.specs.Ledger.{Item, Kept, Name, Ledger, lastSize, isSome, known, namesBytes, owed, after, sentBy}
 use Rattle.ends.specs.Sender.{Books, entersAll}
 

@@ -29,6 +29,8 @@ use Rattle.flight.specs.declared.Flight.{Flight}
 use Rattle.flight.specs.Flight.{entryOf, noEntry, entryAt, isKept, savedWith, savedMemory, Keeps}
 use Rattle.flight.specs.Save.{kept-fits}
 use Rattle.acks.specs.declared.Notes.{Notes}
+use Rattle.waiting.specs.Answers.{answered}
+use Rattle.waiting.specs.Calls.{Stores, SendCall, stored}
 use Rattle.waiting.specs.Growing as growing
 use Rattle.waiting.specs.Growing.{joined}
 use Rattle.waiting.specs.Lists.{length-plain, length-waits, length-sealed}
@@ -37,9 +39,7 @@ use Rattle.waiting.specs.Seals.{ready-always}
 use Rattle.waiting.specs.Sends.{Sent, recordOf, sentTo, laid-holds}
 use Rattle.history.specs.Account.{upd}
 use Rattle.history.specs.Lists.{upd-same, upd-by, by-both}
-use Rattle.ends.specs.Answers.{answered}
 use Rattle.ends.specs.Books.{booksBy}
-use Rattle.ends.specs.Calls.{Stores, SendCall, stored}
 use Rattle.ends.specs.Laws.{off-parts, Told}
 use Rattle.ends.specs.Ledger as ledger
 use Rattle.ends.specs.Ledger.{Item, Kept, Name, Ledger, withQueue, sizeOf, total, lastSize, isSome, onLast, lays, queueNumber, saves, known}

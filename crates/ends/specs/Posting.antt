@@ -40,6 +40,7 @@ use Rattle.messages.specs.Message.{
   all-last,
 }
 use Rattle.acks.specs.declared.Notes.{Notes}
+use Rattle.waiting.specs.Calls.{Stores, message·, only}
 use Rattle.waiting.specs.Pieces.{numbered-holds}
 use Rattle.waiting.specs.Sends as sends
 use Rattle.whole.specs.Lay.{layOne, Able, len-more, usable, ends, piece-done, piece-laid, rest-next, able-on}
@@ -48,13 +49,11 @@ use Rattle.whole.specs.Whole.{done-able, reach-is}
 use Rattle.history.specs.Lists.{upd-same, by-both}
 use Rattle.ends.specs.Books as books
 use Rattle.ends.specs.Books.{pieceBooks, laysAll, messageBooks}
-use Rattle.ends.specs.Calls.{Stores, message·}
 use Rattle.ends.specs.Cuts.{next, behind, size-rest, content-long, pieces-last, pieces-more}
 use Rattle.ends.specs.Laws.{enters-append, Told, done-by}
 use Rattle.ends.specs.Ledger as ledger
 use Rattle.ends.specs.Ledger.{
   Ledger,
-  only,
   Going,
   withMessages,
   saves,

@@ -7,6 +7,8 @@ use mathlib.Core.Logic.{⊎-elim}
 use mathlib.Core.Option.{Option, none, some}
 use mathlib.Core.Path.{_≡_, refl, sym, ap, subst, _∙_}
 use native.Mathlib.Omega.{arith}
+use Rattle.waiting.specs.Answers.{answered}
+use Rattle.waiting.specs.Calls.{Stores, SendCall, keySend·, send·, save·, message·, beginFlight·, resend·, note·, sendAck·, ack·, fill·, sealed·, take·, stored, lending, Short, only}
 use Rattle.waiting.specs.Fresh.{fresh-holds}
 use Rattle.queue.specs.Queue.{isSetting}
 use Rattle.ends.specs.Starting.{ranges-setting}
@@ -54,14 +56,12 @@ use Rattle.history.specs.Receiver.{
   openOver·,
   does,
 }
-use Rattle.ends.specs.Answers.{answered}
 use Rattle.ends.specs.Books.{sendsBy}
-use Rattle.ends.specs.Calls.{Stores, SendCall, keySend·, send·, save·, message·, beginFlight·, resend·, note·, sendAck·, ack·, fill·, sealed·, take·, stored, lending, Short}
 use Rattle.ends.specs.Claim.{SameNumbers, Holds, Startable, EveryList, TookOnly}
 use Rattle.ends.specs.Every.{every-does, sends-same, sends-stores, sends-sent}
 use Rattle.ends.specs.Flights.{Arrived, Held, FairNames}
 use Rattle.ends.specs.Heard.{Grows, Heard, heard-keeps, heard-grows, cleared-handed, none-heard}
-use Rattle.ends.specs.Ledger.{applicationData, sealedOver, lastNumber, Sent, Item, Kept, Ledger, items, oldest, only, after, sentBy, shortReply, clears, isUsable, owed}
+use Rattle.ends.specs.Ledger.{applicationData, sealedOver, lastNumber, Sent, Item, Kept, Ledger, items, oldest, after, sentBy, shortReply, clears, isUsable, owed}
 use Rattle.ends.specs.Matches.{Entries, FlightIs, Matches, Does}
 use Rattle.ends.specs.Matching.{usable-is, items-flat}
 use Rattle.ends.specs.Rules.{stop-order}
@@ -310,7 +310,7 @@ module _ (masks : Side → Masks) where
       → Given (acts f e d .out .stores .state) (acts f e d .out .stores .queue) (acts f e d .given)
   own-given s f e (sending c) h z m g =
       subst (λ (w : Stores). Given (w .state) (w .queue) (givenBy (e .out .stores) (owed (e .ledger) c) c (e .given))) (sym (sends-stores (e .out) (sentBy (e .ledger) c) c))
-      (given-keeps (e .out .stores) (e .given) g (omega (arith, m .noted .count, m .noted .most)) (owed (e .ledger) c) c (sym (done s e c (h .0) m .reply))
+      (given-keeps (e .out .stores) (e .given) g (owed (e .ledger) c) c (sym (done s e c (h .0) m .reply))
       (λ k iv p. subst (FairSend (masks s) (e .out)) p (h .0)))
   own-given s f e (over c q k) h z m g = subst (λ (w : Stores). Given (w .state) (w .queue) (e .given)) (sym (over-stores e c q k z h .0)) g
   own-given s f e (receiving c) h z m g = g

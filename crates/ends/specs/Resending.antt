@@ -28,11 +28,11 @@ use Rattle.resend.specs.Tests.{refusal, isDone, remembers, hasRoom, passes, all
 use Rattle.resent.specs.Plan.{Able, able}
 use Rattle.resent.specs.Steps.{again-skips, again-lays, renewed-entries, renewed-numbers, renewed-saved, renewed-other, Tables, Reached, again-done, reaches}
 use Rattle.resent.specs.Whole.{can-remember, renewed-own, renewed-cell, renewed-cells}
+use Rattle.waiting.specs.Calls.{Stores, resend·, stored, only}
 use Rattle.waiting.specs.Resends.{closed-holds}
 use Rattle.waiting.specs.Sends as sends
 use Rattle.history.specs.Lists.{upd-by, by-both}
 use Rattle.ends.specs.Books.{lays, againBooks, closing, resendBooks}
-use Rattle.ends.specs.Calls.{Stores, resend·, stored}
 use Rattle.ends.specs.Laws.{enters-append, under, or-is}
 use Rattle.ends.specs.Ledger as ledger
 use Rattle.ends.specs.Ledger.{Kept, Going, Ledger, firstOf, known, withSaved, sendsAgain, again, all, resendNumber, closes}
@@ -542,5 +542,5 @@ module _ (w : Stores) (l : Ledger) (i : Matches w l) where
 pub resend-does : (w : Stores) (l : Ledger) → Matches w l → Does w l resend·
 unfolding resendState resendQueue resendBooks choose
 resend-does w l i =
-    wholly w l i resend· (isDone (answerOf w)) (ap ledger.only (answer-is w l i)) (accepted-is w l i) (done-leaves w l i)
+    wholly w l i resend· (isDone (answerOf w)) (ap only (answer-is w l i)) (accepted-is w l i) (done-leaves w l i)
     (λ d. rw d) (λ d b. rw d (all-sent w l i d .books b)) (λ d b. rw d)

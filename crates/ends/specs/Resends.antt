@@ -14,12 +14,12 @@ use Rattle.resend.specs.declared.ResendAnswer.{ResendAnswer}
 use Rattle.resend.specs.declared.Resent.{Resent}
 use Rattle.resend.specs.Resend.{Laying as Again, contentAt, sentAgain, againAt, againAfter, resendState, resendQueue}
 use Rattle.resend.specs.Tests.{isDone as isResent, closedState}
+use Rattle.waiting.specs.Calls.{Stores}
 use Rattle.waiting.specs.Queued.{Queued}
 use Rattle.waiting.specs.Resends.{closed-holds, againSent, afterResend, afterAck}
 use Rattle.waiting.specs.Sends.{afterSend}
 use Rattle.history.specs.Receiver.{Sealed}
 use Rattle.ends.specs.Books.{lays, againBooks, closing, resendBooks, ackBooks}
-use Rattle.ends.specs.Calls.{Stores}
 use Rattle.ends.specs.Laws.{by-three, by-four}
 use Rattle.ends.specs.Laying.{Laying, alike-lays, send-lays}
 use Rattle.ends.specs.Sender.{Line, Books}

@@ -11,7 +11,7 @@ use Rattle.base.specs.Choose.{choose, both}
 use Rattle.base.specs.Parts.{part}
 use Rattle.outgoing.specs.declared.Keying.{Keying}
 use Rattle.outgoing.specs.declared.Sending.{Sending}
-use Rattle.outgoing.specs.State.{freshSending, isKeyedNow, keyingState}
+use Rattle.outgoing.specs.State.{isKeyedNow, keyingState}
 use Rattle.sealing.specs.declared.SealAnswer.{SealAnswer}
 use Rattle.sealing.specs.declared.SealQuestion.{SealQuestion}
 use Rattle.sealing.specs.declared.SealQuestion.the-variants as ask
@@ -19,12 +19,10 @@ use Rattle.sealing.specs.Sealing.{questionOf, sealAnswer, isSealed}
 use Rattle.taking.specs.declared.TakeAnswer.{TakeAnswer}
 use Rattle.taking.specs.declared.TakeAnswer.the-variants as took
 use Rattle.taking.specs.Take.{takeAnswer, takeBuffer}
-use Rattle.flight.specs.Flight.{freshFlight}
-use Rattle.acks.specs.Acks.{freshNotes}
+use Rattle.waiting.specs.Calls.{Stores, SendCall, keySend·, send·, save·, message·, beginFlight·, resend·, note·, sendAck·, ack·, fill·, sealed·, take·, stored, fresh, lending}
 use Rattle.history.specs.Account.{upd}
 use Rattle.history.specs.Claim.{Masks}
 use Rattle.history.specs.Receiver.{Sealed, Handed}
-use Rattle.ends.specs.Calls.{Stores, SendCall, keySend·, send·, save·, message·, beginFlight·, resend·, note·, sendAck·, ack·, fill·, sealed·, take·, stored, lending}
 use Rattle.ends.specs.Ledger.{sealedHead, sealedTail, Sent, Item}
 
 -- ---- what the history holds
@@ -248,7 +246,7 @@ FairSend masks x (take· buffer) = Unit {0}
 
 abbrev pub newSender : ℕ → ℕ → List ℕ → List ℕ → Sender
 newSender mtu limit queue kept = record {
-  stores = record { state = freshSending mtu limit; queue = queue; flight = freshFlight; kept = kept; notes = freshNotes };
+  stores = fresh mtu limit queue kept;
   books = record { sent = λ e. []; lines = [] };
   ivs = λ e. [];
   lent = none;

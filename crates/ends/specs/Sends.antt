@@ -19,23 +19,23 @@ use Rattle.outgoing.specs.declared.Sending.{Sending}
 use Rattle.outgoing.specs.State.{freshSending, keyingState}
 use Rattle.sealing.specs.declared.SealAnswer.{SealAnswer}
 use Rattle.sealing.specs.Laws.{refused-state, refused-memory}
-use Rattle.sealing.specs.Sealing.{partStart, maskedHeader, isPut, putMemory, sealAnswer, isSealed, sealedMemory}
+use Rattle.sealing.specs.Sealing.{partStart, maskedHeader, sealAnswer, isSealed, sealedMemory}
 use Rattle.taking.specs.declared.TakeAnswer.{TakeAnswer}
 use Rattle.taking.specs.declared.TakeAnswer.the-variants as took
 use Rattle.taking.specs.Laws.{kept-state}
 use Rattle.taking.specs.Take.{frontLen, takeAnswer, isTaken, takeState, takeBuffer, takes}
 use Rattle.messages.specs.Message.{messageAnswer}
 use Rattle.resend.specs.Tests.{resendAnswer}
-use Rattle.waiting.specs.Calls as call
-use Rattle.waiting.specs.Calls.Call.{key as keyCall, send as sendCall, save as saveCall, message as messageCall, begin as beginCall, put as putCall, reply as replyCall, take as takeCall, resend as resendCall, act as actCall, ack as ackCall}
+use Rattle.waiting.specs.Calls.{Stores, SendCall, keySend·, send·, save·, message·, beginFlight·, resend·, note·, sendAck·, ack·, fill·, sealed·, take·, stored}
 use Rattle.waiting.specs.Effects.{Waited, oldest-first}
 use Rattle.waiting.specs.Facts.{each-lies, waits-between, waits-under}
 use Rattle.waiting.specs.First.{putWith, firstIn, flat-first}
 use Rattle.waiting.specs.Fresh.{fresh-holds}
 use Rattle.waiting.specs.Keying.{keying-holds}
-use Rattle.waiting.specs.Oldest.{first-of, names-first}
+use Rattle.waiting.specs.Oldest.{waiting-cases, first-of, names-first, fill-holds}
 use Rattle.waiting.specs.Queued.{Queued, plain, waits, sealed, bytesOf, bytes, flat, waitingOf, waitsIn, sealedOf, Holds}
-use Rattle.waiting.specs.Seals.{afterPut, put-holds, afterReply}
+use Rattle.waiting.specs.Runs.{after, call-effect}
+use Rattle.waiting.specs.Seals.{afterReply}
 use Rattle.waiting.specs.Takes.{front-size, take-told, afterTaken, taken-settled, take-holds, take-bytes}
 use Rattle.history.specs.Account.{upd}
 use Rattle.history.specs.Claim.{Masks, nonceFor}
@@ -44,9 +44,8 @@ use Rattle.history.specs.Direction.{Shaped}
 use Rattle.history.specs.Half.{Shape}
 use Rattle.history.specs.Lists.{by-both, upd-by, some-inj, some≢none, mem-by}
 use Rattle.history.specs.Receiver.{Sealed}
-use Rattle.ends.specs.Asked.{lentFor, LentIs, waiting-cases, first-mem, part-is, lends-is, shows-after, written-is}
+use Rattle.ends.specs.Asked.{lentFor, LentIs, first-mem, part-is, lends-is, shows-after}
 use Rattle.ends.specs.Books.{sendsBy}
-use Rattle.ends.specs.Calls.{Stores, SendCall, keySend·, send·, save·, message·, beginFlight·, resend·, note·, sendAck·, ack·, fill·, sealed·, take·, stored}
 use Rattle.ends.specs.Laws.{upd-grows}
 use Rattle.ends.specs.Laying.{lineIn, linesIn, lines-append, Laying, send-lays, save-lays, message-lays}
 use Rattle.ends.specs.Numbers.{Numbers, new-epoch, keyed-numbers, Ivs, keyed-ivs}
@@ -71,10 +70,6 @@ pub record Sends (masks : Masks) (x : Sender) : Type 0 where
   pub groups : List (List Line)
   pub parted : joined groups ≡ gone
   pub taken : x .taken ≡ datagrams groups
-
--- the host's stores as the queue's laws have them
-abbrev endOf : Stores → call.End
-endOf w = record { state = w .state; queue = w .queue; flight = w .flight; kept = w .kept }
 
 -- ---- lines
 
@@ -197,52 +192,51 @@ module _ (masks : Masks) (x : Sender) (i : Sends masks x) where
     taken = i .taken;
   }
 
-  effect : (c : call.Call) → Waited (flat (i .ds)) (flat (call.after (endOf (x .stores)) c (i .ds)))
-  effect c = oldest-first _ _ (call.call-effect (endOf (x .stores)) c (i .ds) (i .laying .holds))
+  effect : (c : SendCall) → Waited (flat (i .ds)) (flat (after (x .stores) c (i .ds)))
+  effect c = oldest-first _ _ (call-effect (x .stores) c (i .ds) (i .laying .holds))
 
   send-keeps : (e t : ℕ) (c : List ℕ) → Sends masks (sendsBy x (send· e t c))
-  send-keeps e t c = simple _ _ _ (x .ivs) (send-lays (i .laying) e t c) (effect (sendCall e t c))
+  send-keeps e t c = simple _ _ _ (x .ivs) (send-lays (i .laying) e t c) (effect (send· e t c))
 
   save-keeps : (e t : ℕ) (c : List ℕ) → Sends masks (sendsBy x (save· e t c))
-  save-keeps e t c = simple _ _ _ (x .ivs) (save-lays (i .laying) e t c (x .stores .flight) (length (x .stores .kept))) (effect (saveCall e t c))
+  save-keeps e t c = simple _ _ _ (x .ivs) (save-lays (i .laying) e t c (x .stores .flight) (length (x .stores .kept))) (effect (save· e t c))
 
   message-keeps : (kind : ℕ) (body : List ℕ) → Sends masks (sendsBy x (message· kind body))
   message-keeps kind body =
       simple _ _ _ (x .ivs)
       (message-lays (x .sealed) (i .gone) (x .ivs)
       (messageAnswer (w .state) (w .flight) (length (w .queue)) (length (w .kept)) kind (length body)) w kind body (i .ds) (x .books) (i .laying))
-      (effect (messageCall kind body))
+      (effect (message· kind body))
 
   begin-keeps : Sends masks (sendsBy x beginFlight·)
-  begin-keeps = simple _ (i .ds) _ (x .ivs) (i .laying) (effect beginCall)
+  begin-keeps = simple _ (i .ds) _ (x .ivs) (i .laying) (effect beginFlight·)
 
   resend-keeps : Sends masks (sendsBy x resend·)
   resend-keeps =
       simple _ _ _ (x .ivs)
       (resend-lays (x .sealed) (i .gone) (x .ivs)
-      (resendAnswer (w .state) (w .flight) (length (w .queue)) (length (w .kept))) w (i .ds) (x .books) (i .laying)) (effect resendCall)
+      (resendAnswer (w .state) (w .flight) (length (w .queue)) (length (w .kept))) w (i .ds) (x .books) (i .laying)) (effect resend·)
 
   sendAck-keeps : Sends masks (sendsBy x sendAck·)
-  sendAck-keeps = simple _ _ _ (x .ivs) (ack-lays (x .sealed) (i .gone) (x .ivs) w (i .ds) (x .books) (i .laying)) (effect (ackCall (x .stores .notes)))
+  sendAck-keeps = simple _ _ _ (x .ivs) (ack-lays (x .sealed) (i .gone) (x .ivs) w (i .ds) (x .books) (i .laying)) (effect sendAck·)
 
   note-keeps : (e n : ℕ) → Sends masks (sendsBy x (note· e n))
-  note-keeps e n = simple _ (i .ds) _ (x .ivs) (i .laying) (effect beginCall)
+  note-keeps e n = simple _ (i .ds) _ (x .ivs) (i .laying) (effect (note· e n))
 
   ack-keeps : (d : List ℕ) → Sends masks (sendsBy x (ack· d))
-  ack-keeps d = simple _ (i .ds) _ (x .ivs) (i .laying) (effect (actCall d))
+  ack-keeps d = simple _ (i .ds) _ (x .ivs) (i .laying) (effect (ack· d))
 
   -- stores as they were
   pub turned : (v : Stores) → v ≡ x .stores → Sends masks (turns x v (x .books) (x .ivs) (x .sealed) (x .taken))
   turned v is =
       subst (λ (v : Stores). Sends masks (turns x v (x .books) (x .ivs) (x .sealed) (x .taken))) (sym is)
-      (simple (x .stores) (i .ds) (x .books) (x .ivs) (i .laying) (effect beginCall))
+      (simple (x .stores) (i .ds) (x .books) (x .ivs) (i .laying) (effect beginFlight·))
 
   -- ---- the host's bytes
 
-  put-lays : (v : List ℕ) → Laying (x .sealed) (i .gone) (x .ivs) (w .state) (putMemory (w .state) v (w .queue))
-      (afterPut (isPut (w .state) (length v) (length (w .queue))) v (i .ds)) (x .books)
-  put-lays v = record {
-    holds = put-holds (w .state) (w .queue) (i .ds) (i .laying .holds) v;
+  fill-lays : (v : List ℕ) → Laying (x .sealed) (i .gone) (x .ivs) (w .state) (stored w (fill· v) .queue) (after w (fill· v) (i .ds)) (x .books)
+  fill-lays v = record {
+    holds = fill-holds (w .state) (w .queue) (i .ds) (i .laying .holds) v;
     numbers = i .laying .numbers;
     waiting-sent = λ e t n c p m. waited-before v e t n c p m (λ p′ o. i .laying .waiting-sent e t n c p′ o);
     sealed-sent = i .laying .sealed-sent;
@@ -251,21 +245,19 @@ module _ (masks : Masks) (x : Sender) (i : Sends masks x) where
     same-ivs = i .laying .same-ivs;
   }
     where
-      waited-before : {C : Type 0} (v : List ℕ) (e t n : ℕ) (c p : List ℕ) → Mem (waits e t n c p) (flat (afterPut (isPut (w .state) (length v) (length (w .queue))) v (i .ds)))
+      waited-before : {C : Type 0} (v : List ℕ) (e t n : ℕ) (c p : List ℕ) → Mem (waits e t n c p) (flat (after w (fill· v) (i .ds)))
           → ((p′ : List ℕ) → Mem (waits e t n c p′) (flat (i .ds)) → C) → C
       waited-before {C} v e t n c p m f =
           by-test (λ (us : List (List Queued)). Mem (waits e t n c p) (flat us) → C)
           (λ z o. put-was v e t n c p (flat (i .ds)) (subst (Mem (waits e t n c p)) (flat-first (putWith v) (i .ds)) o) f) (λ z o. f p o) m
 
-      lines-then : (v : List ℕ) → linesIn (flat (afterPut (isPut (w .state) (length v) (length (w .queue))) v (i .ds))) ≡ linesIn (flat (i .ds))
+      lines-then : (v : List ℕ) → linesIn (flat (after w (fill· v) (i .ds))) ≡ linesIn (flat (i .ds))
       lines-then v =
           by-test (λ (us : List (List Queued)). linesIn (flat us) ≡ linesIn (flat (i .ds)))
           (λ z. ap linesIn (flat-first (putWith v) (i .ds)) ∙ put-lines v (flat (i .ds))) (λ z. refl)
 
   fill-keeps : (v : List ℕ) → Sends masks (sendsBy x (fill· v))
-  fill-keeps v =
-      subst (λ (q : List ℕ). Sends masks (turns x (record { state = w .state; queue = q; flight = w .flight; kept = w .kept; notes = w .notes }) (x .books) (x .ivs) (x .sealed) (x .taken)))
-      (sym (written-is (w .state) (w .queue) (i .ds) (i .laying .holds) v)) (simple _ _ _ (x .ivs) (put-lays v) (effect (putCall v)))
+  fill-keeps v = simple _ _ _ (x .ivs) (fill-lays v) (effect (fill· v))
 
   -- ---- keying
 
@@ -279,7 +271,7 @@ module _ (masks : Masks) (x : Sender) (i : Sends masks x) where
         apart = i .laying .apart;
         lines = i .laying .lines;
         same-ivs = key-ivs;
-      }) (effect (keyCall e iv))
+      }) (effect (keySend· e iv))
     where
       a : KeyAnswer
       a = keyAnswer (w .state .keys) (isSound (w .state .queue)) e
@@ -306,7 +298,7 @@ module _ (masks : Masks) (x : Sender) (i : Sends masks x) where
     gone = i .gone;
     over = i .over;
     laying = l;
-    lent = shown-then _ _ _ (l .holds) (effect (replyCall k m));
+    lent = shown-then _ _ _ (l .holds) (effect (sealed· k m));
     once = one;
     shaped = shapes;
     groups = i .groups;
@@ -398,7 +390,7 @@ module _ (masks : Masks) (x : Sender) (i : Sends masks x) where
       (simple (stored w (take· buffer)) (afterTaken a (i .ds)) (x .books) (x .ivs)
       (subst (λ (s : Sending). Laying (x .sealed) (i .gone) (x .ivs) s (w .queue) (afterTaken a (i .ds)) (x .books)) (sym (kept-state a f (w .state)))
       (subst (λ (us : List (List Queued)). Laying (x .sealed) (i .gone) (x .ivs) (w .state) (w .queue) us (x .books)) (sym (untaken-ds a (i .ds) f)) (i .laying)))
-      (effect (takeCall (length buffer))))
+      (effect (take· buffer)))
 
   module _ (buffer : List ℕ) (d : List Queued) (us : List (List Queued)) (is : i .ds ≡ d ∷ us)
       (t : isTaken (takeAnswer (w .state) (length (w .queue)) (length buffer)) ≡ true) where
@@ -457,7 +449,7 @@ module _ (masks : Masks) (x : Sender) (i : Sends masks x) where
           over = all-done (i .gone) (linesIn d) (i .over) (settled-lines d settled .0);
           laying = lays-then;
           lent = shown-then _ _ us (lays-then .holds)
-              (subst (λ (l : List (List Queued)). Waited (flat (i .ds)) (flat l)) after-is (effect (takeCall (length buffer))));
+              (subst (λ (l : List (List Queued)). Waited (flat (i .ds)) (flat l)) after-is (effect (take· buffer)));
           once = i .once;
           shaped = i .shaped;
           groups = i .groups ++ (linesIn d ∷ []);

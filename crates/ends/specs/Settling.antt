@@ -7,7 +7,7 @@ use mathlib.Core.Bool.{Bool, true, false, true≢false, false≢true}
 use mathlib.Core.List.{List, [], _∷_}
 use mathlib.Core.Logic.{⊎-elim}
 use mathlib.Core.Option.{Option, none, some}
-use mathlib.Core.Path.{_≡_, refl, sym, ap, _∙_, subst}
+use mathlib.Core.Path.{_≡_, refl, sym, ap, _∙_}
 use native.Mathlib.Omega.{arith}
 use Rattle.base.specs.Choose.{choose, both, either, if-true, if-false, by-test, test-cases}
 use Rattle.queue.specs.Queue.{isSetting, isSound}
@@ -26,22 +26,20 @@ use Rattle.taking.specs.declared.TakeAnswer.{TakeAnswer}
 use Rattle.taking.specs.Take.{isTaken, takeAnswer, takeState}
 use Rattle.flight.specs.Flight.{freshFlight}
 use Rattle.acks.specs.Acks.{freshNotes, pairsOf}
+use Rattle.waiting.specs.Answers as answers
+use Rattle.waiting.specs.Calls.{Stores, SendCall, keySend·, fill·, sealed·, take·, stored, Reply, only}
 use Rattle.waiting.specs.First.{sealWith, putWith, firstIn, firstOf}
 use Rattle.waiting.specs.Fresh.{fresh-holds}
 use Rattle.waiting.specs.Keying.{keying-told, keying-holds}
-use Rattle.waiting.specs.Oldest.{first-of, names-first}
+use Rattle.waiting.specs.Oldest.{first-of, names-first, fill-holds}
 use Rattle.waiting.specs.Queued.{Queued, plain, waits, sealed, bytes, flat, waitingOf, numbersOf, waitsIn, Holds}
-use Rattle.waiting.specs.Seals.{put-holds, seal-holds, seal-told}
+use Rattle.waiting.specs.Seals.{seal-holds, seal-told}
 use Rattle.waiting.specs.Takes.{takeTold, take-told, afterTaken, take-holds}
 use Rattle.history.specs.Account.{upd}
 use Rattle.history.specs.Lists.{upd-same, upd-other, by-both}
-use Rattle.ends.specs.Answers as answers
-use Rattle.ends.specs.Asked.{written-is}
-use Rattle.ends.specs.Calls.{Stores, SendCall, keySend·, fill·, sealed·, take·, stored}
 use Rattle.ends.specs.Ledger.{
   Item,
   Ledger,
-  Reply,
   newLedger,
   withQueue,
   total,
@@ -52,7 +50,6 @@ use Rattle.ends.specs.Ledger.{
   settlesIn,
   settles,
   behindFront,
-  only,
   isOld,
   keyNumber,
   keyed,
@@ -174,12 +171,9 @@ requeued w l i s mem ds h same queue is =
 pub fill-does : (w : Stores) (l : Ledger) → Matches w l → (v : List ℕ) → Does w l (fill· v)
 unfolding after
 fill-does w l i v =
-    let there =
-    requeued w l i (w .state) _ _ (put-holds (w .state) (w .queue) (i .ds) (i .holds) v) (steady (w .state)) (l .queue)
-    (by-test (λ (us : List (List Queued)). itemsOf us ≡ l .queue) (λ z. put-of v (i .ds) ∙ i .queue) (λ z. i .queue)) in
     let here : Matches (stored w (fill· v)) l =
-    subst (λ (q : List ℕ). Matches (record { state = w .state; queue = q; flight = w .flight; kept = w .kept; notes = w .notes }) l)
-    (sym (written-is (w .state) (w .queue) (i .ds) (i .holds) v)) there in
+    requeued w l i (w .state) _ _ (fill-holds (w .state) (w .queue) (i .ds) (i .holds) v) (steady (w .state)) (l .queue)
+    (by-test (λ (us : List (List Queued)). itemsOf us ≡ l .queue) (λ z. put-of v (i .ds) ∙ i .queue) (λ z. i .queue)) in
     record { reply = refl; leaves = by-test (Matches _) (λ z. here) (λ z. here); books = sends-nothing l (fill· v) refl }
 
 -- ---- a sealing reply

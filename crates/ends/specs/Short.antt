@@ -34,9 +34,9 @@ use Rattle.resend.specs.declared.Resent.{Resent}
 use Rattle.resend.specs.Resend.{resendState, resendQueue}
 use Rattle.resend.specs.Tests as resend
 use Rattle.resend.specs.Tests.{resendAnswer}
-use Rattle.ends.specs.Answers.{ackReply, takeReply, answered}
-use Rattle.ends.specs.Calls.{Stores, SendCall, keySend·, send·, save·, message·, beginFlight·, resend·, note·, sendAck·, ack·, fill·, sealed·, take·, stored, lending, Short}
-use Rattle.ends.specs.Ledger.{only, shortReply}
+use Rattle.waiting.specs.Answers.{ackReply, takeReply, answered}
+use Rattle.waiting.specs.Calls.{Stores, SendCall, keySend·, send·, save·, message·, beginFlight·, resend·, note·, sendAck·, ack·, fill·, sealed·, take·, stored, lending, Short, only}
+use Rattle.ends.specs.Ledger.{shortReply}
 
 unready : (q : Queue) (room : ℕ) → room < q .limit * q .mtu → isReady q room ≡ false
 unfolding isReady

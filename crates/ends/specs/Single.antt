@@ -37,12 +37,12 @@ use Rattle.acks.specs.Acks.{
   length-content,
   pairs-next,
 }
+use Rattle.waiting.specs.Answers.{noteReply}
+use Rattle.waiting.specs.Calls.{Stores, send·, save·, note·, sendAck·, only}
 use Rattle.waiting.specs.Sends.{Sent, sent, saved}
 use Rattle.history.specs.Lists.{by-both}
-use Rattle.ends.specs.Answers.{noteReply}
 use Rattle.ends.specs.Books as books
 use Rattle.ends.specs.Books.{written, ackBooks}
-use Rattle.ends.specs.Calls.{Stores, send·, save·, note·, sendAck·}
 use Rattle.ends.specs.Laws.{Told, done-by}
 use Rattle.ends.specs.Ledger as ledger
 use Rattle.ends.specs.Ledger.{
@@ -51,7 +51,6 @@ use Rattle.ends.specs.Ledger.{
   Ledger,
   withNoted,
   lays,
-  only,
   queueNumber,
   flightNumber,
   sendNumber,

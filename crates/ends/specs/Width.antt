@@ -20,8 +20,8 @@ use Rattle.acks.specs.Acks.{noticeState, ackSent, sentAck}
 use Rattle.resend.specs.declared.Resent.{Resent}
 use Rattle.resend.specs.Resend.{Laying as Again, sentAgain, againAnswer, againAt, againAfter, resendState}
 use Rattle.resend.specs.Tests.{closedState}
+use Rattle.waiting.specs.Calls.{Stores, SendCall, keySend·, send·, save·, message·, beginFlight·, resend·, note·, sendAck·, ack·, fill·, sealed·, take·, stored}
 use Rattle.ends.specs.Books.{piece, closing}
-use Rattle.ends.specs.Calls.{Stores, SendCall, keySend·, send·, save·, message·, beginFlight·, resend·, note·, sendAck·, ack·, fill·, sealed·, take·, stored}
 
 -- the MTU and the limit
 abbrev widthOf : Sending → ℕ × ℕ

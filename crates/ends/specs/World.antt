@@ -11,12 +11,12 @@ use Rattle.sealing.specs.declared.SealQuestion.the-variants as ask
 use Rattle.sealing.specs.declared.SealQuestion.{SealQuestion}
 use Rattle.sealing.specs.Sealing.{questionOf}
 use Rattle.taking.specs.Take.{takeAnswer, takeBuffer}
+use Rattle.waiting.specs.Answers.{answered}
+use Rattle.waiting.specs.Calls.{Stores, SendCall, keySend·, send·, save·, message·, beginFlight·, resend·, note·, sendAck·, ack·, fill·, sealed·, take·, stored, lending, Short, Reply}
 use Rattle.history.specs.Claim.{Masks, FairCall}
 use Rattle.history.specs.Receiver.{Inbound, newInbound, Call, key·, remove·, encrypt·, release·, begin·, read·, mask·, write·, open·, readOver·, maskOver·, openOver·, does}
-use Rattle.ends.specs.Answers.{answered}
-use Rattle.ends.specs.Calls.{Stores, SendCall, keySend·, send·, save·, message·, beginFlight·, resend·, note·, sendAck·, ack·, fill·, sealed·, take·, stored, lending, Short}
 use Rattle.ends.specs.Flights.{FairNames}
-use Rattle.ends.specs.Ledger.{Kept, Ledger, newLedger, Reply, owed, after, sentBy, shortReply, clears}
+use Rattle.ends.specs.Ledger.{Kept, Ledger, newLedger, owed, after, sentBy, shortReply, clears}
 use Rattle.ends.specs.Sender.{Sender, newSender, sends, sendsOver, FairSend}
 
 pub data Side : Type 0 where

@@ -1,194 +1,138 @@
--- Any list of calls that send, on a fresh state: the queue's memory means the datagrams that the calls made, and each call does one of the
--- five things to them. Assumes nothing.
-use mathlib.Core.Bool.{true}
-use mathlib.Core.List.{List, [], _∷_}
-use mathlib.Core.Path.{_≡_, refl}
-use Prim.Native.Nat.{ℕ, _*_, _<_, _≤_}
+-- The calls of a sending end, and the state and memory that each leaves, by the definitions that the calls' contracts cite.
+use Prim.Native.Nat.{ℕ, _*_, _<_}
+use lib.Dec.{eqb}
 use lib.ListN.{length}
-use Rattle.base.specs.Choose.{by-test}
-use Rattle.queue.specs.Queue.{isSetting}
+use mathlib.Core.List.{List}
+use mathlib.Core.Logic.{_⊎_}
+use Rattle.base.specs.Choose.{choose}
+use Rattle.base.specs.Parts.{splice}
 use Rattle.outgoing.specs.declared.Sending.{Sending}
-use Rattle.outgoing.specs.declared.SendAnswer.{SendAnswer}
-use Rattle.outgoing.specs.State.{freshSending, keyingState}
 use Rattle.outgoing.specs.Send.{sendAnswer, sendState, sendMemory}
+use Rattle.outgoing.specs.State.{freshSending, keyingState}
+use Rattle.sealing.specs.declared.SealQuestion.the-variants as ask
+use Rattle.sealing.specs.declared.SealQuestion.{SealQuestion}
+use Rattle.sealing.specs.Sealing.{questionOf, sealAnswer, sealedState, sealedMemory}
+use Rattle.taking.specs.Take.{takeAnswer, takeState}
 use Rattle.flight.specs.declared.Flight.{Flight}
 use Rattle.flight.specs.Flight.{freshFlight, begun}
-use Rattle.flight.specs.Save.{saveAnswer, saveState, saveQueue, saveKept}
-use Rattle.messages.specs.Message.{beginning, messageAnswer, messageState, messageQueue, messageKept}
+use Rattle.flight.specs.Save.{saveState, saveQueue, saveKept}
+use Rattle.messages.specs.Message.{messageAnswer, messageState, messageQueue, messageKept}
 use Rattle.process_ack.specs.Ack.{acked}
 use Rattle.acks.specs.declared.Notes.{Notes}
-use Rattle.acks.specs.Acks.{sentAck, ackMemory}
-use Rattle.resend.specs.declared.ResendAnswer.{ResendAnswer}
-use Rattle.resend.specs.Tests.{resendAnswer}
+use Rattle.acks.specs.Acks.{freshNotes, noted, sentAck, ackMemory}
 use Rattle.resend.specs.Resend.{resendState, resendQueue}
-use Rattle.sealing.specs.Sealing.{isPut, putMemory, sealAnswer, sealedState, sealedMemory}
-use Rattle.taking.specs.Take.{takeAnswer, takeState}
-use Rattle.waiting.specs.Queued.{Queued, flat, Holds}
-use Rattle.waiting.specs.Fresh.{fresh-holds}
-use Rattle.waiting.specs.Sends.{afterSend, send-holds, save-holds}
-use Rattle.waiting.specs.First.{sealWith, putWith, flat-first}
-use Rattle.waiting.specs.Seals.{afterPut, afterReply, put-holds, seal-holds}
-use Rattle.waiting.specs.Takes.{afterTaken, taken-settled, take-holds}
-use Rattle.waiting.specs.Keying.{keying-holds}
-use Rattle.waiting.specs.Pieces.{allSent, afterMessage, message-holds, Behind, behind-send, behind-all}
-use Rattle.waiting.specs.Resends.{afterResend, resend-holds, behind-resend, afterAck, ack-holds, behind-ack}
-use Rattle.waiting.specs.Effects.{Effect, stays, adds, writes, seals, takes}
+use Rattle.resend.specs.Tests.{resendAnswer}
 
--- what the host keeps: the state, the queue's memory, the flight and its memory
-pub record End : Type 0 where
+-- what the host keeps: the state, the queue's memory, the flight and its memory, the records noted for the next ACK
+pub record Stores : Type 0 where
   pub state : Sending
   pub queue : List ℕ
   pub flight : Flight
   pub kept : List ℕ
+  pub notes : Notes
 
--- the calls that send, with what the host gives them; `put` is the host writing into the part that is lent, `act` acting on an ACK's content,
--- `ack` sending the ACK with these notes
-pub data Call : Type 0 where
-  key : (e : ℕ) (iv : List ℕ) → Call
-  send : (e t : ℕ) (x : List ℕ) → Call
-  save : (e t : ℕ) (x : List ℕ) → Call
-  message : (kind : ℕ) (body : List ℕ) → Call
-  begin : Call
-  put : (v : List ℕ) → Call
-  reply : (n : ℕ) (m : List ℕ) → Call
-  take : (have : ℕ) → Call
-  resend : Call
-  act : (d : List ℕ) → Call
-  ack : (n : Notes) → Call
+pub data SendCall : Type 0 where
+  -- keying with an IV; one record, saved or not; a handshake message; beginning a flight
+  keySend· : ℕ → List ℕ → SendCall
+  send· : ℕ → ℕ → List ℕ → SendCall
+  save· : ℕ → ℕ → List ℕ → SendCall
+  message· : ℕ → List ℕ → SendCall
+  beginFlight· : SendCall
+  -- the flight again; a record noted by epoch and number; the ACK of those noted; an ACK's bytes acted on
+  resend· : SendCall
+  note· : ℕ → ℕ → SendCall
+  sendAck· : SendCall
+  ack· : List ℕ → SendCall
+  -- the host's bytes in the part lent for the oldest sealing; its reply, a length and the mask; taking a datagram into a buffer
+  fill· : List ℕ → SendCall
+  sealed· : ℕ → List ℕ → SendCall
+  take· : List ℕ → SendCall
 
-abbrev pub does : End → Call → End
-does w (key e iv) = record { state = keyingState (w .state) e iv .state; queue = w .queue; flight = w .flight; kept = w .kept }
-does w (send e t x) = record {
-  state = sendState (sendAnswer (w .state) (length (w .queue)) e t (length x)) (w .state) e (length x) .state;
-  queue = sendMemory (sendAnswer (w .state) (length (w .queue)) e t (length x)) (w .state) e t x (w .queue);
-  flight = w .flight;
-  kept = w .kept;
-}
-does w (save e t x) = record {
-  state = saveState (w .state) (w .flight) (length (w .queue)) (length (w .kept)) e t (length x) .state;
-  queue = saveQueue (w .state) (w .flight) (length (w .kept)) e t x (w .queue);
-  flight = saveState (w .state) (w .flight) (length (w .queue)) (length (w .kept)) e t (length x) .flight;
-  kept = saveKept (w .state) (w .flight) (length (w .queue)) e t x (w .kept);
-}
-does w (message kind body) = record {
-  state = messageState (messageAnswer (w .state) (w .flight) (length (w .queue)) (length (w .kept)) kind (length body)) (w .state) (w .flight) (w .queue) (w .kept) kind body .state;
-  queue = messageQueue (messageAnswer (w .state) (w .flight) (length (w .queue)) (length (w .kept)) kind (length body)) (w .state) (w .flight) (w .queue) (w .kept) kind body;
-  flight = messageState (messageAnswer (w .state) (w .flight) (length (w .queue)) (length (w .kept)) kind (length body)) (w .state) (w .flight) (w .queue) (w .kept) kind body .flight;
-  kept = messageKept (messageAnswer (w .state) (w .flight) (length (w .queue)) (length (w .kept)) kind (length body)) (w .state) (w .flight) (w .queue) (w .kept) kind body;
-}
-does w begin = record { state = w .state; queue = w .queue; flight = begun (w .flight) .flight; kept = w .kept }
-does w (put v) = record { state = w .state; queue = putMemory (w .state) v (w .queue); flight = w .flight; kept = w .kept }
-does w (reply n m) = record {
-  state = sealedState (sealAnswer (w .state) (length (w .queue)) n) (w .state) (w .queue) .state;
-  queue = sealedMemory (sealAnswer (w .state) (length (w .queue)) n) (w .state) m (w .queue);
-  flight = w .flight;
-  kept = w .kept;
-}
-does w (take have) = record { state = takeState (takeAnswer (w .state) (length (w .queue)) have) (w .state) .state; queue = w .queue; flight = w .flight; kept = w .kept }
-does w resend = record {
-  state = resendState (resendAnswer (w .state) (w .flight) (length (w .queue)) (length (w .kept))) (w .state) (w .flight) (w .kept) (w .queue) .state;
-  queue = resendQueue (resendAnswer (w .state) (w .flight) (length (w .queue)) (length (w .kept))) (w .state) (w .flight) (w .kept) (w .queue);
-  flight = resendState (resendAnswer (w .state) (w .flight) (length (w .queue)) (length (w .kept))) (w .state) (w .flight) (w .kept) (w .queue) .flight;
-  kept = w .kept;
-}
-does w (act d) = record { state = w .state; queue = w .queue; flight = acked (w .flight) d .flight; kept = w .kept }
-does w (ack n) = record { state = sentAck (w .state) n (length (w .queue)) .state; queue = ackMemory (w .state) n (w .queue); flight = w .flight; kept = w .kept }
+-- what the host sees of a call: 01's number of its refusal, 0 where it is done, and what is told besides: the length of the datagram taken
+-- or the length needed for it, 1 where a record was noted or an ACK sent
+pub record Reply : Type 0 where
+  pub number : ℕ
+  pub told : ℕ
 
--- what the queue means behind a call
-abbrev pub after : End → Call → List (List Queued) → List (List Queued)
-after w (key e iv) ds = ds
-after w (send e t x) ds = afterSend (sendAnswer (w .state) (length (w .queue)) e t (length x)) (w .state) e t x ds
-after w (save e t x) ds = afterSend (saveAnswer (w .state) (w .flight) (length (w .queue)) (length (w .kept)) e t (length x)) (w .state) e t x ds
-after w (message kind body) ds =
-    afterMessage (messageAnswer (w .state) (w .flight) (length (w .queue)) (length (w .kept)) kind (length body)) (w .state) (w .flight) (w .queue) (w .kept) kind body ds
-after w begin ds = ds
-after w (put v) ds = afterPut (isPut (w .state) (length v) (length (w .queue))) v ds
-after w (reply n m) ds = afterReply (sealAnswer (w .state) (length (w .queue)) n) m ds
-after w (take have) ds = afterTaken (takeAnswer (w .state) (length (w .queue)) have) ds
-after w resend ds = afterResend (resendAnswer (w .state) (w .flight) (length (w .queue)) (length (w .kept))) (w .state) (w .flight) (w .kept) (w .queue) ds
-after w (act d) ds = ds
-after w (ack n) ds = afterAck (w .state) n (w .queue) ds
+abbrev pub only : ℕ → Reply
+only n = record { number = n; told = 0 }
 
--- an epoch is one of 16 bits; at most 32 records are noted (`noted-few`)
-abbrev pub Narrow : Call → Type 0
-Narrow (key e iv) = e < 65536
-Narrow (send e t x) = Unit {0}
-Narrow (save e t x) = Unit {0}
-Narrow (message kind body) = Unit {0}
-Narrow begin = Unit {0}
-Narrow (put v) = Unit {0}
-Narrow (reply n m) = Unit {0}
-Narrow (take have) = Unit {0}
-Narrow resend = Unit {0}
-Narrow (act d) = Unit {0}
-Narrow (ack n) = n .count ≤ 32
+-- the host's own writing: as many bytes as the sealing question shows, in the place that it shows
+abbrev pub writtenIn : SealQuestion → List ℕ → List ℕ → List ℕ
+writtenIn (ask.Seal e n p l) v q = choose (eqb (length v) l) (splice p v q) q
+writtenIn ask.Nothing v q = q
+writtenIn ask.OutOfRange v q = q
 
--- ---- one call
+-- state and memory behind each call, by the definitions that the calls' contracts cite
+abbrev pub stored : Stores → SendCall → Stores
+stored w (keySend· e iv) = record { state = keyingState (w .state) e iv .state; queue = w .queue; flight = w .flight; kept = w .kept; notes = w .notes }
+stored w (send· e t x) =
+    let a = sendAnswer (w .state) (length (w .queue)) e t (length x) in
+    record { state = sendState a (w .state) e (length x) .state; queue = sendMemory a (w .state) e t x (w .queue); flight = w .flight; kept = w .kept; notes = w .notes }
+stored w (save· e t x) =
+    let r = saveState (w .state) (w .flight) (length (w .queue)) (length (w .kept)) e t (length x) in
+    record {
+      state = r .state;
+      queue = saveQueue (w .state) (w .flight) (length (w .kept)) e t x (w .queue);
+      flight = r .flight;
+      kept = saveKept (w .state) (w .flight) (length (w .queue)) e t x (w .kept);
+      notes = w .notes;
+    }
+stored w (message· kind body) =
+    let a = messageAnswer (w .state) (w .flight) (length (w .queue)) (length (w .kept)) kind (length body) in
+    let r = messageState a (w .state) (w .flight) (w .queue) (w .kept) kind body in
+    record {
+      state = r .state;
+      queue = messageQueue a (w .state) (w .flight) (w .queue) (w .kept) kind body;
+      flight = r .flight;
+      kept = messageKept a (w .state) (w .flight) (w .queue) (w .kept) kind body;
+      notes = w .notes;
+    }
+stored w beginFlight· = record { state = w .state; queue = w .queue; flight = begun (w .flight) .flight; kept = w .kept; notes = w .notes }
+stored w resend· =
+    let a = resendAnswer (w .state) (w .flight) (length (w .queue)) (length (w .kept)) in
+    let r = resendState a (w .state) (w .flight) (w .kept) (w .queue) in
+    record { state = r .state; queue = resendQueue a (w .state) (w .flight) (w .kept) (w .queue); flight = r .flight; kept = w .kept; notes = w .notes }
+stored w (note· e n) = record { state = w .state; queue = w .queue; flight = w .flight; kept = w .kept; notes = noted (w .notes) e n .notes }
+stored w sendAck· =
+    let r = sentAck (w .state) (w .notes) (length (w .queue)) in
+    record { state = r .state; queue = ackMemory (w .state) (w .notes) (w .queue); flight = w .flight; kept = w .kept; notes = r .notes }
+stored w (ack· d) = record { state = w .state; queue = w .queue; flight = acked (w .flight) d .flight; kept = w .kept; notes = w .notes }
+stored w (fill· v) = record { state = w .state; queue = writtenIn (questionOf (w .state) .question) v (w .queue); flight = w .flight; kept = w .kept; notes = w .notes }
+stored w (sealed· n m) =
+    let a = sealAnswer (w .state) (length (w .queue)) n in
+    record { state = sealedState a (w .state) (w .queue) .state; queue = sealedMemory a (w .state) m (w .queue); flight = w .flight; kept = w .kept; notes = w .notes }
+stored w (take· buffer) =
+    record {
+      state = takeState (takeAnswer (w .state) (length (w .queue)) (length buffer)) (w .state) .state;
+      queue = w .queue;
+      flight = w .flight;
+      kept = w .kept;
+      notes = w .notes;
+    }
 
-pub call-holds : (w : End) (c : Call) (ds : List (List Queued)) → Narrow c → Holds (w .state) (w .queue) ds → Holds (does w c .state) (does w c .queue) (after w c ds)
-call-holds w (key e iv) ds l h = keying-holds (w .state) (w .queue) ds h e iv l
-call-holds w (send e t x) ds l h = send-holds (w .state) (w .queue) ds h e t x
-call-holds w (save e t x) ds l h = save-holds (w .state) (w .queue) ds h e t x (w .flight) (length (w .kept))
-call-holds w (message kind body) ds l h =
-    message-holds (messageAnswer (w .state) (w .flight) (length (w .queue)) (length (w .kept)) kind (length body)) (w .state) (w .flight) (w .queue) (w .kept) kind body ds h
-call-holds w begin ds l h = h
-call-holds w (put v) ds l h = put-holds (w .state) (w .queue) ds h v
-call-holds w (reply n m) ds l h = seal-holds (w .state) (w .queue) ds h n m
-call-holds w (take have) ds l h = take-holds (w .state) (w .queue) ds h have
-call-holds w resend ds l h = resend-holds (resendAnswer (w .state) (w .flight) (length (w .queue)) (length (w .kept))) (w .state) (w .flight) (w .kept) (w .queue) ds h
-call-holds w (act d) ds l h = h
-call-holds w (ack n) ds l h = ack-holds (w .state) n (w .queue) ds h
+-- "Both start fresh: settings in range, .. nothing queued", saved or noted; the lent buffers have any bytes
+abbrev pub fresh : ℕ → ℕ → List ℕ → List ℕ → Stores
+fresh mtu limit queue kept = record { state = freshSending mtu limit; queue = queue; flight = freshFlight; kept = kept; notes = freshNotes }
 
-effect-behind : (rs us : List Queued) → Behind rs us → Effect rs us
-effect-behind rs us b = adds (b .more) (b .laid) (b .all)
+-- ---- a call over other memory than this end's own
 
-pub call-effect : (w : End) (c : Call) (ds : List (List Queued)) → Holds (w .state) (w .queue) ds → Effect (flat ds) (flat (after w c ds))
-call-effect w (key e iv) ds h = stays refl
-call-effect w (send e t x) ds h =
-    let a : SendAnswer = sendAnswer (w .state) (length (w .queue)) e t (length x) in
-    effect-behind (flat ds) (flat (afterSend a (w .state) e t x ds)) (behind-send a (w .state) e t x ds)
-call-effect w (save e t x) ds h =
-    let a : SendAnswer = saveAnswer (w .state) (w .flight) (length (w .queue)) (length (w .kept)) e t (length x) in
-    effect-behind (flat ds) (flat (afterSend a (w .state) e t x ds)) (behind-send a (w .state) e t x ds)
-call-effect w (message kind body) ds h =
-    by-test (λ (us : List (List Queued)). Effect (flat ds) (flat us))
-    (λ d. effect-behind (flat ds) (flat (allSent 13 kind body 0 (beginning (w .state) (w .flight) (w .queue) (w .kept)) ds)) (behind-all 13 kind body 0 (beginning (w .state) (w .flight) (w .queue) (w .kept)) ds))
-    (λ d. stays refl)
-call-effect w begin ds h = stays refl
-call-effect w (put v) ds h = by-test (λ (us : List (List Queued)). Effect (flat ds) (flat us)) (λ d. writes v (flat-first (putWith v) ds)) (λ d. stays refl)
-call-effect w (reply n m) ds h = by-test (λ (us : List (List Queued)). Effect (flat ds) (flat us)) (λ d. seals m (flat-first (sealWith m) ds)) (λ d. stays refl)
-call-effect w (take have) [] h = stays refl
-call-effect w (take have) (d ∷ ds) h =
-    by-test (λ (us : List (List Queued)). Effect (flat (d ∷ ds)) (flat us)) (λ t. takes d (taken-settled (w .state) (w .queue) d ds h have t) refl) (λ t. stays refl)
-call-effect w resend ds h =
-    let a : ResendAnswer = resendAnswer (w .state) (w .flight) (length (w .queue)) (length (w .kept)) in
-    effect-behind (flat ds) (flat (afterResend a (w .state) (w .flight) (w .kept) (w .queue) ds)) (behind-resend a (w .state) (w .flight) (w .kept) (w .queue) ds)
-call-effect w (act d) ds h = stays refl
-call-effect w (ack n) ds h = effect-behind (flat ds) (flat (afterAck (w .state) n (w .queue) ds)) (behind-ack (w .state) n (w .queue) ds)
+-- memory in place of what is lent to this end
+abbrev pub lending : Stores → List ℕ → List ℕ → Stores
+lending w q k = record { state = w .state; queue = q; flight = w .flight; kept = k; notes = w .notes }
 
--- ---- any list of calls
-
-abbrev pub run : End → List Call → End
-run w [] = w
-run w (c ∷ cs) = run (does w c) cs
-
--- what the queue means in the end
-abbrev pub meant : End → List Call → List (List Queued) → List (List Queued)
-meant w [] ds = ds
-meant w (c ∷ cs) ds = meant (does w c) cs (after w c ds)
-
-abbrev pub AllNarrow : List Call → Type 0
-AllNarrow [] = Unit {0}
-AllNarrow (c ∷ cs) = Narrow c × AllNarrow cs
-
-pub run-holds : (w : End) (cs : List Call) (ds : List (List Queued)) → AllNarrow cs → Holds (w .state) (w .queue) ds → Holds (run w cs .state) (run w cs .queue) (meant w cs ds)
-run-holds w [] ds l h = h
-run-holds w (c ∷ cs) ds l h = run-holds (does w c) cs (after w c ds) (l .1) (call-holds w c ds (l .0) h)
-
--- "Both start fresh: settings in range, .. nothing queued", and a lent buffer of any bytes, long enough
-abbrev pub fresh : ℕ → ℕ → List ℕ → List ℕ → End
-fresh mtu limit queue kept = record { state = freshSending mtu limit; queue = queue; flight = freshFlight; kept = kept }
-
-pub always-holds : (mtu limit : ℕ) (queue kept : List ℕ) → isSetting mtu limit ≡ true → limit * mtu ≤ length queue → (cs : List Call) → AllNarrow cs
-    → Holds (run (fresh mtu limit queue kept) cs .state) (run (fresh mtu limit queue kept) cs .queue) (meant (fresh mtu limit queue kept) cs [])
-always-holds mtu limit queue kept s l cs n = run-holds (fresh mtu limit queue kept) cs [] n (fresh-holds mtu limit queue s l)
+-- too short: a queue "under its limit times the MTU", or a flight's memory under 12 times the MTU where the call takes one; a call that takes
+-- none is not made over any
+abbrev pub Short : ℕ → ℕ → List ℕ → List ℕ → SendCall → Type 0
+Short mtu limit q k (keySend· e iv) = ⊥
+Short mtu limit q k (send· e t x) = length q < limit * mtu
+Short mtu limit q k (save· e t x) = (length q < limit * mtu) ⊎ (length k < 12 * mtu)
+Short mtu limit q k (message· kind body) = (length q < limit * mtu) ⊎ (length k < 12 * mtu)
+Short mtu limit q k beginFlight· = ⊥
+Short mtu limit q k resend· = (length q < limit * mtu) ⊎ (length k < 12 * mtu)
+Short mtu limit q k (note· e n) = ⊥
+Short mtu limit q k sendAck· = length q < limit * mtu
+Short mtu limit q k (ack· d) = ⊥
+Short mtu limit q k (fill· v) = length q < limit * mtu
+Short mtu limit q k (sealed· n m) = length q < limit * mtu
+Short mtu limit q k (take· buffer) = length q < limit * mtu

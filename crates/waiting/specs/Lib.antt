@@ -1,3 +1,5 @@
+pub mod Calls
+pub mod Answers
 pub mod Queued
 pub mod Ring
 pub mod Lists
@@ -17,7 +19,7 @@ pub mod Example
 pub mod Resends
 pub mod Facts
 pub mod Effects
-pub mod Calls
+pub mod Runs
 pub mod Never
 pub mod Replies
 pub mod Asked

@@ -28,8 +28,7 @@ use Rattle.sealing.specs.declared.SealAnswer.{SealAnswer}
 use Rattle.taking.specs.declared.TakeAnswer.{TakeAnswer}
 use Rattle.sealing.specs.Sealing as seals
 use Rattle.sealing.specs.Sealing.{sealAnswer, sealedState}
-use Rattle.taking.specs.Take as takes
-use Rattle.taking.specs.Take.{takeAnswer, takeState}
+use Rattle.taking.specs.Take.{takeState}
 use Rattle.process_ack.specs.declared.Acked.{Acked}
 use Rattle.process_ack.specs.Ack.{pairsIn, marksAfter, emptied, acked, marks-saved}
 use Rattle.acks.specs.declared.Notes.{Notes}
@@ -42,25 +41,13 @@ use Rattle.resend.specs.Tests as resends
 use Rattle.resend.specs.Tests.{closedState, fitAnswer, resendAnswer}
 use Rattle.resend.specs.Resend.{renewed, renewedIf, Laying, againAt, sentAgain, againAfter, resendState}
 use Rattle.resent.specs.Steps as again
+use Rattle.waiting.specs.Calls.{Stores, SendCall, keySend·, send·, save·, message·, beginFlight·, resend·, note·, sendAck·, ack·, fill·, sealed·, take·, stored, fresh}
+use Rattle.waiting.specs.Answers.{noteReply, takeReply, answered}
 use Rattle.waiting.specs.Queued.{Queued, Holds}
 use Rattle.waiting.specs.Seals.{ready-always, seal-told}
 use Rattle.waiting.specs.Takes.{takeTold, take-told}
 use Rattle.waiting.specs.Keying.{keying-told}
-use Rattle.waiting.specs.Calls.{End, Call, key, send, save, message, begin, put, reply, take, resend, act, ack, does, Narrow, AllNarrow, run, meant, fresh, always-holds}
-
--- the number that a call answers; 0 where it is done, and where the host writes
-abbrev pub numberOf : End → Call → ℕ
-numberOf w (key e iv) = keys.refusal (keyingState (w .state) e iv .answer)
-numberOf w (send e t x) = sends.refusal (sendAnswer (w .state) (length (w .queue)) e t (length x))
-numberOf w (save e t x) = sends.refusal (saveAnswer (w .state) (w .flight) (length (w .queue)) (length (w .kept)) e t (length x))
-numberOf w (message kind body) = sends.refusal (messageAnswer (w .state) (w .flight) (length (w .queue)) (length (w .kept)) kind (length body))
-numberOf w begin = sends.refusal (begun (w .flight) .answer)
-numberOf w (put v) = 0
-numberOf w (reply n m) = seals.refusal (sealAnswer (w .state) (length (w .queue)) n)
-numberOf w (take have) = takes.refusal (takeAnswer (w .state) (length (w .queue)) have)
-numberOf w resend = resends.refusal (resendAnswer (w .state) (w .flight) (length (w .queue)) (length (w .kept)))
-numberOf w (act d) = sends.refusal (acked (w .flight) d .answer)
-numberOf w (ack n) = sends.refusal (sentAck (w .state) n (length (w .queue)) .answer)
+use Rattle.waiting.specs.Runs.{AllNarrow, run, meant, always-holds}
 
 -- ---- the flight
 
@@ -170,28 +157,53 @@ ack-mtu s n room =
     (λ z. by-test (λ (u : Sending). u .queue .mtu ≡ s .queue .mtu) (λ y. refl) (λ y. refl)))
     (λ d. refl)
 
--- every call does
-abbrev pub Stores : End → Type 0
-Stores w = Saves (w .flight) (w .state .queue .mtu) (length (w .kept))
+-- notes are at most 32: fresh, behind noting, and behind sending the ACK
+pub fresh-notes-few : freshNotes .count ≤ 32
+unfolding freshNotes
+fresh-notes-few = omega arith
+
+pub noted-few : (n : Notes) (e k : ℕ) → n .count ≤ 32 → noted n e k .notes .count ≤ 32
+unfolding noted
+noted-few n e k h =
+    by-test (λ (r : Noting). r .notes .count ≤ 32) (λ l. h)
+    (λ l. by-test (λ (r : Noting). r .notes .count ≤ 32) (λ m. omega (arith, ltb-true (n .count) 32 m)) (λ m. h))
+
+pub sent-notes-few : (s : Sending) (n : Notes) (room : ℕ) → n .count ≤ 32 → sentAck s n room .notes .count ≤ 32
+unfolding sentAck ackSent forgotten
+sent-notes-few s n room h =
+    by-test (λ (r : AckSent). r .notes .count ≤ 32)
+    (λ d. by-test (λ (r : AckSent). r .notes .count ≤ 32) (λ z. h) (λ z. by-test (λ (m : Notes). m .count ≤ 32) (λ y. omega arith) (λ y. h))) (λ d. h)
+
+-- every call keeps both
+abbrev pub Small : Stores → Type 0
+Small w = Saves (w .flight) (w .state .queue .mtu) (length (w .kept)) × (w .notes .count ≤ 32)
 
 same-mtu : {f : Flight} {a b room : ℕ} → a ≡ b → Saves f b room → Saves f a room
 same-mtu {f} {a} {b} {room} e s = subst (λ (k : ℕ). Saves f k room) (sym e) s
 
-call-keeps : (w : End) (c : Call) → Stores w → Stores (does w c)
+call-keeps : (w : Stores) (c : SendCall) → Small w → Small (stored w c)
 unfolding keyingState sendState laidState laid sealedState takeState begun
-call-keeps w (key e iv) h = same-mtu (by-test (λ (u : Sending). u .queue .mtu ≡ w .state .queue .mtu) (λ d. refl) (λ d. refl)) h
-call-keeps w (send e t x) h = same-mtu (by-test (λ (u : Sending). u .queue .mtu ≡ w .state .queue .mtu) (λ d. refl) (λ d. refl)) h
-call-keeps w (save e t x) h = save-keeps (w .state) (w .flight) (w .queue) (w .kept) e t x h
-call-keeps w (message kind body) h =
-    message-keeps (messageAnswer (w .state) (w .flight) (length (w .queue)) (length (w .kept)) kind (length body)) (w .state) (w .flight) (w .queue) (w .kept) kind body h
-call-keeps w begin h =
-    by-test (λ (b : Begun). Saves (b .flight) (w .state .queue .mtu) (length (w .kept))) (λ d. record { few = omega arith; space = h .space }) (λ d. h)
-call-keeps w (put v) h = h
-call-keeps w (reply n m) h = same-mtu (by-test (λ (u : Sending). u .queue .mtu ≡ w .state .queue .mtu) (λ d. refl) (λ d. refl)) h
-call-keeps w (take have) h = same-mtu (by-test (λ (u : Sending). u .queue .mtu ≡ w .state .queue .mtu) (λ d. refl) (λ d. refl)) h
-call-keeps w resend h = resend-keeps (resendAnswer (w .state) (w .flight) (length (w .queue)) (length (w .kept))) (w .state) (w .flight) (w .queue) (w .kept) h
-call-keeps w (act d) h = record { few = omega (arith, act-few (w .flight) d, h .few); space = h .space }
-call-keeps w (ack n) h = same-mtu (ack-mtu (w .state) n (length (w .queue))) h
+call-keeps w (keySend· e iv) h = (same-mtu (by-test (λ (u : Sending). u .queue .mtu ≡ w .state .queue .mtu) (λ d. refl) (λ d. refl)) (h .0), h .1)
+call-keeps w (send· e t x) h = (same-mtu (by-test (λ (u : Sending). u .queue .mtu ≡ w .state .queue .mtu) (λ d. refl) (λ d. refl)) (h .0), h .1)
+call-keeps w (save· e t x) h = (save-keeps (w .state) (w .flight) (w .queue) (w .kept) e t x (h .0), h .1)
+call-keeps w (message· kind body) h = (
+  message-keeps (messageAnswer (w .state) (w .flight) (length (w .queue)) (length (w .kept)) kind (length body)) (w .state) (w .flight) (w .queue) (w .kept) kind body (h .0),
+  h .1,
+)
+call-keeps w beginFlight· h = (
+  by-test (λ (b : Begun). Saves (b .flight) (w .state .queue .mtu) (length (w .kept))) (λ d. record { few = omega arith; space = h .0 .space }) (λ d. h .0),
+  h .1,
+)
+call-keeps w resend· h = (
+  resend-keeps (resendAnswer (w .state) (w .flight) (length (w .queue)) (length (w .kept))) (w .state) (w .flight) (w .queue) (w .kept) (h .0),
+  h .1,
+)
+call-keeps w (note· e n) h = (h .0, noted-few (w .notes) e n (h .1))
+call-keeps w sendAck· h = (same-mtu (ack-mtu (w .state) (w .notes) (length (w .queue))) (h .0), sent-notes-few (w .state) (w .notes) (length (w .queue)) (h .1))
+call-keeps w (ack· d) h = (record { few = omega (arith, act-few (w .flight) d, h .0 .few); space = h .0 .space }, h .1)
+call-keeps w (fill· v) h = h
+call-keeps w (sealed· n m) h = (same-mtu (by-test (λ (u : Sending). u .queue .mtu ≡ w .state .queue .mtu) (λ d. refl) (λ d. refl)) (h .0), h .1)
+call-keeps w (take· buffer) h = (same-mtu (by-test (λ (u : Sending). u .queue .mtu ≡ w .state .queue .mtu) (λ d. refl) (λ d. refl)) (h .0), h .1)
 
 -- ---- no call is refused by 12
 
@@ -238,10 +250,10 @@ reply-not s mem ds h n =
     let P : SealAnswer → Type 0 = λ a. seals.refusal a ≡ 12 → ⊥ in
     subst P (sym (seal-told s mem ds h n)) (by-test P (λ a. by-test P (λ b z. omega arith) (λ b z. omega arith)) (λ a z. omega arith))
 
-told-not : (ds : List (List Queued)) (have : ℕ) → takes.refusal (takeTold ds have) ≡ 12 → ⊥
+told-not : (ds : List (List Queued)) (have : ℕ) → takeReply (takeTold ds have) .number ≡ 12 → ⊥
 told-not [] have = λ z. omega arith
 told-not (d ∷ ds) have =
-    let P : TakeAnswer → Type 0 = λ a. takes.refusal a ≡ 12 → ⊥ in
+    let P : TakeAnswer → Type 0 = λ a. takeReply a .number ≡ 12 → ⊥ in
     by-test P (λ a z. omega arith) (λ a. by-test P (λ b z. omega arith) (λ b z. omega arith))
 
 fit-not : (s : Sending) (f : Flight) → resends.refusal (fitAnswer s f) ≡ 12 → ⊥
@@ -272,48 +284,39 @@ ack-not s n room r h =
     let none : sends.refusal (ackAnswer s n room) ≡ 12 → ⊥ = subst (λ (a : SendAnswer). sends.refusal a ≡ 12 → ⊥) (sym done) (λ z. omega arith) in
     by-test P (λ d. by-test P (λ z. none) (λ z. send-not s room (ackEpoch (s .keys)) 26 (ackLen n) r)) (λ d. none)
 
--- notes are at most 32: fresh, behind noting, and behind sending the ACK
-pub fresh-notes-few : freshNotes .count ≤ 32
-unfolding freshNotes
-fresh-notes-few = omega arith
-
-pub noted-few : (n : Notes) (e k : ℕ) → n .count ≤ 32 → noted n e k .notes .count ≤ 32
+note-not : (n : Notes) (e k : ℕ) → n .count ≤ 32 → noteReply (noted n e k .answer) .number ≡ 12 → ⊥
 unfolding noted
-noted-few n e k h =
-    by-test (λ (r : Noting). r .notes .count ≤ 32) (λ l. h)
-    (λ l. by-test (λ (r : Noting). r .notes .count ≤ 32) (λ m. omega (arith, ltb-true (n .count) 32 m)) (λ m. h))
+note-not n e k h =
+    let P : Noting → Type 0 = λ r. noteReply (r .answer) .number ≡ 12 → ⊥ in
+    subst P (sym (if-false _ _ (le-ltb 32 (n .count) h))) (by-test P (λ l z. omega arith) (λ l z. omega arith))
 
-pub sent-notes-few : (s : Sending) (n : Notes) (room : ℕ) → n .count ≤ 32 → sentAck s n room .notes .count ≤ 32
-unfolding sentAck ackSent forgotten
-sent-notes-few s n room h =
-    by-test (λ (r : AckSent). r .notes .count ≤ 32)
-    (λ d. by-test (λ (r : AckSent). r .notes .count ≤ 32) (λ z. h) (λ z. by-test (λ (m : Notes). m .count ≤ 32) (λ y. omega arith) (λ y. h))) (λ d. h)
-
-pub call-not : (w : End) (c : Call) (ds : List (List Queued)) → Narrow c → Holds (w .state) (w .queue) ds → Stores w → numberOf w c ≡ 12 → ⊥
-call-not w (key e iv) ds l h s z = key-not (w .state) (w .queue) ds h e iv z
-call-not w (send e t x) ds l h s z = send-not (w .state) (length (w .queue)) e t (length x) (ready-always (w .state) (w .queue) ds h) z
-call-not w (save e t x) ds l h s z =
-    save-not (w .state) (w .flight) (length (w .queue)) (length (w .kept)) e t (length x) (ready-always (w .state) (w .queue) ds h) (saves-kept s) z
-call-not w (message kind body) ds l h s z =
-    message-not (w .state) (w .flight) (length (w .queue)) (length (w .kept)) kind (length body) (ready-always (w .state) (w .queue) ds h) (saves-kept s) z
-call-not w begin ds l h s z = begin-not (w .flight) (s .few) z
-call-not w (put v) ds l h s z = omega arith
-call-not w (reply n m) ds l h s z = reply-not (w .state) (w .queue) ds h n z
-call-not w (take have) ds l h s z = told-not ds have (subst (λ (a : TakeAnswer). takes.refusal a ≡ 12) (take-told (w .state) (w .queue) ds h have) z)
-call-not w resend ds l h s z = resend-not (w .state) (w .flight) (length (w .queue)) (length (w .kept)) (ready-always (w .state) (w .queue) ds h) (saves-kept s) z
-call-not w (act d) ds l h s z = act-not (w .flight) d (s .few) z
-call-not w (ack n) ds l h s z = ack-not (w .state) n (length (w .queue)) (ready-always (w .state) (w .queue) ds h) l z
+pub call-not : (w : Stores) (c : SendCall) (ds : List (List Queued)) → Holds (w .state) (w .queue) ds → Small w → answered w c .number ≡ 12 → ⊥
+call-not w (keySend· e iv) ds h s z = key-not (w .state) (w .queue) ds h e iv z
+call-not w (send· e t x) ds h s z = send-not (w .state) (length (w .queue)) e t (length x) (ready-always (w .state) (w .queue) ds h) z
+call-not w (save· e t x) ds h s z =
+    save-not (w .state) (w .flight) (length (w .queue)) (length (w .kept)) e t (length x) (ready-always (w .state) (w .queue) ds h) (saves-kept (s .0)) z
+call-not w (message· kind body) ds h s z =
+    message-not (w .state) (w .flight) (length (w .queue)) (length (w .kept)) kind (length body) (ready-always (w .state) (w .queue) ds h) (saves-kept (s .0)) z
+call-not w beginFlight· ds h s z = begin-not (w .flight) (s .0 .few) z
+call-not w resend· ds h s z = resend-not (w .state) (w .flight) (length (w .queue)) (length (w .kept)) (ready-always (w .state) (w .queue) ds h) (saves-kept (s .0)) z
+call-not w (note· e n) ds h s z = note-not (w .notes) e n (s .1) z
+call-not w sendAck· ds h s z = ack-not (w .state) (w .notes) (length (w .queue)) (ready-always (w .state) (w .queue) ds h) (s .1) z
+call-not w (ack· d) ds h s z = act-not (w .flight) d (s .0 .few) z
+call-not w (fill· v) ds h s z = omega arith
+call-not w (sealed· n m) ds h s z = reply-not (w .state) (w .queue) ds h n z
+call-not w (take· buffer) ds h s z =
+    told-not ds (length buffer) (subst (λ (a : TakeAnswer). takeReply a .number ≡ 12) (take-told (w .state) (w .queue) ds h (length buffer)) z)
 
 -- ---- any list of calls
 
-run-stores : (w : End) (cs : List Call) → Stores w → Stores (run w cs)
-run-stores w [] s = s
-run-stores w (c ∷ cs) s = run-stores (does w c) cs (call-keeps w c s)
+run-small : (w : Stores) (cs : List SendCall) → Small w → Small (run w cs)
+run-small w [] s = s
+run-small w (c ∷ cs) s = run-small (stored w c) cs (call-keeps w c s)
 
 -- a call behind any list of calls on a fresh state is never refused by 12
-pub never-twelve : (mtu limit : ℕ) (queue kept : List ℕ) → isSetting mtu limit ≡ true → limit * mtu ≤ length queue → 12 * mtu ≤ length kept → (cs : List Call) → AllNarrow cs → (c : Call) → Narrow c
-    → numberOf (run (fresh mtu limit queue kept) cs) c ≡ 12 → ⊥
+pub never-twelve : (mtu limit : ℕ) (queue kept : List ℕ) → isSetting mtu limit ≡ true → limit * mtu ≤ length queue → 12 * mtu ≤ length kept → (cs : List SendCall) → AllNarrow cs → (c : SendCall)
+    → answered (run (fresh mtu limit queue kept) cs) c .number ≡ 12 → ⊥
 unfolding freshFlight freshSending
-never-twelve mtu limit queue kept s l k cs n c i =
-    call-not (run (fresh mtu limit queue kept) cs) c (meant (fresh mtu limit queue kept) cs []) i (always-holds mtu limit queue kept s l cs n)
-    (run-stores (fresh mtu limit queue kept) cs (record { few = omega arith; space = k }))
+never-twelve mtu limit queue kept s l k cs n c =
+    call-not (run (fresh mtu limit queue kept) cs) c (meant (fresh mtu limit queue kept) cs []) (always-holds mtu limit queue kept s l cs n)
+    (run-small (fresh mtu limit queue kept) cs (record { few = omega arith; space = k }, fresh-notes-few))

@@ -1,12 +1,13 @@
 -- The state names the first record that waits: its epoch, number, length and place; and the question shows it. Assumes nothing.
-use mathlib.Core.Bool.{true, false, false≢true}
+use mathlib.Core.Bool.{Bool, true, false, false≢true}
 use mathlib.Core.List.{List, [], _∷_, _++_}
 use mathlib.Core.Path.{_≡_, refl, sym, ap, subst, _∙_}
 use Prim.Native.Nat.{ℕ, _+_, _-_, _*_}
 use native.Mathlib.Omega.{arith}
+use lib.Dec.{eqb}
 use lib.ListN.{length, length-append}
-use Rattle.base.specs.Choose.{test-cases, if-true, if-false, both-true}
-use Rattle.base.specs.Parts.{part}
+use Rattle.base.specs.Choose.{choose, test-cases, if-true, if-false, both-true, both-false}
+use Rattle.base.specs.Parts.{part, splice}
 use Rattle.record.specs.Record.{unifiedHeader}
 use Rattle.dtls_aead.specs.Nonce.{nonceOf}
 use Rattle.queue.specs.declared.Queue.{Queue}
@@ -16,13 +17,15 @@ use Rattle.send_keys.specs.Keys.{ivOf}
 use Rattle.outgoing.specs.declared.Waiting.{Waiting}
 use Rattle.outgoing.specs.declared.Sending.{Sending}
 use Rattle.outgoing.specs.State.{noWaiting}
+use Rattle.sealing.specs.declared.Question.{Question}
 use Rattle.sealing.specs.declared.SealQuestion.the-variants as ask
-use Rattle.sealing.specs.Sealing.{isAsked, partStart, nothingAsked, questionOf, partOf}
+use Rattle.sealing.specs.Sealing.{isAsked, isPut, partStart, nothingAsked, questionOf, partOf, putMemory}
+use Rattle.waiting.specs.Calls.{writtenIn}
 use Rattle.waiting.specs.Queued.{Queued, plain, waits, sealed, bytesOf, flat, waitingOf, waitsIn, Stands, Lies, Rows, oldestIn, oldestOf, Holds}
 use Rattle.waiting.specs.Ring.{part-left, part-right}
 use Rattle.waiting.specs.Lists.{none-in}
 use Rattle.waiting.specs.First.{sealWith, putWith, firstIn}
-use Rattle.waiting.specs.Seals.{held-again, ready-always, question-told}
+use Rattle.waiting.specs.Seals.{any-same, held-again, ready-always, question-told, afterPut, put-holds}
 
 -- ---- those that wait
 
@@ -58,6 +61,14 @@ first-of (waits e t n x p ∷ rs) h = record { epoch = e; kind = t; number = n; 
 first-of (sealed e t n x m p ∷ rs) h =
     let f = first-of rs h in
     record { epoch = f .epoch; kind = f .kind; number = f .number; content = f .content; part = f .part; others = f .others; is = f .is }
+
+-- a list of those that wait begins with one that waits
+pub waiting-cases : {C : Type 0} (rs : List Queued) (ws : List Queued) → waitingOf rs ≡ ws → (ws ≡ [] → C)
+    → ((e t n : ℕ) (x p : List ℕ) (us : List Queued) → waitingOf rs ≡ waits e t n x p ∷ us → ws ≡ waits e t n x p ∷ us → C) → C
+waiting-cases rs ws q f g =
+    test-cases (waitsIn rs)
+    (λ t. let h = first-of rs t in g (h .epoch) (h .kind) (h .number) (h .content) (h .part) (h .others) (h .is) (sym q ∙ h .is))
+    (λ t. f (sym q ∙ none-waiting rs t))
 
 -- sealed, it is none of them any more; the others are the same, in the same order
 pub waiting-sealed : (m : List ℕ) (rs : List Queued) (r : Queued) (us : List Queued) → waitingOf rs ≡ r ∷ us → waitingOf (firstIn (sealWith m) rs) ≡ us
@@ -157,3 +168,29 @@ module _ (s : Sending) (mem : List ℕ) (ds : List (List Queued)) (h : Holds s m
             ∙ ap (λ (k : ℕ). part (base + 5) k mem) size ∙ part-right base 5 (length p) mem u p five whole,
         ap (λ (k : ℕ). part k 5 mem) place ∙ part-left base 5 (length p) mem u p five whole,
       )
+
+  -- when the host's writing is taken
+  pub not-put : waitingOf (flat ds) ≡ [] → (v : List ℕ) → isPut s (length v) (length mem) ≡ false
+  unfolding isPut isAsked
+  not-put z v =
+      let none-waits : s .waiting .any ≡ false = any-same s mem ds h ∙ test-cases (waitsIn (flat ds)) (λ y. let f = first-of (flat ds) y in let g = f .is in absurd (let w : _≡_ {A = ℕ} 0 1 = cc in omega arith)) (λ y. y) in
+      both-false _ (both-true (ready-always s mem ds h) ∙ both-true (held-again s mem ds h) ∙ none-waits)
+
+  pub put-test : (e t n : ℕ) (x p : List ℕ) (us : List Queued) → waitingOf (flat ds) ≡ waits e t n x p ∷ us → (v : List ℕ) → isPut s (length v) (length mem) ≡ eqb (length v) (length x + 17)
+  unfolding isPut isAsked
+  put-test e t n x p us y v =
+      let f = names-first e t n x p us y in
+      both-true (both-true (ready-always s mem ds h) ∙ both-true (held-again s mem ds h) ∙ f .any) ∙ ap (eqb (length v)) (f .size)
+
+  -- what the host writes where the question shows it is written into the oldest's part
+  written-is : (v : List ℕ) → writtenIn (questionOf s .question) v mem ≡ putMemory s v mem
+  unfolding putMemory
+  written-is v =
+      waiting-cases (flat ds) (waitingOf (flat ds)) refl
+      (λ z. ap (λ (r : Question). writtenIn (r .question) v mem) (question-none z) ∙ sym (if-false _ _ (not-put z v)))
+      (λ e t n x p us y z.
+      ap (λ (r : Question). writtenIn (r .question) v mem) (question-shows e t n x p us y)
+      ∙ ap (λ (b : Bool). choose b (splice (partStart s) v mem) mem) (sym (put-test e t n x p us y v)))
+
+  pub fill-holds : (v : List ℕ) → Holds s (writtenIn (questionOf s .question) v mem) (afterPut (isPut s (length v) (length mem)) v ds)
+  fill-holds v = subst (λ (q : List ℕ). Holds s q (afterPut (isPut s (length v) (length mem)) v ds)) (sym (written-is v)) (put-holds s mem ds h v)

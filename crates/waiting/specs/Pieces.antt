@@ -142,3 +142,7 @@ behind-all (suc k) kind body at l ds =
     let one : Behind (flat ds) (flat us) = behind-send (saveAnswer (l .saved .state) (l .saved .flight) (length (l .queue)) (length (l .kept)) (epochOf kind) 22 (12 + n)) (l .saved .state) (epochOf kind) 22 (pieceContent kind body at n (l .saved .state)) ds in
     by-test (λ (vs : List (List Queued)). Behind (flat ds) (flat vs)) (λ z. one)
     (λ z. behind-twice (flat ds) (flat us) (flat (allSent k kind body (at + n) (sent kind body at l ds) us)) one (behind-all k kind body (at + n) (sent kind body at l ds) us))
+
+pub behind-message : (a : SendAnswer) (s : Sending) (f : Flight) (q m : List ℕ) (kind : ℕ) (body : List ℕ) (ds : List (List Queued)) → Behind (flat ds) (flat (afterMessage a s f q m kind body ds))
+behind-message a s f q m kind body ds =
+    by-test (λ (us : List (List Queued)). Behind (flat ds) (flat us)) (λ d. behind-all 13 kind body 0 (beginning s f q m) ds) (λ d. behind-same (flat ds))

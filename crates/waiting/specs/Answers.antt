@@ -17,8 +17,7 @@ use Rattle.acks.specs.declared.NoteAnswer.{NoteAnswer}
 use Rattle.acks.specs.declared.NoteAnswer.the-variants as note
 use Rattle.acks.specs.Acks.{noted, sentAck}
 use Rattle.resend.specs.Tests.{refusal as resendRefusal, resendAnswer}
-use Rattle.ends.specs.Calls.{Stores, SendCall, keySend·, send·, save·, message·, beginFlight·, resend·, note·, sendAck·, ack·, fill·, sealed·, take·}
-use Rattle.ends.specs.Ledger.{Reply, only}
+use Rattle.waiting.specs.Calls.{Stores, SendCall, keySend·, send·, save·, message·, beginFlight·, resend·, note·, sendAck·, ack·, fill·, sealed·, take·, Reply, only}
 
 abbrev pub noteReply : NoteAnswer → Reply
 noteReply note.Noted = record { number = 0; told = 1 }
