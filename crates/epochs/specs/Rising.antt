@@ -139,7 +139,7 @@ marks-rising k l b o long count c r =
     (λ w. subst Rising (sym (w .keys)) (same-rising k (marked k (w .place) (w .number)) refl refl (marked-epoch k (w .place) (w .number) long count (found-keyed (k .entries) (w .ask .epoch) (k .count) (w .place) (w .found))) r)) c
 
 -- every call keeps the order
-pub after-rising : (c : Call) (s : Receiving) → Made s → Rising (s .keys) → Rising (after c s .keys)
+pub after-rising : (c : Call) (s : Receiving) → Made s → Rising (s .keys) → Rising (after c s .state .keys)
 after-rising (keying e iv) s m r = key-rising s e iv m r
 after-rising (removing e) s m r = remove-rising s e m r
 after-rising encrypting s m r = encrypt-rising s r
@@ -152,7 +152,7 @@ after-rising (opening o d) s m r =
 
 pub run-rising : (cs : List Call) (s : Receiving) → Made s → Rising (s .keys) → Rising (run cs s .keys)
 run-rising [] s m r = r
-run-rising (c ∷ cs) s m r = run-rising cs (after c s) (after-made c s m) (after-rising c s m r)
+run-rising (c ∷ cs) s m r = run-rising cs (after c s .state) (after-made c s m) (after-rising c s m r)
 
 begun-rising : (min : ℕ) → Rising (freshOf min .state .keys)
 unfolding freshOf
@@ -234,7 +234,7 @@ marks-not-below k l b o c =
     ⊎-elim (λ e. rw e (omega arith)) (λ w. subst (λ (x : RecvKeys). k .highest ≤ x .highest) (sym (w .keys)) (omega arith)) c
 
 -- the last keyed never falls
-pub after-not-below : (c : Call) (s : Receiving) → s .keys .highest ≤ after c s .keys .highest
+pub after-not-below : (c : Call) (s : Receiving) → s .keys .highest ≤ after c s .state .keys .highest
 after-not-below (keying e iv) s = key-not-below s e iv
 after-not-below (removing e) s = remove-not-below s e
 after-not-below encrypting s = encrypt-not-below s
@@ -246,7 +246,7 @@ after-not-below (opening o d) s = marks-not-below (s .keys) _ (s .datagram) o (o
 
 pub run-not-below : (cs : List Call) (s : Receiving) → s .keys .highest ≤ run cs s .keys .highest
 run-not-below [] s = omega arith
-run-not-below (c ∷ cs) s = omega (arith, after-not-below c s, run-not-below cs (after c s))
+run-not-below (c ∷ cs) s = omega (arith, after-not-below c s, run-not-below cs (after c s .state))
 
 -- an epoch not above the last keyed is refused
 pub not-above : (s : Receiving) (epoch : ℕ) (iv : List ℕ) → epoch ≤ s .keys .highest → answerNumber (keyOf s epoch iv .answer) ≡ 0 → ⊥

@@ -1,11 +1,16 @@
--- The calls of the receive side as one type: what each makes of the state, and 01's number of what it answers.
+-- The calls of the receive side as one type: what each makes of the state and answers.
 use Prim.Native.Nat.{ℕ}
 use mathlib.Core.Bool.{Bool, true, false}
 use mathlib.Core.List.{List, [], _∷_}
 use Rattle.datagram.specs.Datagram.{readingNumber}
+use Rattle.datagram.specs.Keeps.{refused}
 use Rattle.opening_reply.specs.declared.Opening.the-variants as reply
 use Rattle.opening_reply.specs.declared.Opening.{Opening}
 use Rattle.receiving.specs.Receiving.{answerNumber, keyOf, removeOf, encryptOf, releaseOf, beginOf, readOf, maskOf, openedOf}
+use Rattle.receiving.specs.declared.Answer.the-variants as answers
+use Rattle.receiving.specs.declared.Answer.{Answer}
+use Rattle.receiving.specs.declared.Kept.{Kept}
+use Rattle.receiving.specs.declared.Read.{Read}
 use Rattle.receiving.specs.declared.Receiving.{Receiving}
 
 pub data Call : Type 0 where
@@ -18,25 +23,35 @@ pub data Call : Type 0 where
   masking : List ℕ → List ℕ → Call
   opening : Opening → List ℕ → Call
 
-abbrev pub after : Call → Receiving → Receiving
-after (keying e iv) s = keyOf s e iv .state
-after (removing e) s = removeOf s e .state
-after encrypting s = encryptOf s .state
-after releasing s = releaseOf s .state
-after (beginning n) s = beginOf s n .state
-after (reading d) s = readOf s d .state
-after (masking m d) s = maskOf s m d .0 .state
-after (opening o d) s = openedOf s o d .state
+-- what a call leaves: the state, 01's number of what it answers, and whether that refuses it: 1, 12, 13, 15 and 23
+pub record Outcome : Type 0 where
+  pub state : Receiving
+  pub number : ℕ
+  pub refused : Bool
 
-abbrev pub numberOf : Call → Receiving → ℕ
-numberOf (keying e iv) s = answerNumber (keyOf s e iv .answer)
-numberOf (removing e) s = answerNumber (removeOf s e .answer)
-numberOf encrypting s = answerNumber (encryptOf s .answer)
-numberOf releasing s = answerNumber (releaseOf s .answer)
-numberOf (beginning n) s = answerNumber (beginOf s n .answer)
-numberOf (reading d) s = readingNumber (readOf s d .reading)
-numberOf (masking m d) s = readingNumber (maskOf s m d .0 .reading)
-numberOf (opening o d) s = readingNumber (openedOf s o d .reading)
+abbrev pub answerRefused : Answer → Bool
+answerRefused answers.Done = false
+answerRefused answers.Dropped = false
+answerRefused answers.Setting = true
+answerRefused answers.TooLong = true
+answerRefused answers.Unusable = true
+answerRefused answers.Full = true
+
+abbrev told : Kept → Outcome
+told k = record { state = k .state; number = answerNumber (k .answer); refused = answerRefused (k .answer) }
+
+abbrev said : Read → Outcome
+said r = record { state = r .state; number = readingNumber (r .reading); refused = refused (r .reading) }
+
+abbrev pub after : Call → Receiving → Outcome
+after (keying e iv) s = told (keyOf s e iv)
+after (removing e) s = told (removeOf s e)
+after encrypting s = told (encryptOf s)
+after releasing s = told (releaseOf s)
+after (beginning n) s = told (beginOf s n)
+after (reading d) s = said (readOf s d)
+after (masking m d) s = said (maskOf s m d .0)
+after (opening o d) s = said (openedOf s o d)
 
 -- calls that move no window: all but keying, removing, and a yes
 abbrev pub quiet : Call → Bool
@@ -53,4 +68,4 @@ quiet (opening (reply.Yes n) d) = false
 -- the state behind a list of calls, the first first
 abbrev pub run : List Call → Receiving → Receiving
 run [] s = s
-run (c ∷ cs) s = run cs (after c s)
+run (c ∷ cs) s = run cs (after c s .state)

@@ -1,7 +1,7 @@
 -- Laws of the calls of the receive side: the ranges hold from a fresh state on, refused means unchanged, which calls move windows, what
 -- removing and beginning cancel. Assumes nothing.
 use Prim.Native.Nat.{ℕ, _-_, _<_, _≤_}
-use borrow.Author.Tests.{eqb-false, eq-eqb, ltb-false, le-ltb}
+use borrow.Author.Tests.{eqb-false, ltb-false, le-ltb}
 use lib.ListN.{length, length-set}
 use mathlib.Core.Bool.{Bool, true, false, false≢true}
 use mathlib.Core.List.{List, [], _∷_}
@@ -31,11 +31,10 @@ use Rattle.recv_keys.specs.declared.Found.the-variants as found
 use Rattle.recv_keys.specs.declared.Found.{Found}
 use Rattle.recv_keys.specs.declared.RecvKeys.{RecvKeys}
 use Rattle.receiving.specs.Calls.Call.{keying, removing, encrypting, releasing, beginning, reading, masking, opening}
-use Rattle.receiving.specs.Calls.{Call, after, quiet, run}
+use Rattle.receiving.specs.Calls.{Call, answerRefused, after, quiet, run}
 use Rattle.receiving.specs.Leads.{remove-at}
-use Rattle.receiving.specs.Receiving.{sound, made, freshOf, keyOf, leaving, removedBy, removeOf, encryptOf, releaseOf, beginOf, readOf, maskOf, openedOf}
+use Rattle.receiving.specs.Receiving.{sound, made, freshOf, keyOf, leaving, removedBy, removeOf, encryptOf, releaseOf, beginOf, maskOf}
 use Rattle.receiving.specs.declared.Answer.the-variants as answers
-use Rattle.receiving.specs.declared.Answer.{Answer}
 use Rattle.receiving.specs.declared.Kept.{Kept}
 use Rattle.receiving.specs.declared.Receiving.{Receiving}
 
@@ -240,7 +239,7 @@ opened-long k l b o h c =
     (λ w. ap (λ (x : RecvKeys). length (x .entries)) (w .keys) ∙ marked-long k (w .place) (w .number) h) c
 
 -- every call keeps the ranges
-pub after-made : (c : Call) (s : Receiving) → Made s → Made (after c s)
+pub after-made : (c : Call) (s : Receiving) → Made s → Made (after c s .state)
 after-made (keying e iv) s m = key-made s e iv m
 after-made (removing e) s m = remove-made s e m
 after-made encrypting s m = encrypt-made s m
@@ -258,28 +257,9 @@ after-made (opening o d) s m =
 
 pub run-made : (cs : List Call) (s : Receiving) → Made s → Made (run cs s)
 run-made [] s m = m
-run-made (c ∷ cs) s m = run-made cs (after c s) (after-made c s m)
+run-made (c ∷ cs) s m = run-made cs (after c s .state) (after-made c s m)
 
 -- ---- refused means unchanged
-
-abbrev pub answerRefused : Answer → Bool
-answerRefused answers.Done = false
-answerRefused answers.Dropped = false
-answerRefused answers.Setting = true
-answerRefused answers.TooLong = true
-answerRefused answers.Unusable = true
-answerRefused answers.Full = true
-
--- 1, 12, 13, 15 and 23
-abbrev pub refusedBy : Call → Receiving → Bool
-refusedBy (keying e iv) s = answerRefused (keyOf s e iv .answer)
-refusedBy (removing e) s = answerRefused (removeOf s e .answer)
-refusedBy encrypting s = answerRefused (encryptOf s .answer)
-refusedBy releasing s = answerRefused (releaseOf s .answer)
-refusedBy (beginning n) s = answerRefused (beginOf s n .answer)
-refusedBy (reading d) s = refused (readOf s d .reading)
-refusedBy (masking m d) s = refused (maskOf s m d .0 .reading)
-refusedBy (opening o d) s = refused (openedOf s o d .reading)
 
 abbrev Keeps : Receiving → Kept → Type 0
 Keeps s k = answerRefused (k .answer) ≡ true → k .state ≡ s
@@ -316,7 +296,7 @@ begin-stays s n = by-test (Keeps s) (λ t. by-test (Keeps s) (λ u e. refl) (λ 
 abbrev around : RecvKeys → Datagram → Receiving
 around k b = record { keys = k; datagram = b }
 
-pub refused-stays : (c : Call) (s : Receiving) → refusedBy c s ≡ true → after c s ≡ s
+pub refused-stays : (c : Call) (s : Receiving) → after c s .refused ≡ true → after c s .state ≡ s
 refused-stays (keying epoch iv) s e = key-stays s epoch iv e
 refused-stays (removing epoch) s e = remove-stays s epoch e
 refused-stays encrypting s e = encrypt-stays s e
@@ -353,7 +333,7 @@ unfolding beginOf
 begin-quiet s n = by-test (Quiet s) (λ t. by-test (Quiet s) (λ u. (refl, refl)) (λ u. (refl, refl))) (λ t. (refl, refl))
 
 -- only keying, removing and a yes move windows
-pub quiet-windows : (c : Call) (s : Receiving) → quiet c ≡ true → SameWindows s (after c s)
+pub quiet-windows : (c : Call) (s : Receiving) → quiet c ≡ true → SameWindows s (after c s .state)
 quiet-windows (keying epoch iv) s e = absurd (false≢true e)
 quiet-windows (removing epoch) s e = absurd (false≢true e)
 quiet-windows encrypting s e = encrypt-quiet s

@@ -35,7 +35,7 @@ use Rattle.recv_keys.specs.declared.Found.the-variants as found
 use Rattle.recv_keys.specs.declared.Found.{Found}
 use Rattle.recv_keys.specs.declared.RecvKeys.{RecvKeys}
 use Rattle.receiving.specs.Calls.Call.{keying, removing, encrypting, releasing, beginning, reading, masking, opening}
-use Rattle.receiving.specs.Calls.{Call, numberOf, run}
+use Rattle.receiving.specs.Calls.{Call, after, run}
 use Rattle.receiving.specs.Laws.{Made, fresh-made, run-made, made-sound}
 use Rattle.receiving.specs.Receiving.{answerNumber, sound, freshOf, keyOf, leaving, removedBy, removeOf, encryptOf, releaseOf, beginOf}
 use Rattle.receiving.specs.declared.Kept.{Kept}
@@ -182,7 +182,7 @@ module _ (s : Receiving) (m : Made s) where
   begin-not n = by-test NotKept (λ t. by-test NotKept (λ u e. omega arith) (λ u e. omega arith)) (λ t. in-range s m t)
 
   -- no call on a state that calls made is 12
-  pub not-twelve : (c : Call) → numberOf c s ≡ 12 → ⊥
+  pub not-twelve : (c : Call) → after c s .number ≡ 12 → ⊥
   not-twelve (keying epoch iv) = key-not epoch iv
   not-twelve (removing epoch) = remove-not epoch
   not-twelve encrypting = encrypt-not
@@ -193,5 +193,5 @@ module _ (s : Receiving) (m : Made s) where
   not-twelve (opening o d) = reply-not s m o d
 
 -- from a fresh state with a setting in range, no call of any list is 12
-pub never-twelve : (min : ℕ) (cs : List Call) (c : Call) → min ≤ 17 → numberOf c (run cs (freshOf min .state)) ≡ 12 → ⊥
+pub never-twelve : (min : ℕ) (cs : List Call) (c : Call) → min ≤ 17 → after c (run cs (freshOf min .state)) .number ≡ 12 → ⊥
 never-twelve min cs c h = not-twelve (run cs (freshOf min .state)) (run-made cs (freshOf min .state) (fresh-made min h)) c
