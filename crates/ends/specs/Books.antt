@@ -9,9 +9,7 @@ use Rattle.send_keys.specs.Keys.{nextOf}
 use Rattle.outgoing.specs.declared.SendAnswer.{SendAnswer}
 use Rattle.outgoing.specs.declared.Sending.{Sending}
 use Rattle.outgoing.specs.Send.{sendAnswer}
-use Rattle.outgoing.specs.State.{isDone, keyingState}
-use Rattle.sealing.specs.Sealing.{sealAnswer}
-use Rattle.taking.specs.Take.{takeAnswer, takeBuffer}
+use Rattle.outgoing.specs.State.{isDone}
 use Rattle.flight.specs.Flight.{entryAt}
 use Rattle.flight.specs.Save.{saveAnswer}
 use Rattle.messages.specs.Cut.{epochOf}
@@ -20,8 +18,8 @@ use Rattle.acks.specs.Acks.{ackEpoch, ackContent, ackLen, ackAnswer}
 use Rattle.resend.specs.declared.ResendAnswer.{ResendAnswer}
 use Rattle.resend.specs.Resend.{Laying as Again, contentAt, againAnswer, againAfter}
 use Rattle.resend.specs.Tests.{isDone as isResent, closedState, resendAnswer}
-use Rattle.waiting.specs.Calls.{Stores, SendCall, keySend·, send·, save·, message·, beginFlight·, resend·, note·, sendAck·, ack·, fill·, sealed·, take·, stored}
-use Rattle.ends.specs.Sender.{Books, Sender, enters, turns, keyedBy, sealedBy, finishedBy, takenBy}
+use Rattle.waiting.specs.Calls.{Stores, SendCall, keySend·, send·, save·, message·, beginFlight·, resend·, note·, sendAck·, ack·, fill·, sealed·, take·}
+use Rattle.ends.specs.Sender.{Books, Sender, enters, leaves}
 
 -- a record sent: under the number that was next in its epoch, with the type and content that the host gave
 abbrev pub written : Sending → ℕ → ℕ → List ℕ → Books → Books
@@ -89,28 +87,6 @@ booksBy w (fill· v) b = b
 booksBy w (sealed· n m) b = b
 booksBy w (take· buffer) b = b
 
--- the history behind a call, so: of one that neither keys nor seals nor takes, and of each
-abbrev sendsOnly : Sender → SendCall → Sender
-sendsOnly x c = turns x (stored (x .stores) c) (booksBy (x .stores) c (x .books)) (x .ivs) (x .sealed) (x .taken)
-
+-- the history behind a call, so
 abbrev pub sendsBy : Sender → SendCall → Sender
-sendsBy x (keySend· e iv) =
-    turns x (stored (x .stores) (keySend· e iv)) (x .books) (keyedBy (keyingState (x .stores .state) e iv) e iv (x .ivs)) (x .sealed) (x .taken)
-sendsBy x (send· e t c) = sendsOnly x (send· e t c)
-sendsBy x (save· e t c) = sendsOnly x (save· e t c)
-sendsBy x (message· kind body) = sendsOnly x (message· kind body)
-sendsBy x beginFlight· = sendsOnly x beginFlight·
-sendsBy x resend· = sendsOnly x resend·
-sendsBy x (note· e n) = sendsOnly x (note· e n)
-sendsBy x sendAck· = sendsOnly x sendAck·
-sendsBy x (ack· d) = sendsOnly x (ack· d)
-sendsBy x (fill· v) = sendsOnly x (fill· v)
-sendsBy x (sealed· n m) =
-    let w = x .stores in
-    let a = sealAnswer (w .state) (length (w .queue)) n in
-    let after = stored w (sealed· n m) in
-    turns x after (finishedBy a (x .lent) (w .queue) (after .queue) (x .books)) (x .ivs) (sealedBy a (x .lent) (w .queue) (after .queue) (x .sealed)) (x .taken)
-sendsBy x (take· buffer) =
-    let w = x .stores in
-    let a = takeAnswer (w .state) (length (w .queue)) (length buffer) in
-    turns x (stored w (take· buffer)) (x .books) (x .ivs) (x .sealed) (takenBy a (takeBuffer a (w .state) (w .queue) buffer) (x .taken))
+sendsBy x c = leaves x (booksBy (x .stores) c (x .books)) c

@@ -1,15 +1,11 @@
 -- Every sending call does what the account says, and its history is the program's own. Assumes nothing.
 use Prim.Native.Nat.{ℕ}
-use lib.ListN.{length}
 use mathlib.Core.List.{List}
 use mathlib.Core.Option.{Option, none, some}
-use mathlib.Core.Path.{_≡_, refl}
+use mathlib.Core.Path.{_≡_, refl, ap}
 use Rattle.base.specs.Choose.{by-test}
-use Rattle.outgoing.specs.State.{keyingState}
 use Rattle.sealing.specs.declared.SealAnswer.{SealAnswer}
-use Rattle.sealing.specs.Sealing.{sealAnswer}
-use Rattle.taking.specs.Take.{takeAnswer, takeBuffer}
-use Rattle.waiting.specs.Calls.{Stores, SendCall, keySend·, send·, save·, message·, beginFlight·, resend·, note·, sendAck·, ack·, fill·, sealed·, take·, stored}
+use Rattle.waiting.specs.Calls.{SendCall, keySend·, send·, save·, message·, beginFlight·, resend·, note·, sendAck·, ack·, fill·, sealed·, take·, stored}
 use Rattle.history.specs.Claim.{Masks}
 use Rattle.ends.specs.Books.{booksBy, sendsBy}
 use Rattle.ends.specs.Ledger.{Sent, Ledger}
@@ -17,7 +13,7 @@ use Rattle.ends.specs.Marking.{ack-does, begin-does}
 use Rattle.ends.specs.Matches.{Matches, Does}
 use Rattle.ends.specs.Posting.{message-does}
 use Rattle.ends.specs.Resending.{resend-does}
-use Rattle.ends.specs.Sender.{Books, entersAll, Lent, Sender, turns, keyedBy, sealedBy, finishedBy, takenBy, sends, FairSend}
+use Rattle.ends.specs.Sender.{Books, entersAll, Lent, Sender, finishedBy, leaves, sends, FairSend}
 use Rattle.ends.specs.Settling.{key-does, fill-does, sealed-does, take-does}
 use Rattle.ends.specs.Single.{send-does, save-does, note-does, sendAck-does}
 
@@ -38,26 +34,7 @@ every-does m x l (take· b) i h = take-does (x .stores) l i b
 -- ---- the history by the account's records is the program's
 
 pub sends-same : (x : Sender) (rs : List Sent) (c : SendCall) → booksBy (x .stores) c (x .books) ≡ entersAll rs (x .books) → sendsBy x c ≡ sends x rs c
-sends-same x rs (keySend· e iv) p =
-    λ i. turns x (stored (x .stores) (keySend· e iv)) (p i) (keyedBy (keyingState (x .stores .state) e iv) e iv (x .ivs)) (x .sealed) (x .taken)
-sends-same x rs (send· e t c) p = λ i. turns x (stored (x .stores) (send· e t c)) (p i) (x .ivs) (x .sealed) (x .taken)
-sends-same x rs (save· e t c) p = λ i. turns x (stored (x .stores) (save· e t c)) (p i) (x .ivs) (x .sealed) (x .taken)
-sends-same x rs (message· kind body) p = λ i. turns x (stored (x .stores) (message· kind body)) (p i) (x .ivs) (x .sealed) (x .taken)
-sends-same x rs beginFlight· p = λ i. turns x (stored (x .stores) beginFlight·) (p i) (x .ivs) (x .sealed) (x .taken)
-sends-same x rs resend· p = λ i. turns x (stored (x .stores) resend·) (p i) (x .ivs) (x .sealed) (x .taken)
-sends-same x rs (note· e n) p = λ i. turns x (stored (x .stores) (note· e n)) (p i) (x .ivs) (x .sealed) (x .taken)
-sends-same x rs sendAck· p = λ i. turns x (stored (x .stores) sendAck·) (p i) (x .ivs) (x .sealed) (x .taken)
-sends-same x rs (ack· d) p = λ i. turns x (stored (x .stores) (ack· d)) (p i) (x .ivs) (x .sealed) (x .taken)
-sends-same x rs (fill· v) p = λ i. turns x (stored (x .stores) (fill· v)) (p i) (x .ivs) (x .sealed) (x .taken)
-sends-same x rs (sealed· n m) p =
-    let w : Stores = x .stores in
-    let a : SealAnswer = sealAnswer (w .state) (length (w .queue)) n in
-    let behind : Stores = stored w (sealed· n m) in
-    λ i. turns x behind (finishedBy a (x .lent) (w .queue) (behind .queue) (p i)) (x .ivs) (sealedBy a (x .lent) (w .queue) (behind .queue) (x .sealed)) (x .taken)
-sends-same x rs (take· buffer) p =
-    let w : Stores = x .stores in
-    let a = takeAnswer (w .state) (length (w .queue)) (length buffer) in
-    λ i. turns x (stored w (take· buffer)) (p i) (x .ivs) (x .sealed) (takenBy a (takeBuffer a (w .state) (w .queue) buffer) (x .taken))
+sends-same x rs c p = ap (λ (b : Books). leaves x b c) p
 
 -- sealing finishes lines and sends nothing
 finished-sent : (a : SealAnswer) (o : Option Lent) (p q : List ℕ) (b : Books) → finishedBy a o p q b .sent ≡ b .sent
