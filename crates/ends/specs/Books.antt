@@ -19,7 +19,7 @@ use Rattle.resend.specs.declared.ResendAnswer.{ResendAnswer}
 use Rattle.resend.specs.Resend.{Laying as Again, contentAt, againAnswer, againAfter}
 use Rattle.resend.specs.Tests.{isDone as isResent, closedState, resendAnswer}
 use Rattle.waiting.specs.Calls.{Stores, SendCall, keySend·, send·, save·, message·, beginFlight·, resend·, note·, sendAck·, ack·, fill·, sealed·, take·}
-use Rattle.ends.specs.Sender.{Books, Sender, enters, leaves}
+use Rattle.ends.specs.Sender.{Books, Sender, enters, sendsWith}
 
 -- a record sent: under the number that was next in its epoch, with the type and content that the host gave
 abbrev pub written : Sending → ℕ → ℕ → List ℕ → Books → Books
@@ -89,4 +89,4 @@ booksBy w (take· buffer) b = b
 
 -- the history behind a call, so
 abbrev pub sendsBy : Sender → SendCall → Sender
-sendsBy x c = leaves x (booksBy (x .stores) c (x .books)) c
+sendsBy x c = sendsWith x (booksBy (x .stores) c (x .books)) c

@@ -13,7 +13,7 @@ use Rattle.ends.specs.Marking.{ack-does, begin-does}
 use Rattle.ends.specs.Matches.{Matches, Does}
 use Rattle.ends.specs.Posting.{message-does}
 use Rattle.ends.specs.Resending.{resend-does}
-use Rattle.ends.specs.Sender.{Books, entersAll, Lent, Sender, finishedBy, leaves, sends, FairSend}
+use Rattle.ends.specs.Sender.{Books, entersAll, Lent, Sender, finishedBy, sendsWith, sends, FairSend}
 use Rattle.ends.specs.Settling.{key-does, fill-does, sealed-does, take-does}
 use Rattle.ends.specs.Single.{send-does, save-does, note-does, sendAck-does}
 
@@ -34,7 +34,7 @@ every-does m x l (take· b) i h = take-does (x .stores) l i b
 -- ---- the history by the account's records is the program's
 
 pub sends-same : (x : Sender) (rs : List Sent) (c : SendCall) → booksBy (x .stores) c (x .books) ≡ entersAll rs (x .books) → sendsBy x c ≡ sends x rs c
-sends-same x rs c p = ap (λ (b : Books). leaves x b c) p
+sends-same x rs c p = ap (λ (b : Books). sendsWith x b c) p
 
 -- sealing finishes lines and sends nothing
 finished-sent : (a : SealAnswer) (o : Option Lent) (p q : List ℕ) (b : Books) → finishedBy a o p q b .sent ≡ b .sent

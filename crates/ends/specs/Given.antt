@@ -20,7 +20,7 @@ use Rattle.taking.specs.declared.TakeAnswer.{TakeAnswer}
 use Rattle.taking.specs.Laws.{kept-buffer}
 use Rattle.taking.specs.Take.{frontLen, takeAnswer, isTaken, takeBuffer, takes, front-fits}
 use Rattle.waiting.specs.Answers.{takeReply, answered}
-use Rattle.waiting.specs.Calls.{Stores, SendCall, keySend·, send·, save·, message·, beginFlight·, resend·, note·, sendAck·, ack·, fill·, sealed·, take·, stored, Short, Reply}
+use Rattle.waiting.specs.Calls.{Stores, SendCall, keySend·, send·, save·, message·, beginFlight·, resend·, note·, sendAck·, ack·, fill·, sealed·, take·, stored, Reply}
 use Rattle.waiting.specs.Effects.{Effect, stays, adds, writes, seals, takes as taken}
 use Rattle.waiting.specs.First.{putWith, flat-first}
 use Rattle.waiting.specs.Lists.{waiting-append}
@@ -34,8 +34,7 @@ use Rattle.ends.specs.Asked.{LentIs, lentFor, part-is}
 use Rattle.ends.specs.Sender.{Lent}
 use Rattle.ends.specs.Claim.{TookOnly}
 use Rattle.ends.specs.Sends.{taken-length}
-use Rattle.ends.specs.Short.{short-memory}
-use Rattle.ends.specs.World.{Took, Over, givenIn, givenBy, tookBy, overOf, oversBy}
+use Rattle.ends.specs.World.{Took, givenIn, givenBy, tookBy}
 
 -- ---- the first that waits has the host's bytes
 
@@ -195,45 +194,3 @@ took-all w (ack· d) ts old = old
 took-all w (fill· v) ts old = old
 took-all w (sealed· n m) ts old = old
 took-all w (take· b) ts old = more-took _ ts (took-only (w .state) (w .queue) b) old
-
--- ---- memory that is too short
-
-abbrev kindOf : SendCall → ℕ
-kindOf (keySend· e iv) = 1
-kindOf (send· e t x) = 1
-kindOf (save· e t x) = 1
-kindOf (message· kind body) = 1
-kindOf beginFlight· = 1
-kindOf resend· = 1
-kindOf (note· e n) = 1
-kindOf sendAck· = 1
-kindOf (ack· d) = 1
-kindOf (fill· v) = 0
-kindOf (sealed· n m) = 1
-kindOf (take· b) = 1
-
-abbrev OverKept : Over → Type 0
-OverKept o = (o .queue′ ≡ o .queue) × (o .kept′ ≡ o .kept)
-
-more-over : (w : Stores) (q k : List ℕ) (c : SendCall) (os : List Over) → Short (w .state .queue .mtu) (w .state .queue .limit) q k c → ((v : List ℕ) → c ≡ fill· v → ⊥)
-    → ((o : Over) → Mem o os → OverKept o) → (o : Over) → Mem o (overOf w q k c ∷ os) → OverKept o
-more-over w q k c os h own old o m = mem-by m (λ (p : o ≡ overOf w q k c). subst OverKept (sym p) (short-memory w q k c h own)) (λ n. old o n)
-
--- a call is none of the host's own writings
-not-fill : {c : SendCall} (n : ℕ) → kindOf c ≡ n → (n ≡ 0 → ⊥) → (v : List ℕ) → c ≡ fill· v → ⊥
-not-fill n is ne v p = ne (sym is ∙ ap kindOf p)
-
-pub over-all : (w : Stores) (q k : List ℕ) (c : SendCall) (os : List Over) → Short (w .state .queue .mtu) (w .state .queue .limit) q k c → ((o : Over) → Mem o os → OverKept o)
-    → (o : Over) → Mem o (oversBy w q k c os) → OverKept o
-over-all w q k (keySend· e iv) os h old = absurd h
-over-all w q k (send· e t x) os h old = more-over w q k (send· e t x) os h (not-fill 1 refl (λ z. omega arith)) old
-over-all w q k (save· e t x) os h old = more-over w q k (save· e t x) os h (not-fill 1 refl (λ z. omega arith)) old
-over-all w q k (message· kind body) os h old = more-over w q k (message· kind body) os h (not-fill 1 refl (λ z. omega arith)) old
-over-all w q k beginFlight· os h old = absurd h
-over-all w q k resend· os h old = more-over w q k resend· os h (not-fill 1 refl (λ z. omega arith)) old
-over-all w q k (note· e n) os h old = absurd h
-over-all w q k sendAck· os h old = more-over w q k sendAck· os h (not-fill 1 refl (λ z. omega arith)) old
-over-all w q k (ack· d) os h old = absurd h
-over-all w q k (fill· v) os h old = old
-over-all w q k (sealed· n m) os h old = more-over w q k (sealed· n m) os h (not-fill 1 refl (λ z. omega arith)) old
-over-all w q k (take· b) os h old = more-over w q k (take· b) os h (not-fill 1 refl (λ z. omega arith)) old

@@ -11,7 +11,6 @@ pub mod Replies
 pub mod Resends
 pub mod Sends
 pub mod Width
-pub mod Short
 pub mod Starting
 pub mod Matches
 pub mod Matching
@@ -26,6 +25,7 @@ pub mod Settling
 pub mod Heard
 pub mod Every
 pub mod World
+pub mod Short
 pub mod Claim
 pub mod Given
 pub mod Shown

@@ -12,7 +12,7 @@ use Rattle.waiting.specs.Calls.{Stores, SendCall, keySend·, send·, save·, me
 use Rattle.waiting.specs.Fresh.{fresh-holds}
 use Rattle.queue.specs.Queue.{isSetting}
 use Rattle.ends.specs.Starting.{ranges-setting}
-use Rattle.ends.specs.Given.{Given, given-keeps, given-lies, took-all, over-all}
+use Rattle.ends.specs.Given.{Given, given-keeps, given-lies, took-all}
 use Rattle.base.specs.Choose.{by-test}
 use Rattle.opening_reply.specs.declared.Opening.{Opening}
 use Rattle.opening_reply.specs.Opening.{shownBy}
@@ -68,7 +68,7 @@ use Rattle.ends.specs.Rules.{stop-order}
 use Rattle.ends.specs.Sender.{Books, AskedFor, Sender, sends, FairSend}
 use Rattle.ends.specs.Sends.{Sends, sends-keep, sealed-grows, new-sends, nonce-is, taken-is, turned}
 use Rattle.ends.specs.Settling.{new-matches}
-use Rattle.ends.specs.Short.{short-answered, short-stays}
+use Rattle.ends.specs.Short.{short-answered, short-stays, over-all}
 use Rattle.ends.specs.Shown.{asked-oldest, wired}
 use Rattle.ends.specs.Width.{same-width, same-limit}
 use Rattle.ends.specs.World.{Side, post, gateway, far, Count, Said, End, Deed, sending, over, receiving, Event, World, takesIn, countsBy, acts, step, run, Setting, fresh-pair, FairDeed, Honest, Took, Over, givenBy}

@@ -191,30 +191,30 @@ takenBy took.Unsealed buffer ts = ts
 takenBy (took.Short n) buffer ts = ts
 
 -- the history behind a call that leaves these books before it seals
-abbrev pub leaves : Sender → Books → SendCall → Sender
-leaves x b (keySend· e iv) = turns x (stored (x .stores) (keySend· e iv)) b (keyedBy (keyingState (x .stores .state) e iv) e iv (x .ivs)) (x .sealed) (x .taken)
-leaves x b (send· e t c) = turns x (stored (x .stores) (send· e t c)) b (x .ivs) (x .sealed) (x .taken)
-leaves x b (save· e t c) = turns x (stored (x .stores) (save· e t c)) b (x .ivs) (x .sealed) (x .taken)
-leaves x b (message· kind body) = turns x (stored (x .stores) (message· kind body)) b (x .ivs) (x .sealed) (x .taken)
-leaves x b beginFlight· = turns x (stored (x .stores) beginFlight·) b (x .ivs) (x .sealed) (x .taken)
-leaves x b resend· = turns x (stored (x .stores) resend·) b (x .ivs) (x .sealed) (x .taken)
-leaves x b (note· e n) = turns x (stored (x .stores) (note· e n)) b (x .ivs) (x .sealed) (x .taken)
-leaves x b sendAck· = turns x (stored (x .stores) sendAck·) b (x .ivs) (x .sealed) (x .taken)
-leaves x b (ack· d) = turns x (stored (x .stores) (ack· d)) b (x .ivs) (x .sealed) (x .taken)
-leaves x b (fill· v) = turns x (stored (x .stores) (fill· v)) b (x .ivs) (x .sealed) (x .taken)
-leaves x b (sealed· n m) =
+abbrev pub sendsWith : Sender → Books → SendCall → Sender
+sendsWith x b (keySend· e iv) = turns x (stored (x .stores) (keySend· e iv)) b (keyedBy (keyingState (x .stores .state) e iv) e iv (x .ivs)) (x .sealed) (x .taken)
+sendsWith x b (send· e t c) = turns x (stored (x .stores) (send· e t c)) b (x .ivs) (x .sealed) (x .taken)
+sendsWith x b (save· e t c) = turns x (stored (x .stores) (save· e t c)) b (x .ivs) (x .sealed) (x .taken)
+sendsWith x b (message· kind body) = turns x (stored (x .stores) (message· kind body)) b (x .ivs) (x .sealed) (x .taken)
+sendsWith x b beginFlight· = turns x (stored (x .stores) beginFlight·) b (x .ivs) (x .sealed) (x .taken)
+sendsWith x b resend· = turns x (stored (x .stores) resend·) b (x .ivs) (x .sealed) (x .taken)
+sendsWith x b (note· e n) = turns x (stored (x .stores) (note· e n)) b (x .ivs) (x .sealed) (x .taken)
+sendsWith x b sendAck· = turns x (stored (x .stores) sendAck·) b (x .ivs) (x .sealed) (x .taken)
+sendsWith x b (ack· d) = turns x (stored (x .stores) (ack· d)) b (x .ivs) (x .sealed) (x .taken)
+sendsWith x b (fill· v) = turns x (stored (x .stores) (fill· v)) b (x .ivs) (x .sealed) (x .taken)
+sendsWith x b (sealed· n m) =
     let w = x .stores in
     let a = sealAnswer (w .state) (length (w .queue)) n in
     let behind = stored w (sealed· n m) in
     turns x behind (finishedBy a (x .lent) (w .queue) (behind .queue) b) (x .ivs) (sealedBy a (x .lent) (w .queue) (behind .queue) (x .sealed)) (x .taken)
-leaves x b (take· buffer) =
+sendsWith x b (take· buffer) =
     let w = x .stores in
     let a = takeAnswer (w .state) (length (w .queue)) (length buffer) in
     turns x (stored w (take· buffer)) b (x .ivs) (x .sealed) (takenBy a (takeBuffer a (w .state) (w .queue) buffer) (x .taken))
 
 -- the history behind a call that sent these records
 abbrev pub sends : Sender → List Sent → SendCall → Sender
-sends x rs c = leaves x (entersAll rs (x .books)) c
+sends x rs c = sendsWith x (entersAll rs (x .books)) c
 
 -- the call is made over it; this end's own memory stays
 abbrev pub sendsOver : Sender → SendCall → List ℕ → List ℕ → Sender

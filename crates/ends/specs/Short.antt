@@ -4,9 +4,9 @@ use borrow.Author.Tests.{lt-leb}
 use lib.Dec.{leb}
 use lib.ListN.{length}
 use mathlib.Core.Bool.{Bool, false}
-use mathlib.Core.List.{List}
+use mathlib.Core.List.{List, _∷_, List·Memᴰ as Mem}
 use mathlib.Core.Logic.{_⊎_, inl, inr, ⊎-elim}
-use mathlib.Core.Path.{_≡_, refl, ap, _∙_}
+use mathlib.Core.Path.{_≡_, refl, sym, ap, subst, _∙_}
 use Rattle.base.specs.Choose.{choose, if-false, by-test, test-cases, both-true, both-false}
 use Rattle.queue.specs.declared.Queue.{Queue}
 use Rattle.queue.specs.Queue.{isSound, isReady}
@@ -36,7 +36,9 @@ use Rattle.resend.specs.Tests as resend
 use Rattle.resend.specs.Tests.{resendAnswer}
 use Rattle.waiting.specs.Answers.{ackReply, takeReply, answered}
 use Rattle.waiting.specs.Calls.{Stores, SendCall, keySend·, send·, save·, message·, beginFlight·, resend·, note·, sendAck·, ack·, fill·, sealed·, take·, stored, lending, Short, only}
+use Rattle.history.specs.Lists.{mem-by}
 use Rattle.ends.specs.Ledger.{shortReply}
+use Rattle.ends.specs.World.{Over, oversBy}
 
 unready : (q : Queue) (room : ℕ) → room < q .limit * q .mtu → isReady q room ≡ false
 unfolding isReady
@@ -132,23 +134,30 @@ short-stays w q k (fill· v) h = refl
 short-stays w q k (sealed· n m) h = ap (λ (s : Sending). with w s (w .flight) (w .notes)) (if-false _ _ (ap isSealed (seal-short (w .state) q h n)))
 short-stays w q k (take· buffer) h = ap (λ (s : Sending). with w s (w .flight) (w .notes)) (if-false _ _ (ap isTaken (take-short (w .state) q h (length buffer))))
 
--- of the memory either
-pub short-memory : (w : Stores) (q k : List ℕ) (c : SendCall) → Short (w .state .queue .mtu) (w .state .queue .limit) q k c → ((v : List ℕ) → c ≡ fill· v → ⊥)
-    → (stored (lending w q k) c .queue ≡ q) × (stored (lending w q k) c .kept ≡ k)
+-- nor of the memory
+
+abbrev OverKept : Over → Type 0
+OverKept o = (o .queue′ ≡ o .queue) × (o .kept′ ≡ o .kept)
+
+more-over : (new : Over) (os : List Over) → ((o : Over) → Mem o os → OverKept o) → OverKept new → (o : Over) → Mem o (new ∷ os) → OverKept o
+more-over new os old h o m = mem-by m (λ (p : o ≡ new). subst OverKept (sym p) h) (λ n. old o n)
+
+pub over-all : (w : Stores) (q k : List ℕ) (c : SendCall) (os : List Over) → Short (w .state .queue .mtu) (w .state .queue .limit) q k c → ((o : Over) → Mem o os → OverKept o)
+    → (o : Over) → Mem o (oversBy w q k c os) → OverKept o
 unfolding sendMemory saveQueue saveKept messageQueue messageKept resendQueue ackMemory sealedMemory
-short-memory w q k (keySend· e iv) h own = absurd h
-short-memory w q k (send· e t x) h own = (if-false _ _ (ap isDone (send-short (w .state) q h e t (length x))), refl)
-short-memory w q k (save· e t x) h own =
+over-all w q k (keySend· e iv) os h old = absurd h
+over-all w q k (send· e t x) os h old = more-over _ os old (if-false _ _ (ap isDone (send-short (w .state) q h e t (length x))), refl)
+over-all w q k (save· e t x) os h old =
     let d = ap isDone (save-short (w .state) (w .flight) q k h e t (length x)) in
-    (if-false _ _ d, if-false _ _ d)
-short-memory w q k (message· kind body) h own =
+    more-over _ os old (if-false _ _ d, if-false _ _ d)
+over-all w q k (message· kind body) os h old =
     let d = ap isDone (message-short (w .state) (w .flight) q k h kind (length body)) in
-    (if-false _ _ d, if-false _ _ d)
-short-memory w q k beginFlight· h own = absurd h
-short-memory w q k resend· h own = (if-false _ _ (ap resend.isDone (resend-short (w .state) (w .flight) q k h)), refl)
-short-memory w q k (note· e n) h own = absurd h
-short-memory w q k sendAck· h own = (if-false _ _ (ap isDone (ack-short (w .state) q h (w .notes))), refl)
-short-memory w q k (ack· d) h own = absurd h
-short-memory w q k (fill· v) h own = absurd (own v refl)
-short-memory w q k (sealed· n m) h own = (if-false _ _ (ap isSealed (seal-short (w .state) q h n)), refl)
-short-memory w q k (take· buffer) h own = (refl, refl)
+    more-over _ os old (if-false _ _ d, if-false _ _ d)
+over-all w q k beginFlight· os h old = absurd h
+over-all w q k resend· os h old = more-over _ os old (if-false _ _ (ap resend.isDone (resend-short (w .state) (w .flight) q k h)), refl)
+over-all w q k (note· e n) os h old = absurd h
+over-all w q k sendAck· os h old = more-over _ os old (if-false _ _ (ap isDone (ack-short (w .state) q h (w .notes))), refl)
+over-all w q k (ack· d) os h old = absurd h
+over-all w q k (fill· v) os h old = old
+over-all w q k (sealed· n m) os h old = more-over _ os old (if-false _ _ (ap isSealed (seal-short (w .state) q h n)), refl)
+over-all w q k (take· buffer) os h old = more-over _ os old (refl, refl)
