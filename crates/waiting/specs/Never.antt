@@ -181,7 +181,7 @@ Small w = Saves (w .flight) (w .state .queue .mtu) (length (w .kept)) × (w .not
 same-mtu : {f : Flight} {a b room : ℕ} → a ≡ b → Saves f b room → Saves f a room
 same-mtu {f} {a} {b} {room} e s = subst (λ (k : ℕ). Saves f k room) (sym e) s
 
-call-keeps : (w : Stores) (c : SendCall) → Small w → Small (stored w c)
+pub call-keeps : (w : Stores) (c : SendCall) → Small w → Small (stored w c)
 unfolding keyingState sendState laidState laid sealedState takeState begun
 call-keeps w (keySend· e iv) h = (same-mtu (by-test (λ (u : Sending). u .queue .mtu ≡ w .state .queue .mtu) (λ d. refl) (λ d. refl)) (h .0), h .1)
 call-keeps w (send· e t x) h = (same-mtu (by-test (λ (u : Sending). u .queue .mtu ≡ w .state .queue .mtu) (λ d. refl) (λ d. refl)) (h .0), h .1)
