@@ -1,14 +1,14 @@
 -- Records noted for the outgoing ACK, and sending it (01, "Flights acknowledged or sent again"; RFC 9147, section 7). Assumes nothing.
-use mathlib.Core.Bool.{true, false, false≢true}
+use mathlib.Core.Bool.{false}
 use mathlib.Core.List.{List, [], _++_}
 use mathlib.Core.Path.{_≡_, refl, sym, ap, _∙_}
-use Prim.Native.Nat.{ℕ, zero, suc, _+_, _-_, _*_, _≤_, _<_}
+use Prim.Native.Nat.{ℕ, zero, suc, _+_, _-_, _*_, _≤_}
 use native.Mathlib.Numerals.{add-one}
 use native.Mathlib.Omega.{arith}
-use lib.Dec.{ltb, leb, eqb}
+use lib.Dec.{ltb, eqb}
 use lib.ListN.{length, getD, set, replicate, length-append, take-append-drop}
 use Rattle.base.specs.Bytes.{be}
-use Rattle.base.specs.Choose.{choose, by-less}
+use Rattle.base.specs.Choose.{choose, by-test, if-false}
 use Rattle.base.specs.Parts.{splice, splice-next, splice-whole}
 use Rattle.queue.specs.Queue.{isReady}
 use Rattle.send_keys.specs.declared.SendKeys.{SendKeys}
@@ -132,6 +132,9 @@ module _ (s : Notes) (d : List ℕ) where
       splice-next 0 2 (be 2 (s .count * 16)) (pairsOf s (s .count)) d (omega arith) refl
       ∙ splice-whole (be 2 (s .count * 16) ++ pairsOf s (s .count)) d (simp length-pairs (omega arith))
 
-pub ack-few : (s : Sending) (n : Notes) (room : ℕ) → isDone (ackAnswer s n room) ≡ true → n .count ≤ 32
-unfolding ackAnswer
-ack-few s n room = by-less (λ (a : SendAnswer). isDone a ≡ true → n .count ≤ 32) 32 (n .count) (λ l e. absurd (false≢true e)) (λ l e. l)
+-- an ACK that is refused leaves the records noted
+pub refused-notes : (s : Sending) (n : Notes) (room : ℕ) → isDone (sentAck s n room .answer) ≡ false → sentAck s n room .notes ≡ n
+unfolding sentAck ackSent
+refused-notes s n room =
+    by-test (λ (x : AckSent). isDone (x .answer) ≡ false → x .notes ≡ n)
+    (λ d. by-test (λ (x : AckSent). isDone (x .answer) ≡ false → x .notes ≡ n) (λ z h. refl) (λ z h. if-false _ _ h)) (λ d h. refl)

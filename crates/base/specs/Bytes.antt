@@ -2,12 +2,13 @@
 use mathlib.Core.Path.{_≡_, refl, sym, ap, _∙_}
 use mathlib.Core.List.{List, [], _∷_, _++_}
 use Prim.Native.Nat.{ℕ, zero, suc, _+_, _*_, _/_, _%_, _^_, _<_}
-use native.Mathlib.Nat.{mod-eq-of-lt, add-assoc, pow-suc, pow-succ'}
+use native.Mathlib.Nat.{mod-eq-of-lt, add-assoc, add-mul, mul-assoc, pow-suc, pow-succ'}
 use native.Mathlib.Numerals.{add-one}
 use native.Mathlib.Omega.{arith}
 use lib.Arith.{bin-ind, mod-mul}
 use lib.Bits.{bitXor, differ, xor-step, xor-self, xor-comm}
 use lib.ListN.{length, getD}
+use lib.Pow.{pow-add}
 use lib.Seq.{getD-append-add}
 
 -- the k bytes of n, the highest first
@@ -49,6 +50,25 @@ beAt-behind (suc k) a d i =
     ap (λ (x : ℕ). x * 256 ^ k + beAt k (a ++ d) (length a + i + 1)) (getD-append-add a d i 0)
     ∙ ap (λ (x : ℕ). getD d i 0 * 256 ^ k + beAt k (a ++ d) x) (add-assoc (length a) i 1)
     ∙ ap (λ (x : ℕ). getD d i 0 * 256 ^ k + x) (beAt-behind k a d (i + 1))
+
+-- a number of a + b bytes, by its first a and the other b
+pub beAt-add : (a b : ℕ) (d : List ℕ) (i : ℕ) → beAt (a + b) d i ≡ beAt a d i * 256 ^ b + beAt b d (i + a)
+beAt-add zero b d i =
+    let none : 0 + b ≡ b = omega arith in
+    let start : i ≡ i + 0 = omega arith in
+    let same : beAt b d (i + 0) ≡ 0 * 256 ^ b + beAt b d (i + 0) = omega arith in
+    ap (λ (k : ℕ). beAt k d i) none ∙ ap (beAt b d) start ∙ same
+beAt-add (suc a) b d i =
+    let x = getD d i 0 in
+    let more : suc a + b ≡ suc (a + b) = omega arith in
+    let next : i + 1 + a ≡ i + suc a = omega arith in
+    ap (λ (k : ℕ). beAt k d i) more
+    ∙ ap (λ (y : ℕ). x * y + beAt (a + b) d (i + 1)) (pow-add 256 a b)
+    ∙ ap (λ (y : ℕ). x * (256 ^ a * 256 ^ b) + y) (beAt-add a b d (i + 1))
+    ∙ ap (λ (y : ℕ). y + (beAt a d (i + 1) * 256 ^ b + beAt b d (i + 1 + a))) (sym (mul-assoc x (256 ^ a) (256 ^ b)))
+    ∙ sym (add-assoc (x * 256 ^ a * 256 ^ b) (beAt a d (i + 1) * 256 ^ b) (beAt b d (i + 1 + a)))
+    ∙ ap (λ (y : ℕ). y + beAt b d (i + 1 + a)) (sym (add-mul (x * 256 ^ a) (beAt a d (i + 1)) (256 ^ b)))
+    ∙ ap (λ (y : ℕ). (x * 256 ^ a + beAt a d (i + 1)) * 256 ^ b + beAt b d y) next
 
 pow-pos : (k : ℕ) → 0 < 256 ^ k
 pow-pos zero = omega arith

@@ -1,6 +1,6 @@
 // Bytes and parts of a slice as every crate reads them; specs/ has the laws that all of them cite.
 ghost use mathlib.Core.Path.{_≡_};
-ghost use Prim.Native.Nat.{_+_, _<_, _≤_};
+ghost use Prim.Native.Nat.{_+_, _<_, _≤_, min};
 ghost use lib.ListN.{length, getD, drop};
 ghost use Rattle.base.specs.Bytes.{beAt};
 ghost use Rattle.base.specs.Parts.{part};
@@ -28,6 +28,42 @@ pub fn be24(d: &[u8], i: usize) -> u64
 {
     let j = i + 1;
     wide(d[i]) * 65536 + be16(d, j)
+}
+
+// The number that four bytes make, from place i on.
+pub fn be32(d: &[u8], i: usize) -> u64
+    requires { ⌜ i + 4 ≤ length (now d) ⌝ }
+    ensures { λ r. ⌜ (r ≡ beAt 4 (now (d .entry)) i) × (r < 4294967296) ⌝ }
+{
+    let j = i + 2;
+    be16(d, i) * 0x1_0000 + be16(d, j)
+}
+
+// The number that six bytes make, from place i on.
+pub fn be48(d: &[u8], i: usize) -> u64
+    requires { ⌜ i + 6 ≤ length (now d) ⌝ }
+    ensures { λ r. ⌜ r ≡ beAt 6 (now (d .entry)) i ⌝ }
+{
+    let j = i + 3;
+    be24(d, i) * 0x100_0000 + be24(d, j)
+}
+
+// The number that eight bytes make, from place i on.
+pub fn be64(d: &[u8], i: usize) -> u64
+    requires { ⌜ i + 8 ≤ length (now d) ⌝ }
+    ensures { λ r. ⌜ r ≡ beAt 8 (now (d .entry)) i ⌝ }
+{
+    let j = i + 4;
+    be32(d, i) * 0x1_0000_0000 + be32(d, j)
+}
+
+pub fn lesser(a: usize, b: usize) -> usize
+    ensures { λ r. ⌜ r ≡ min a b ⌝ }
+{
+    if a < b {
+        return a;
+    }
+    b
 }
 
 // The byte at place i; 0 beyond the end.

@@ -1,8 +1,7 @@
 -- A flight's saved records (01, "Flights acknowledged or sent again"; refusals 12, 18). Assumes nothing.
-use mathlib.Core.Bool.{Bool, true, false}
-use mathlib.Core.List.{List, [], _∷_}
-use mathlib.Core.Path.{_≡_, refl, ap}
-use Prim.Native.Nat.{ℕ, zero, suc, _+_, _*_, _<_, _≤_}
+use mathlib.Core.Bool.{Bool, false}
+use mathlib.Core.List.{List, []}
+use Prim.Native.Nat.{ℕ, _+_, _*_, _<_, _≤_}
 use lib.Dec.{leb}
 use lib.ListN.{length, getD, set, replicate}
 use Rattle.base.specs.Choose.{choose, both}
@@ -19,10 +18,6 @@ entryOf t e n len = record { «content_type» = t; epoch = e; number = n; length
 -- no record
 abbrev pub noEntry : Entry
 noEntry = record { «content_type» = 0; epoch = 0; number = 0; length = 0; marked = false; remembered = 0 }
-
--- a flight without its table of numbers
-abbrev pub recordsIn : Flight → SavedRecords
-recordsIn f = record { entries = f .entries; saved = f .saved }
 
 -- saved records with a table of numbers
 abbrev pub whole : SavedRecords → List ℕ → Flight
@@ -54,18 +49,6 @@ begun f = choose (leb (f .saved) 12) (record { answer = Done; flight = withSaved
 -- a record more: not acknowledged, no earlier number
 unfoldable pub savedWith : Flight → ℕ → ℕ → ℕ → ℕ → Flight
 savedWith f t e n len = withSaved f (set (f .entries) (f .saved) (entryOf t e n len)) (f .saved + 1)
-
-set-same : (l : List Entry) (i : ℕ) → set l i (getD l i noEntry) ≡ l
-set-same [] i = refl
-set-same (x ∷ l) zero = refl
-set-same (x ∷ l) (suc i) = ap (λ (m : List Entry). x ∷ m) (set-same l i)
-
--- a slot written in place, with the record if it was sent, else with what stood there
-pub saved-behind : (f : Flight) (sent : Bool) (i t e n len : ℕ) → (sent ≡ true → i ≡ f .saved)
-    → withSaved f (set (f .entries) i (choose sent (entryOf t e n len) (getD (f .entries) i noEntry))) (choose sent (f .saved + 1) (f .saved)) ≡ choose sent (savedWith f t e n len) f
-unfolding savedWith choose
-saved-behind f true i t e n len h = rw (h refl)
-saved-behind f false i t e n len h = ap (λ (l : List Entry). withSaved f l (f .saved)) (set-same (f .entries) i)
 
 -- its content at the start of its slot of MTU bytes
 unfoldable pub savedMemory : Flight → ℕ → List ℕ → List ℕ → List ℕ

@@ -19,8 +19,7 @@ use Rattle.outgoing.specs.State.{isDone, isAllowed}
 use Rattle.outgoing.specs.Send.{spotOf, isFull, isSpent, laidState, laidMemory, Clear, allowed-fits, clear-fits}
 use Rattle.flight.specs.declared.Flight.{Flight}
 use Rattle.flight.specs.declared.Saved.{Saved}
-use Rattle.flight.specs.declared.RecordsSaved.{RecordsSaved}
-use Rattle.flight.specs.Flight.{whole, counted, isKept, savedWith, savedMemory, Keeps}
+use Rattle.flight.specs.Flight.{counted, isKept, savedWith, savedMemory, Keeps}
 
 -- 12, 13, 14, 17, 18, 19, 20; 18: "flight full: a thirteenth record to save"
 unfoldable pub saveAnswer : Sending → Flight → ℕ → ℕ → ℕ → ℕ → ℕ → SendAnswer
@@ -52,10 +51,6 @@ saveQueue s f kept e t x q = choose (isDone (saveAnswer s f (length q) kept e t 
 
 unfoldable pub saveKept : Sending → Flight → ℕ → ℕ → ℕ → List ℕ → List ℕ → List ℕ
 saveKept s f room e t x m = choose (isDone (saveAnswer s f room (length m) e t (length x))) (savedMemory f (s .queue .mtu) x m) m
-
--- saved without the table, with it
-abbrev pub savedAs : RecordsSaved → List ℕ → Saved
-savedAs r l = record { answer = r .answer; state = r .state; flight = whole (r .records) l }
 
 -- an answer asks of the flight only how many are saved
 pub answer-counted : (s : Sending) (f : Flight) (room kept e t n : ℕ) → saveAnswer s (counted (f .saved)) room kept e t n ≡ saveAnswer s f room kept e t n

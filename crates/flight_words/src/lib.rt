@@ -2,15 +2,9 @@
 ghost use mathlib.Core.Path.{_≡_};
 ghost use Prim.Native.Nat.{_≤_, _<_};
 ghost use lib.ListN.{length};
-ghost use mathlib.Core.List.{List};
-ghost use Prim.Native.Nat.{ℕ};
-ghost use Rattle.flight.specs.Flight.{whole};
-ghost use Rattle.flight_words.specs.Words.{words, entryAt, entriesOf, recordsOf, flightOf, flatTo, putEntry, LowEntry};
-ghost use Rattle.flight_words.specs.Laws.{putEntries, Lows, Kept};
+ghost use Rattle.flight_words.specs.Words.{words, entryAt, flatTo, putEntry, LowEntry};
 ghost use Rattle.flight_words.specs.Entries.{Entered, withMarked, withNumbers};
 use flight::Entry;
-use flight::Flight;
-use flight::SavedRecords;
 
 // ---- which word is which
 
@@ -71,49 +65,6 @@ pub fn entry_of(w: &[u64; WORDS], i: usize) -> Entry
     }
 }
 
-fn entries_of(w: &[u64; WORDS]) -> [Entry; 12]
-    ensures { λ r. ⌜ r ≡ entriesOf (now (w .entry)) ⌝ }
-{
-    let none = Entry {
-        content_type: 0,
-        epoch: 0,
-        number: 0,
-        length: 0,
-        marked: false,
-        remembered: 0,
-    };
-    let mut l = [none; 12];
-    let mut i: usize = 0;
-    while i < 12 {
-        l[i] = entry_of(w, i);
-        i += 1;
-    }
-    l
-}
-
-// The flight that the words stand for, with its table of numbers.
-pub fn load(w: &[u64; WORDS], numbers: [u64; 384]) -> Flight
-    ensures { λ r. ⌜ r ≡ flightOf (now (w .entry)) numbers ⌝ }
-{
-    let l = entries_of(w);
-    Flight {
-        entries: l,
-        saved: w[SAVED] as usize,
-        numbers: numbers,
-    }
-}
-
-// The saved records that the words stand for.
-pub fn load_records(w: &[u64; WORDS]) -> SavedRecords
-    ensures { λ r. ⌜ r ≡ recordsOf (now (w .entry)) ⌝ }
-{
-    let l = entries_of(w);
-    SavedRecords {
-        entries: l,
-        saved: w[SAVED] as usize,
-    }
-}
-
 // Whether the words stand for a flight: marks are 0 or 1.
 pub fn is_flat(w: &[u64; WORDS]) -> bool
     ensures { λ r. ⌜ r ≡ flatTo (now (w .entry)) 12 ⌝ }
@@ -145,37 +96,6 @@ pub fn put_entry(w: &mut [u64; WORDS], i: usize, e: Entry)
     w[length] = e.length as u64;
     w[marked] = e.marked as u64;
     w[remembered] = e.remembered as u64;
-}
-
-fn put_entries(w: &mut [u64; WORDS], l: [Entry; 12])
-    ensures { λ _. ⌜ (now (w .exit) ≡ putEntries 12 l (now (w .entry))) × Lows l ⌝ }
-{
-    let mut i: usize = 0;
-    while i < 12 {
-        let e = l[i];
-        put_entry(w, i, e);
-        i += 1;
-    }
-}
-
-// A flight written, but for its numbers.
-pub fn save(w: &mut [u64; WORDS], f: Flight)
-    ensures { λ _. ⌜ Kept f (now (w .exit)) ⌝ }
-{
-    let l = f.entries;
-    sized(w);
-    put_entries(w, l);
-    w[SAVED] = f.saved as u64;
-}
-
-// Saved records written: the words stand for them, whatever the table of numbers is.
-pub fn save_records(w: &mut [u64; WORDS], r: SavedRecords)
-    ensures { λ _. ⌜ ((n : List ℕ) → Kept (whole r n) (now (w .exit))) ⌝ }
-{
-    let l = r.entries;
-    sized(w);
-    put_entries(w, l);
-    w[SAVED] = r.saved as u64;
 }
 
 // ---- one entry, in place

@@ -1,5 +1,4 @@
 -- What an epoch keyed writes of the words. Assumes nothing.
-use mathlib.Core.Bool.{true}
 use mathlib.Core.List.{List}
 use mathlib.Core.Path.{_≡_, refl, sym, ap, _∙_}
 use Prim.Native.Nat.{ℕ, _≤_, _%_}
@@ -12,8 +11,8 @@ use Rattle.send_keys.specs.declared.SendKeys.{SendKeys}
 use Rattle.send_keys.specs.Keys.{begun, keyed}
 use Rattle.outgoing.specs.State.{withKeys}
 use Rattle.words.specs.Fields.{firstOf, by-words, low-back}
-use Rattle.words.specs.Packed.{ivOf, iv-back}
-use Rattle.send_words.specs.Words.{words, handshake-at, handshake-iv-at, application-at, application-iv-at, lowsFrom, stateOf, isFlat, LowIv, putEpoch}
+use Rattle.words.specs.Packed.{ivOf, LowIv, iv-back}
+use Rattle.send_words.specs.Words.{words, handshake-at, handshake-iv-at, application-at, application-iv-at, lowsFrom, stateOf, isFlat, putEpoch}
 use Rattle.send_words.specs.Partly.{Partly}
 
 abbrev withHandshake : SendKeys → SendEpoch → SendKeys

@@ -9,6 +9,8 @@ use send_keys::KeyAnswer;
 use send_keys::SendEpoch;
 use send_words::APPLICATION;
 use send_words::APPLICATION_IV;
+use send_words::APPLICATION_NEXT;
+use send_words::APPLICATION_SEALED;
 use send_words::HANDSHAKE;
 use send_words::HANDSHAKE_IV;
 use send_words::WORDS;
@@ -17,8 +19,26 @@ use send_words::WORDS;
 fn key_answer(w: &[u64; WORDS], epoch: u16) -> KeyAnswer
     ensures { λ r. ⌜ r ≡ keyAnswer (stateOf (now (w .entry)) .keys) (isSound (stateOf (now (w .entry)) .queue)) epoch ⌝ }
 {
-    let sound = send_steps::is_sound(w);
-    send_keys::key_answer(send_steps::keys_at(w), sound, epoch)
+    if !send_steps::is_sound(w) {
+        return KeyAnswer::OutOfRange;
+    }
+    let application = words::low(w[APPLICATION]);
+    if epoch < 2 {
+        return KeyAnswer::BadEpoch;
+    }
+    if epoch <= words::low(w[HANDSHAKE]) {
+        return KeyAnswer::BadEpoch;
+    }
+    if epoch <= application {
+        return KeyAnswer::BadEpoch;
+    }
+    if application == 0 {
+        return KeyAnswer::Keyed;
+    }
+    if w[APPLICATION_SEALED] < w[APPLICATION_NEXT] {
+        return KeyAnswer::SealingWaits;
+    }
+    KeyAnswer::Keyed
 }
 
 // An epoch keyed: numbers begin at 0; an application epoch takes the place of the one before.

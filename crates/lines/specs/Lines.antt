@@ -9,7 +9,7 @@ use borrow.Author.Tests.{eq-eqb, ne-eqb, lt-ltb, le-ltb}
 use lib.Dec.{ltb, eqb}
 use lib.ListN.{length, getD, drop, set, length-set, length-drop, drop-of-length-le}
 use lib.Seq.{sets, set-out, drop-cons}
-use Rattle.base.specs.Bytes.{beAt, Bytes}
+use Rattle.base.specs.Bytes.{Bytes}
 use Rattle.base.specs.Choose.{choose, if-true, if-false, by-less, lt-or-ge}
 
 -- the twelve bytes from place i on; 0 for those beyond the end
@@ -137,19 +137,6 @@ line-on d i h e = ap lineLen (drop-next d i h) ∙ if-false _ _ (ne-eqb _ _ e)
 pub line-end : (d : List ℕ) (i : ℕ) → length d ≤ i → lineLen (drop i d) ≡ 0
 unfolding lineLen
 line-end d i h = ap lineLen (drop-of-length-le d {i = i} h)
-
--- a number of four bytes is two of two, one of eight two of four
-pub beAt-four : (d : List ℕ) (i : ℕ) → beAt 4 d i ≡ beAt 2 d i * 65536 + beAt 2 d (i + 2)
-beAt-four d i =
-    let z : i + 1 + 1 ≡ i + 2 = omega arith in
-    let y : beAt 2 d (i + 1 + 1) ≡ beAt 2 d (i + 2) = ap (beAt 2 d) z in
-    omega arith
-
-pub beAt-eight : (d : List ℕ) (i : ℕ) → beAt 8 d i ≡ beAt 4 d i * 4294967296 + beAt 4 d (i + 4)
-beAt-eight d i =
-    let z : i + 1 + 1 + 1 + 1 ≡ i + 4 = omega arith in
-    let y : beAt 4 d (i + 1 + 1 + 1 + 1) ≡ beAt 4 d (i + 4) = ap (beAt 4 d) z in
-    omega arith
 
 -- what is written in digits reads back
 pub digit-back : (v : ℕ) → v < 16 → digitOf (hexDigit v) ≡ v

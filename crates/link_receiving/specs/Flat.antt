@@ -48,6 +48,20 @@ shown kind t epoch n start len = record {
   nonce = zeros;
 }
 
+-- an opening asked for: with its header's length and its nonce
+abbrev pub asked : ℕ → ℕ → ℕ → ℕ → ℕ → List ℕ → LinkReading
+asked epoch n start head len nonce = record {
+  kind = 7;
+  refusal = 0;
+  «content_type» = 0;
+  epoch = epoch;
+  number = n;
+  start = start;
+  «header_len» = head;
+  length = len;
+  nonce = nonce;
+}
+
 abbrev pub flatReading : Reading → List ℕ → LinkReading
 flatReading says.Setting v = bare 0 12
 flatReading says.Reply v = bare 0 15
@@ -59,17 +73,7 @@ flatReading (says.Plaintext t n s l) v = shown 3 t 0 n s l
 flatReading (says.Unopened b n s l) v = shown 4 0 b n s l
 flatReading (says.Opened e n t s l) v = shown 5 t e n s l
 flatReading (says.Mask e s) v = shown 6 0 e 0 s 16
-flatReading (says.Opening e n s h l) v = record {
-  kind = 7;
-  refusal = 0;
-  «content_type» = 0;
-  epoch = e;
-  number = n;
-  start = s;
-  «header_len» = h;
-  length = l;
-  nonce = v;
-}
+flatReading (says.Opening e n s h l) v = asked e n s h l v
 
 -- a reply of 1 brings so many bytes; 0 is no
 unfoldable pub openingOf : ℕ → ℕ → Opening

@@ -8,7 +8,7 @@ ghost use Rattle.link_words.specs.Words.{keysOf, isFlat};
 ghost use Rattle.records.specs.Records.{readStep};
 ghost use Rattle.link_steps.specs.Goes.{Goes};
 ghost use Rattle.link_steps.specs.Opens.{opens};
-ghost use Rattle.link_receiving.specs.Flat.{answerOf, reasonOf, bare, flatReading, openingOf};
+ghost use Rattle.link_receiving.specs.Flat.{answerOf, reasonOf, bare, shown, asked, flatReading, openingOf};
 ghost use Rattle.link_receiving.specs.Calls.{
   Stepped,
   FreshCall,
@@ -102,6 +102,54 @@ fn told(kind: u8, refusal: u8) -> LinkReading
     }
 }
 
+// A reading with its place; no refusal.
+fn shown(
+    kind: u8,
+    content_type: u8,
+    epoch: u16,
+    number: u64,
+    start: usize,
+    length: usize,
+) -> LinkReading
+    ensures { λ r. ⌜ r ≡ shown kind «content_type» epoch number start length ⌝ }
+{
+    LinkReading {
+        kind: kind,
+        refusal: 0,
+        content_type: content_type,
+        epoch: epoch,
+        number: number,
+        start: start,
+        header_len: 0,
+        length: length,
+        nonce: [0u8; 12],
+    }
+}
+
+// An opening asked for: with its header and its nonce.
+fn asked(
+    epoch: u16,
+    number: u64,
+    start: usize,
+    header_len: usize,
+    length: usize,
+    nonce: [u8; 12],
+) -> LinkReading
+    ensures { λ r. ⌜ r ≡ asked epoch number start «header_len» length nonce ⌝ }
+{
+    LinkReading {
+        kind: 7,
+        refusal: 0,
+        content_type: 0,
+        epoch: epoch,
+        number: number,
+        start: start,
+        header_len: header_len,
+        length: length,
+        nonce: nonce,
+    }
+}
+
 fn flat_reading(r: Reading, nonce: [u8; 12]) -> LinkReading
     ensures { λ t. ⌜ t ≡ flatReading r nonce ⌝ }
 {
@@ -117,78 +165,28 @@ fn flat_reading(r: Reading, nonce: [u8; 12]) -> LinkReading
             number,
             start,
             length,
-        } => LinkReading {
-            kind: 3,
-            refusal: 0,
-            content_type: content_type,
-            epoch: 0,
-            number: number,
-            start: start,
-            header_len: 0,
-            length: length,
-            nonce: [0u8; 12],
-        },
+        } => shown(3, content_type, 0, number, start, length),
         Reading::Unopened {
             epoch_bits,
             number,
             start,
             length,
-        } => LinkReading {
-            kind: 4,
-            refusal: 0,
-            content_type: 0,
-            epoch: epoch_bits as u16,
-            number: number,
-            start: start,
-            header_len: 0,
-            length: length,
-            nonce: [0u8; 12],
-        },
+        } => shown(4, 0, epoch_bits as u16, number, start, length),
         Reading::Opened {
             epoch,
             number,
             content_type,
             start,
             length,
-        } => LinkReading {
-            kind: 5,
-            refusal: 0,
-            content_type: content_type,
-            epoch: epoch,
-            number: number,
-            start: start,
-            header_len: 0,
-            length: length,
-            nonce: [0u8; 12],
-        },
-        Reading::Mask { epoch, start } => LinkReading {
-            kind: 6,
-            refusal: 0,
-            content_type: 0,
-            epoch: epoch,
-            number: 0,
-            start: start,
-            header_len: 0,
-            length: 16,
-            nonce: [0u8; 12],
-        },
+        } => shown(5, content_type, epoch, number, start, length),
+        Reading::Mask { epoch, start } => shown(6, 0, epoch, 0, start, 16),
         Reading::Opening {
             epoch,
             number,
             start,
             header_len,
             length,
-        } => LinkReading {
-            kind: 7,
-            refusal: 0,
-            content_type: 0,
-            epoch: epoch,
-            number: number,
-            start: start,
-            header_len: header_len,
-            length: length,
-            nonce: nonce,
-        },
+        } => asked(epoch, number, start, header_len, length, nonce),
     }
 }
 

@@ -1,13 +1,13 @@
 -- Entries and flags written: what they make of the state. Assumes nothing.
-use mathlib.Core.Bool.{Bool, true, false}
-use mathlib.Core.List.{List, [], _∷_}
-use mathlib.Core.Path.{_≡_, refl, sym, ap, subst, _∙_}
-use Prim.Native.Nat.{ℕ, zero, suc, _+_, _-_, _*_, _≤_, _<_, _%_}
+use mathlib.Core.Bool.{true}
+use mathlib.Core.List.{List, _∷_}
+use mathlib.Core.Path.{_≡_, refl, sym, ap, _∙_}
+use Prim.Native.Nat.{ℕ, zero, suc, _+_, _-_, _≤_, _<_, _%_}
 use native.Mathlib.Omega.{arith}
-use lib.Dec.{leb, eqb, ltb}
+use lib.Dec.{eqb}
 use lib.ListN.{length, getD, set, drop, replicate, length-set}
 use borrow.Author.Tests.{lt-ltb, le-ltb}
-use Rattle.base.specs.Bytes.{beAt, Bytes}
+use Rattle.base.specs.Bytes.{beAt}
 use Rattle.base.specs.Choose.{choose, both, both-left, both-right, both-true, if-true, if-false}
 use Rattle.datagram.specs.Datagram.{begun}
 use Rattle.recv_keys.specs.declared.RecvEpochEntry.{RecvEpochEntry}
@@ -15,11 +15,8 @@ use Rattle.recv_keys.specs.declared.RecvKeys.{RecvKeys}
 use Rattle.recv_keys.specs.Keys.{noEntry, fresh, encrypted, released, installed, leftAt, left}
 use Rattle.window.specs.Window.{unmarked}
 use Rattle.words.specs.Fields.{firstOf, by-words}
-use Rattle.words.specs.Packed.{ivOf, iv-back}
-use Rattle.link_words.specs.Words.{words, count-at, highest-at, encrypted-at, released-at, least-at, windowAt, entryAt, entriesOf, keysOf, questionOf, datagramOf, isFlat, restOf, putIv, putEntry}
-
-abbrev pub LowIv : List ℕ → Type 0
-LowIv l = (length l ≡ 12) × Bytes l
+use Rattle.words.specs.Packed.{ivOf, LowIv, iv-back}
+use Rattle.link_words.specs.Words.{words, count-at, highest-at, encrypted-at, released-at, least-at, entriesOf, keysOf, questionOf, datagramOf, isFlat, restOf, putEntry}
 
 -- ---- an entry written
 

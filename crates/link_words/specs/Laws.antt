@@ -1,11 +1,11 @@
 -- What is written reads back, and leaves the rest of the state. Assumes nothing.
-use mathlib.Core.Bool.{Bool, true, false}
-use mathlib.Core.List.{List, [], _∷_}
-use mathlib.Core.Path.{_≡_, refl, sym, ap, subst, _∙_}
-use Prim.Native.Nat.{ℕ, zero, suc, _+_, _*_, _≤_, _<_, _%_}
+use mathlib.Core.Bool.{Bool, true}
+use mathlib.Core.List.{List}
+use mathlib.Core.Path.{_≡_, refl, ap, _∙_}
+use Prim.Native.Nat.{ℕ, zero, suc, _≤_, _<_, _%_}
 use native.Mathlib.Omega.{arith}
 use lib.Dec.{leb, eqb}
-use lib.ListN.{length, getD, set, drop, length-set}
+use lib.ListN.{length, getD, set, length-set}
 use Rattle.base.specs.Choose.{choose, both, both-left, both-right, both-true}
 use Rattle.datagram.specs.declared.Ask.{Ask}
 use Rattle.datagram.specs.declared.Datagram.{Datagram}
@@ -15,7 +15,7 @@ use Rattle.recv_keys.specs.Keys.{noEntry, marked}
 use Rattle.window.specs.Window.{width, marking}
 use Rattle.window.specs.declared.ReplayWindow.{ReplayWindow}
 use Rattle.words.specs.Fields.{firstOf, by-words, bitOf, bit-back, low-bit}
-use Rattle.link_words.specs.Words.{words, encrypted-at, released-at, ask-flag-at, size-at, cursor-at, readings-at, windowAt, entryAt, entriesOf, keysOf, questionOf, datagramOf, isFlat, putAsk, putQuestion, putDatagram, putWindow}
+use Rattle.link_words.specs.Words.{words, encrypted-at, released-at, ask-flag-at, size-at, cursor-at, readings-at, windowAt, entryAt, entriesOf, keysOf, questionOf, datagramOf, isFlat, putQuestion, putDatagram, putWindow}
 
 -- the entry at i
 pub entry-at : (w : List ℕ) (i : ℕ) → i < 5 → getD (entriesOf w) i noEntry ≡ entryAt w i

@@ -1,12 +1,11 @@
 -- The receive side's state in words that the host keeps: which word is which, and what they stand for. Five words each hold the epochs,
 -- the highest numbers of their windows, the marks, and at the end the first four and the other eight bytes of their IVs.
-use mathlib.Core.Bool.{Bool, true, false}
+use mathlib.Core.Bool.{Bool}
 use mathlib.Core.List.{List, [], _∷_}
-use Prim.Native.Nat.{ℕ, _+_, _*_, _%_}
+use Prim.Native.Nat.{ℕ, _+_, _%_}
 use lib.Dec.{leb, eqb}
 use lib.ListN.{getD, set}
 use Rattle.base.specs.Choose.{choose, both}
-use Rattle.base.specs.Bytes.{beAt}
 use Rattle.datagram.specs.declared.Ask.{Ask}
 use Rattle.datagram.specs.declared.Datagram.{Datagram}
 use Rattle.datagram.specs.declared.Question.the-variants as question
@@ -15,7 +14,7 @@ use Rattle.recv_keys.specs.declared.RecvEpochEntry.{RecvEpochEntry}
 use Rattle.recv_keys.specs.declared.RecvKeys.{RecvKeys}
 use Rattle.window.specs.declared.ReplayWindow.{ReplayWindow}
 use Rattle.words.specs.Fields.{bitOf}
-use Rattle.words.specs.Packed.{ivOf}
+use Rattle.words.specs.Packed.{ivOf, putIv}
 
 -- ---- which word is which
 
@@ -156,8 +155,5 @@ putDatagram b w = putQuestion (b .question) (set (set (set w size-at (b .size)) 
 abbrev pub putWindow : ℕ → ReplayWindow → List ℕ → List ℕ
 putWindow i v w = set (set w (number-at i) (v .«max_seq»)) (bits-at i) (v .window)
 
-abbrev pub putIv : ℕ → List ℕ → List ℕ → List ℕ
-putIv i v w = set (set w (iv-front-at i) (beAt 4 v 0)) (iv-back-at i) (beAt 8 v 4)
-
 abbrev pub putEntry : ℕ → RecvEpochEntry → List ℕ → List ℕ
-putEntry i e w = putIv i (e .iv) (putWindow i (e .replay) (set w i (e .epoch)))
+putEntry i e w = putIv (iv-front-at i) (iv-back-at i) (e .iv) (putWindow i (e .replay) (set w i (e .epoch)))

@@ -16,10 +16,9 @@ ghost use Rattle.link_words.specs.Words.{
   isFlat,
   putAsk,
   putWindow,
-  putIv,
 };
 ghost use Rattle.link_words.specs.Laws.{Put};
-ghost use Rattle.link_words.specs.Entries.{LowIv, Written, Beside, freshWords};
+ghost use Rattle.link_words.specs.Entries.{Written, Beside, freshWords};
 use datagram::Ask;
 use datagram::Datagram;
 use datagram::Question;
@@ -418,17 +417,6 @@ pub fn put_window(w: &mut [u64; WORDS], i: usize, v: ReplayWindow)
 
 // ---- entries written
 
-fn put_iv(w: &mut [u64; WORDS], i: usize, iv: [u8; 12])
-    requires { ⌜ i < 5 ⌝ }
-    ensures { λ _. ⌜ (now (w .exit) ≡ putIv i iv (now (w .entry))) × LowIv iv ⌝ }
-{
-    let f = IV_FRONT + i;
-    let b = IV_BACK + i;
-    words::bytes(&iv);
-    w[f] = words::be32(&iv, 0);
-    w[b] = words::be64(&iv, 4);
-}
-
 // The entry at i written.
 pub fn put_entry(w: &mut [u64; WORDS], i: usize, e: RecvEpochEntry)
     requires { ⌜ i < 5 ⌝ }
@@ -436,10 +424,12 @@ pub fn put_entry(w: &mut [u64; WORDS], i: usize, e: RecvEpochEntry)
 {
     let iv = e.iv;
     let v = e.replay;
+    let front = IV_FRONT + i;
+    let back = IV_BACK + i;
     sized(w);
     w[i] = words::wide(e.epoch);
     put_window(w, i, v);
-    put_iv(w, i, iv);
+    words::put_iv(w, front, back, iv);
 }
 
 // No epoch keyed, no datagram begun.

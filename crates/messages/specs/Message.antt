@@ -1,5 +1,5 @@
 -- Sending a handshake message (01, refusals 12, 14, 17, 21, 18, 19, 20), wholly or not at all. Assumes nothing.
-use mathlib.Core.Bool.{Bool, true, false, false≢true}
+use mathlib.Core.Bool.{true, false, false≢true}
 use mathlib.Core.List.{List, _++_}
 use mathlib.Core.Path.{_≡_, refl, sym, ap, _∙_}
 use Prim.Native.Nat.{ℕ, zero, suc, _+_, _-_, _<_, _≤_}
@@ -10,19 +10,16 @@ use borrow.Author.Tests.{ltb-false, leb-true, leb-false, eq-eqb, ne-eqb}
 use Rattle.base.specs.Choose.{choose, by-test, both-left, if-true, if-false}
 use Rattle.base.specs.Parts.{part}
 use Rattle.handshake.specs.Header.{headerBytes, length-header}
-use Rattle.queue.specs.declared.Queue.{Queue}
 use Rattle.queue.specs.Queue.{isReady, lastLen, InRange, ready}
-use Rattle.send_keys.specs.Keys.{isKeyed, nextOf, used}
+use Rattle.send_keys.specs.Keys.{isKeyed, nextOf}
 use Rattle.outgoing.specs.declared.Sending.{Sending}
 use Rattle.outgoing.specs.declared.SendAnswer.{SendAnswer}
 use Rattle.outgoing.specs.declared.SendAnswer.the-variants.{Done, OutOfRange, BadRecord, KeysAbsent, MessagesSpent, FlightFull, QueueFull, NumbersSpent}
-use Rattle.outgoing.specs.declared.Waiting.{Waiting}
 use Rattle.outgoing.specs.State.{isDone}
-use Rattle.outgoing.specs.Send.{sendingOf, laidState}
 use Rattle.flight.specs.declared.Flight.{Flight}
 use Rattle.flight.specs.declared.Saved.{Saved}
-use Rattle.flight.specs.Flight.{counted, isKept, savedWith, savedMemory}
-use Rattle.flight.specs.Save.{saveAnswer, saveState, saveQueue, saveKept, save-range}
+use Rattle.flight.specs.Flight.{counted, isKept}
+use Rattle.flight.specs.Save.{saveState, saveQueue, saveKept, save-range}
 use Rattle.messages.specs.declared.Cut.{Cut}
 use Rattle.messages.specs.Cut.{epochOf, overhead, pieceSize, cutBehind, planCount, planReach}
 
@@ -123,26 +120,6 @@ laid-same p q r = λ i. record { saved = p i; queue = q i; kept = r i }
 pub message-counted : (s : Sending) (f : Flight) (room kept kind n : ℕ) → messageAnswer s (counted (f .saved)) room kept kind n ≡ messageAnswer s f room kept kind n
 unfolding messageAnswer isKept
 message-counted s f room kept kind n = refl
-
-laid-parts : (s : Sending) (done : Bool) (e n : ℕ)
-    → sendingOf (choose done (laidState s e n) s .queue) (choose done (laidState s e n) s .waiting) (choose done (used (s .keys) e) (s .keys)) (s .«message_seq») ≡ choose done (laidState s e n) s
-unfolding choose laidState
-laid-parts s true e n = refl
-laid-parts s false e n = refl
-
-module _ (kind : ℕ) (body : List ℕ) (at n : ℕ) (s : Sending) (f : Flight) (q m : List ℕ) where
-  abbrev sent : Laid
-  sent = pieceOf kind body at n s (counted (f .saved)) q m
-
-  -- a piece sent behind so many: state and flight put together of their parts
-  pub piece-counted : {a : SendAnswer} {u : Queue} {v : Waiting} {t : Sending} {g : Flight} {p k : List ℕ}
-      → a ≡ sent .saved .answer → u ≡ sent .saved .state .queue → v ≡ sent .saved .state .waiting
-      → t ≡ sendingOf u v (choose (isDone a) (used (s .keys) (epochOf kind)) (s .keys)) (s .«message_seq»)
-      → g ≡ choose (isDone a) (savedWith f 22 (epochOf kind) (nextOf (s .keys) (epochOf kind)) (12 + n)) f → p ≡ sent .queue → k ≡ sent .kept
-      → record { saved = record { answer = a; state = t; flight = g }; queue = p; kept = k } ≡ pieceOf kind body at n s f q m
-  unfolding pieceOf saveState saveQueue saveKept saveAnswer isKept savedMemory
-  piece-counted ea eu ev et eg ep ek =
-      let w = laid-parts s (isDone (sent .saved .answer)) (epochOf kind) (12 + n) in rw (et, eg, ep, ek, eu, ev, ea, w)
 
 -- ---- the pieces one after the other
 

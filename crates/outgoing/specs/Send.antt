@@ -13,7 +13,6 @@ use Rattle.queue.specs.declared.Place.{Place}
 use Rattle.queue.specs.declared.Queue.{Queue}
 use Rattle.queue.specs.Queue.{isReady, slotOf, tailOf, placeOf, laid, startOf, Ready, Fits, ready, placed}
 use Rattle.queue.specs.Laid.{recordLen, recordBytes, len-over}
-use Rattle.send_keys.specs.declared.SendKeys.{SendKeys}
 use Rattle.send_keys.specs.Keys.{isUsable, isKeyed, nextOf, used}
 use Rattle.outgoing.specs.declared.Waiting.{Waiting}
 use Rattle.outgoing.specs.declared.Sending.{Sending}
@@ -21,9 +20,6 @@ use Rattle.outgoing.specs.declared.SendAnswer.{SendAnswer}
 use Rattle.outgoing.specs.declared.SendAnswer.the-variants.{Done, OutOfRange, BadEpoch, BadRecord, KeysAbsent, QueueFull, NumbersSpent}
 use Rattle.outgoing.specs.declared.Sent.{Sent}
 use Rattle.outgoing.specs.State.{isDone, isAllowed}
-
-abbrev pub sendingOf : Queue → Waiting → SendKeys → ℕ → Sending
-sendingOf q w k m = record { queue = q; waiting = w; keys = k; «message_seq» = m }
 
 -- where a record with a content of n bytes goes
 abbrev pub spotOf : Sending → ℕ → ℕ → Place

@@ -6,7 +6,7 @@ use mathlib.Core.Path.{_≡_, refl, sym, ap, _∙_}
 use Prim.Native.Nat.{ℕ, zero, suc, _+_, _-_, _*_, _/_, _%_, _≤_, _<_, min}
 use native.Mathlib.Numerals.{add-one}
 use native.Mathlib.Omega.{arith}
-use lib.Dec.{ltb, leb, eqb}
+use lib.Dec.{ltb, eqb}
 use lib.ListN.{length, getD, set}
 use lib.Seq.{getD-set-other}
 use Rattle.base.specs.Bytes.{beAt}
@@ -14,10 +14,9 @@ use Rattle.base.specs.Choose.{choose, both, if-true, by-test, by-less, eq-or-ne
 use Rattle.outgoing.specs.declared.SendAnswer.the-variants.{Done, OutOfRange}
 use Rattle.flight.specs.declared.Entry.{Entry}
 use Rattle.flight.specs.declared.Flight.{Flight}
-use Rattle.flight.specs.Flight.{noEntry, entryAt, withSaved, whole}
+use Rattle.flight.specs.Flight.{noEntry, entryAt, withSaved}
 use Rattle.process_ack.specs.declared.Tally.{Tally}
 use Rattle.process_ack.specs.declared.Acked.{Acked}
-use Rattle.process_ack.specs.declared.AckedRecords.{AckedRecords}
 
 -- "under 2 bytes, a false length, or a length not a multiple of 16 marks nothing"
 unfoldable pub isFormed : List ℕ → Bool
@@ -77,10 +76,6 @@ acked f d =
     choose (ltb 12 (f .saved)) (record { answer = OutOfRange; flight = f })
     (record { answer = Done; flight = choose (isFormed d) (emptied (marksAfter d (pairsIn d) f (f .saved))) f })
 
--- the records left, with their table of numbers
-abbrev pub ackedWhole : AckedRecords → List ℕ → Acked
-ackedWhole r n = record { answer = r .answer; flight = whole (r .records) n }
-
 -- ---- laws
 
 module _ (d : List ℕ) where
@@ -127,12 +122,3 @@ pub marks-saved : (d : List ℕ) (n : ℕ) (f : Flight) (k : ℕ) → marksAfter
 unfolding marksAfter markAt
 marks-saved d n f zero = refl
 marks-saved d n f (suc k) = marks-saved d n f k
-
--- eight bytes are three, three and two
-pub beAt-eight : (d : List ℕ) (i : ℕ) → beAt 8 d i ≡ beAt 3 d i * 1099511627776 + beAt 3 d (i + 3) * 65536 + beAt 2 d (i + 6)
-beAt-eight d i =
-    let z : i + 1 + 1 + 1 ≡ i + 3 = omega arith in
-    let y : i + 3 + 1 + 1 + 1 ≡ i + 6 = omega arith in
-    let a : beAt 5 d (i + 1 + 1 + 1) ≡ beAt 5 d (i + 3) = ap (beAt 5 d) z in
-    let b : beAt 2 d (i + 3 + 1 + 1 + 1) ≡ beAt 2 d (i + 6) = ap (beAt 2 d) y in
-    omega arith

@@ -150,9 +150,6 @@ spot {q} {p} {n} {room} r f =
     let t : q .limit * q .mtu ≤ 16 * 1500 = mul-le-mul (r .range .limit) (r .range .high) in
     record { slot = b; space = omega (arith, m, r .space, f .inside); small = omega (arith, m, t, f .inside) }
 
-pub start-small : {q : Queue} {p : Place} {n : ℕ} → InRange q → Fits q p n → slotOf (q .first) (q .limit) (p .datagram) * q .mtu + p .offset + n ≤ 24000
-start-small {q} r f = spot {room = q .limit * q .mtu} (record { range = r; space = omega arith }) f .small
-
 -- laying keeps the ranges
 pub laid-range : {q : Queue} {p : Place} {n : ℕ} → InRange q → Fits q p n → InRange (laid q p n)
 unfolding laid

@@ -1,11 +1,11 @@
 // The queue of datagrams to send, after `queue_tx` of engine.rs: a ring of slots of MTU bytes in one lent buffer.
 ghost use mathlib.Core.Path.{_≡_};
 ghost use mathlib.Core.List.{_++_};
-ghost use Prim.Native.Nat.{_+_, _-_, _*_, _≤_, _<_};
+ghost use Prim.Native.Nat.{_+_, _-_, _≤_, _<_};
 ghost use lib.ListN.{length, take};
 ghost use Rattle.base.specs.Parts.{splice};
 ghost use Rattle.record.specs.Record.{plaintextHeader, unifiedHeader};
-ghost use Rattle.queue.specs.Queue.{isSetting, isSound, isReady, slotOf, lastLen, tailOf, placeOf, grown, laid, startOf, InRange, Ready, Tailed, Fits};
+ghost use Rattle.queue.specs.Queue.{isSetting, slotOf, placeOf, Tailed};
 ghost use Rattle.queue.specs.Laid.{trailerOf, recordLen, recordBytes};
 
 // Settings, the ring's first slot, how many datagrams wait in it, whether the last is closed to further records, and the length
@@ -48,29 +48,6 @@ pub fn is_setting(mtu: usize, limit: usize) -> bool
     limit <= 16
 }
 
-// Whether settings and ring are in range.
-pub fn is_sound(q: Queue) -> bool
-    ensures { λ r. ⌜ r ≡ isSound q ⌝ }
-{
-    let limit = q.limit;
-    if is_setting(q.mtu, limit) {
-        if q.first < limit {
-            return q.count <= limit;
-        }
-    }
-    false
-}
-
-// Whether the buffer lent for the queue is long enough besides.
-pub fn is_ready(q: Queue, room: usize) -> bool
-    ensures { λ r. ⌜ r ≡ isReady q room ⌝ }
-{
-    if is_sound(q) {
-        return q.limit * q.mtu <= room;
-    }
-    false
-}
-
 // The slot of a datagram, counted from the front.
 pub fn slot_of(first: usize, limit: usize, i: usize) -> usize
     requires { ⌜ (first < limit) × (i < limit) × (limit ≤ 16) ⌝ }
@@ -81,56 +58,6 @@ pub fn slot_of(first: usize, limit: usize, i: usize) -> usize
         return at;
     }
     at - limit
-}
-
-fn wide(x: u16) -> usize
-    ensures { λ r. ⌜ (r ≡ x) × (r ≤ 65535) ⌝ }
-{
-    x as usize
-}
-
-// The length of a slot's datagram.
-pub fn len_at(q: Queue, slot: usize) -> usize
-    requires { ⌜ slot < 16 ⌝ }
-    ensures { λ r. ⌜ (r ≡ lib.ListN.getD (q .lengths) slot 0) × (r ≤ 65535) ⌝ }
-{
-    wide(q.lengths[slot])
-}
-
-// The last datagram's length, closed or not; 0 where there is none.
-pub fn last_len(q: Queue) -> usize
-    requires { ⌜ InRange q ⌝ }
-    ensures { λ r. ⌜ (r ≡ lastLen q) × (r ≤ 65535) ⌝ }
-{
-    let count = q.count;
-    if count == 0 {
-        return 0;
-    }
-    let slot = slot_of(q.first, q.limit, count - 1);
-    len_at(q, slot)
-}
-
-// Whether a record may join the last datagram: one is there, not closed.
-fn is_joinable(q: Queue) -> bool
-    ensures { λ r. ⌜ r ≡ tailOf q .joinable ⌝ }
-{
-    if q.closed {
-        return false;
-    }
-    0 < q.count
-}
-
-pub fn tail_of(q: Queue) -> Tail
-    requires { ⌜ InRange q ⌝ }
-    ensures { λ r. ⌜ (r ≡ tailOf q) × Tailed r ⌝ }
-{
-    let used = last_len(q);
-    let joinable = is_joinable(q);
-    Tail {
-        used: used,
-        joinable: joinable,
-        count: q.count,
-    }
 }
 
 // A record of n bytes joins the last datagram if that may be joined and the sum is at most the MTU; else it opens a new one.
@@ -152,20 +79,6 @@ pub fn place_of(mtu: usize, t: Tail, n: usize) -> Place
         datagram: count,
         offset: 0,
     }
-}
-
-// The queue with a record of n bytes more.
-pub fn laid_at(q: Queue, p: Place, n: usize) -> Queue
-    requires { ⌜ InRange q × Fits q p n ⌝ }
-    ensures { λ r. ⌜ r ≡ laid q p n ⌝ }
-{
-    let nth = p.datagram;
-    let slot = slot_of(q.first, q.limit, nth);
-    let mut t = q;
-    t.lengths[slot] = (p.offset + n) as u16;
-    t.count = nth + 1;
-    t.closed = false;
-    t
 }
 
 // Copies a slice over another of the same length.
@@ -319,32 +232,4 @@ pub fn lay_record(
         return;
     }
     lay_ciphertext(d, at, epoch, content_type, number, content);
-}
-
-// The first byte of a record at a place.
-pub fn start_of(q: Queue, p: Place, n: usize) -> usize
-    requires { ⌜ InRange q × Fits q p n ⌝ }
-    ensures { λ r. ⌜ (r ≡ startOf q p) × (r ≤ 24000) ⌝ }
-{
-    let slot = slot_of(q.first, q.limit, p.datagram);
-    slot * q.mtu + p.offset
-}
-
-// A record laid at a place of the queue.
-pub fn lay(
-    q: Queue,
-    d: &mut [u8],
-    p: Place,
-    epoch: u16,
-    content_type: u8,
-    number: u64,
-    content: &[u8],
-) -> Queue
-    requires { ⌜ Ready q (length (now d)) × Fits q p (recordLen epoch (length (now content))) × (length (now content) ≤ 1500) ⌝ }
-    ensures { λ r. ⌜ (r ≡ laid q p (recordLen epoch (length (now (content .entry))))) × (now (d .exit) ≡ splice (startOf q p) (recordBytes epoch «content_type» number (now (content .entry))) (now (d .entry))) ⌝ }
-{
-    let n = record_len(epoch, content.len());
-    let at = start_of(q, p, n);
-    lay_record(d, at, epoch, content_type, number, content);
-    laid_at(q, p, n)
 }

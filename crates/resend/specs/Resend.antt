@@ -1,10 +1,9 @@
 -- A flight sent again (01, "Flights acknowledged or sent again"), wholly or not at all. Assumes nothing.
 use mathlib.Core.Bool.{Bool, true, false}
 use mathlib.Core.List.{List}
-use mathlib.Core.Path.{_≡_, refl, sym, ap, _∙_}
-use Prim.Native.Nat.{ℕ, zero, suc, _+_, _*_, _≤_, _<_}
+use mathlib.Core.Path.{_≡_, sym, ap, _∙_}
+use Prim.Native.Nat.{ℕ, zero, suc, _+_, _*_, _<_}
 use native.Mathlib.Numerals.{add-one}
-use native.Mathlib.Omega.{arith}
 use lib.Dec.{ltb}
 use lib.ListN.{length, set}
 use lib.Seq.{set-getD}
@@ -23,7 +22,6 @@ use Rattle.flight.specs.declared.Flight.{Flight}
 use Rattle.flight.specs.declared.SavedRecords.{SavedRecords}
 use Rattle.flight.specs.Flight.{noEntry, entryAt, whole}
 use Rattle.resend.specs.declared.Resent.{Resent}
-use Rattle.resend.specs.declared.ResentRecords.{ResentRecords}
 use Rattle.resend.specs.declared.ResendAnswer.{ResendAnswer}
 use Rattle.resend.specs.Tests.{isDone, remembers, closedState}
 
@@ -110,10 +108,6 @@ resendState a s f kept q =
 
 unfoldable pub resendQueue : ResendAnswer → Sending → Flight → List ℕ → List ℕ → List ℕ
 resendQueue a s f kept q = choose (isDone a) (allAgain s f kept q .queue) q
-
--- the records left, with their table of numbers
-abbrev pub resentWhole : ResentRecords → List ℕ → Resent
-resentWhole r n = record { answer = r .answer; state = r .state; flight = whole (r .records) n }
 
 -- ---- laws
 

@@ -7,7 +7,7 @@ ghost use Rattle.base.specs.Parts.{splice};
 ghost use Rattle.queue.specs.Queue.{InRange};
 ghost use Rattle.send_keys.specs.Keys.{ivOf};
 ghost use Rattle.sealing.specs.Seek.{seekStep, seek};
-ghost use Rattle.sealing.specs.Sealing.{isHeld, partStart, asked, questionOf, maskedHeader, behindOldest, sealAnswer, afterSealing, sealedState, sealedMemory, Held};
+ghost use Rattle.sealing.specs.Sealing.{isHeld, isAsked, partStart, partOf, isPut, putMemory, asked, questionOf, maskedHeader, behindOldest, sealAnswer, afterSealing, sealedState, sealedMemory, Held};
 ghost use Rattle.send_words.specs.Words.{queueOf, stateOf};
 ghost use Rattle.send_words.specs.Partly.{Partly};
 ghost use Rattle.seal_steps.specs.Settles.{settled};
@@ -73,6 +73,48 @@ fn part_start(w: &[u64; WORDS]) -> usize
     ensures { λ r. ⌜ r ≡ partStart (stateOf (now (w .entry))) ⌝ }
 {
     w[SEALING_SLOT] as usize * w[MTU] as usize + w[SEALING_START] as usize + 5
+}
+
+// Whether a sealing is asked for and the queue is lent whole.
+fn is_asked(w: &[u64; WORDS], room: usize) -> bool
+    ensures { λ r. ⌜ r ≡ isAsked (stateOf (now (w .entry))) room ⌝ }
+{
+    if send_steps::is_ready(w, room) {
+        if is_held(w) {
+            return w[SEALING] == 1;
+        }
+    }
+    false
+}
+
+// ---- the part lent
+
+// The part of the queue that the host seals in place, from content to tag; empty where nothing is asked.
+pub fn part<'a>(w: &[u64; WORDS], memory: &'a mut [u8]) -> &'a mut [u8]
+    ensures { λ r. ⌜ now r ≡ partOf (stateOf (now (w .entry))) (now (memory .entry)) ⌝ }
+{
+    if is_asked(w, memory.len()) {
+        let from = part_start(w);
+        let to = from + w[SEALING_LENGTH] as usize;
+        return &mut memory[from..to];
+    }
+    &mut memory[0..0]
+}
+
+// Sealed bytes that the host has elsewhere, written to that part; whether they fit it.
+pub fn put(w: &[u64; WORDS], bytes: &[u8], memory: &mut [u8]) -> bool
+    ensures { λ r. ⌜ (r ≡ isPut (stateOf (now (w .entry))) (length (now (bytes .entry))) (length (now (memory .entry)))) × (now (memory .exit) ≡ putMemory (stateOf (now (w .entry))) (now (bytes .entry)) (now (memory .entry))) ⌝ }
+{
+    if is_asked(w, memory.len()) {
+        let n = w[SEALING_LENGTH] as usize;
+        if bytes.len() == n {
+            let from = part_start(w);
+            let to = from + n;
+            queue::copy(bytes, &mut memory[from..to]);
+            return true;
+        }
+    }
+    false
 }
 
 // ---- the question
@@ -151,7 +193,7 @@ fn seek_step(w: &[u64; WORDS], d: &[u8], c: Search) -> Search
     sealing::step_of(x, slot, c)
 }
 
-// The first record that waits from where the search is on, in as many steps as sealing::sealed takes.
+// The first record that waits from where the search is on. 2,000 steps pass every record that 16 datagrams can hold.
 fn seek_from(w: &[u64; WORDS], d: &[u8], from: Search) -> Waiting
     requires { ⌜ InRange (queueOf (now w)) ⌝ }
     ensures { λ r. ⌜ r ≡ seek 2000 (queueOf (now (w .entry))) (now (d .entry)) from ⌝ }

@@ -4,7 +4,6 @@ use mathlib.Core.Bool.{true, false}
 use mathlib.Core.List.{List}
 use mathlib.Core.Path.{_≡_, ap}
 use Prim.Native.Nat.{ℕ, zero, suc, _+_, _-_, _*_}
-use native.Mathlib.Omega.{arith}
 use lib.Dec.{leb, eqb}
 use lib.ListN.{getD}
 use Rattle.base.specs.Bytes.{beAt}
@@ -77,13 +76,6 @@ seek zero q d c = noWaiting
 seek (suc k) q d c = choose (c .done) (c .found) (seek k q d (seekStep q d c))
 
 -- ---- laws
-
--- six bytes are twice three
-pub beAt-six : (d : List ℕ) (i : ℕ) → beAt 6 d i ≡ beAt 3 d i * 16777216 + beAt 3 d (i + 3)
-beAt-six d i =
-    let z : i + 1 + 1 + 1 ≡ i + 3 = omega arith in
-    let y : beAt 3 d (i + 1 + 1 + 1) ≡ beAt 3 d (i + 3) = ap (beAt 3 d) z in
-    omega arith
 
 module _ (q : Queue) (d : List ℕ) (c : Search) where
   pub seek-done : (k : ℕ) → c .done ≡ true → seek (suc k) q d c ≡ c .found

@@ -6,10 +6,9 @@ use Prim.Native.Nat.{ℕ, zero, suc, _+_, _*_, _≤_, _<_, _%_}
 use native.Mathlib.Omega.{arith}
 use borrow.Author.Tests.{eq-eqb, ne-eqb}
 use lib.Dec.{leb, eqb}
-use lib.ListN.{length, getD, set, replicate}
+use lib.ListN.{length, getD, set}
 use Rattle.base.specs.Choose.{choose, both, either, both-left, both-right, both-true, if-true, if-false}
 use Rattle.queue.specs.declared.Place.{Place}
-use Rattle.queue.specs.declared.Queue.{Queue}
 use Rattle.queue.specs.Queue.{slotOf, laid, slot-lt, Fits, spot}
 use Rattle.queue.specs.Laid.{recordLen}
 use Rattle.send_keys.specs.declared.SendKeys.{SendKeys}
@@ -20,23 +19,9 @@ use Rattle.outgoing.specs.declared.Waiting.{Waiting}
 use Rattle.outgoing.specs.State.{isDone, withKeys}
 use Rattle.outgoing.specs.Send.{spotOf, sendAnswer, waitsBehind, laidState, Clear, clear-short, clear-fits}
 use Rattle.words.specs.Fields.{firstOf, by-words, low-bit, low-back}
-use Rattle.send_words.specs.Words.{words, mtu-at, limit-at, first-at, count-at, closed-at, sealing-at, plaintext-next-at, handshake-at, handshake-next-at, handshake-sealed-at, application-at, application-next-at, application-sealed-at, length-at, lowsFrom, stateOf, isFlat, putWaiting}
+use Rattle.send_words.specs.Words.{words, count-at, closed-at, sealing-at, plaintext-next-at, handshake-next-at, application-next-at, length-at, lowsFrom, stateOf, isFlat, putWaiting}
 use Rattle.send_words.specs.Partly.{Partly, withWaiting, low-waiting, waiting-back}
 use Rattle.send_steps.specs.declared.Verdict.{Verdict}
-
--- ---- what is read
-
--- the queue but for its lengths
-abbrev pub bareQueue : List ℕ → Queue
-bareQueue w = record { mtu = getD w mtu-at 0; limit = getD w limit-at 0; first = getD w first-at 0; count = getD w count-at 0; closed = eqb (getD w closed-at 0) 1; lengths = replicate 16 0 }
-
--- the keys but for their IVs
-abbrev pub bareKeys : List ℕ → SendKeys
-bareKeys w = record {
-  «plaintext_next» = getD w plaintext-next-at 0;
-  handshake = record { epoch = getD w handshake-at 0 % 65536; iv = replicate 12 0; next = getD w handshake-next-at 0; sealed = getD w handshake-sealed-at 0 };
-  application = record { epoch = getD w application-at 0 % 65536; iv = replicate 12 0; next = getD w application-next-at 0; sealed = getD w application-sealed-at 0 };
-}
 
 -- the answer, and the place if it is done
 pub record Judged (v : Verdict) (s : Sending) (room e t n : ℕ) : Type 0 where

@@ -8,24 +8,19 @@ ghost use Rattle.outgoing.specs.State.{withKeys};
 ghost use Rattle.outgoing.specs.Send.{spotOf, laidState, laidMemory, Clear};
 ghost use Rattle.send_words.specs.Words.{queueOf, stateOf};
 ghost use Rattle.send_words.specs.Partly.{Partly, withWaiting};
-ghost use Rattle.send_steps.specs.Steps.{bareQueue, bareKeys, endAt, waits, Judged, Lays};
+ghost use Rattle.send_steps.specs.Steps.{endAt, waits, Judged, Lays};
 ghost use Rattle.send_steps.specs.Sends.{Sends};
 use outgoing::SendAnswer;
 use outgoing::Waiting;
 use queue::Place;
-use queue::Queue;
 use queue::Tail;
-use send_keys::SendEpoch;
-use send_keys::SendKeys;
 use send_words::APPLICATION;
 use send_words::APPLICATION_NEXT;
-use send_words::APPLICATION_SEALED;
 use send_words::CLOSED;
 use send_words::COUNT;
 use send_words::FIRST;
 use send_words::HANDSHAKE;
 use send_words::HANDSHAKE_NEXT;
-use send_words::HANDSHAKE_SEALED;
 use send_words::LENGTHS;
 use send_words::LIMIT;
 use send_words::MTU;
@@ -41,73 +36,66 @@ pub struct Verdict {
 
 // ---- the tests
 
-// The queue but for its lengths.
-fn queue_at(w: &[u64; WORDS]) -> Queue
-    ensures { λ r. ⌜ r ≡ bareQueue (now (w .entry)) ⌝ }
-{
-    Queue {
-        mtu: w[MTU] as usize,
-        limit: w[LIMIT] as usize,
-        first: w[FIRST] as usize,
-        count: w[COUNT] as usize,
-        closed: w[CLOSED] == 1,
-        lengths: [0; 16],
-    }
-}
-
-// The keys but for their IVs.
-pub fn keys_at(w: &[u64; WORDS]) -> SendKeys
-    ensures { λ r. ⌜ r ≡ bareKeys (now (w .entry)) ⌝ }
-{
-    let h = SendEpoch {
-        epoch: words::low(w[HANDSHAKE]),
-        iv: [0; 12],
-        next: w[HANDSHAKE_NEXT],
-        sealed: w[HANDSHAKE_SEALED],
-    };
-    let a = SendEpoch {
-        epoch: words::low(w[APPLICATION]),
-        iv: [0; 12],
-        next: w[APPLICATION_NEXT],
-        sealed: w[APPLICATION_SEALED],
-    };
-    SendKeys {
-        plaintext_next: w[PLAINTEXT_NEXT],
-        handshake: h,
-        application: a,
-    }
-}
-
 // Whether settings and ring are in range.
 pub fn is_sound(w: &[u64; WORDS]) -> bool
     ensures { λ r. ⌜ r ≡ isSound (queueOf (now (w .entry))) ⌝ }
 {
-    queue::is_sound(queue_at(w))
+    let limit = w[LIMIT] as usize;
+    if queue::is_setting(w[MTU] as usize, limit) {
+        if (w[FIRST] as usize) < limit {
+            return w[COUNT] as usize <= limit;
+        }
+    }
+    false
 }
 
 // Whether settings and ring are in range and the buffer lent for the queue is long enough.
 pub fn is_ready(w: &[u64; WORDS], room: usize) -> bool
     ensures { λ r. ⌜ r ≡ isReady (queueOf (now (w .entry))) room ⌝ }
 {
-    queue::is_ready(queue_at(w), room)
+    if is_sound(w) {
+        return w[LIMIT] as usize * w[MTU] as usize <= room;
+    }
+    false
 }
 
+// Whether an epoch may be sent in: 0, 2, or the application epoch.
 pub fn is_usable(w: &[u64; WORDS], epoch: u16) -> bool
     ensures { λ r. ⌜ r ≡ isUsable (stateOf (now (w .entry)) .keys) epoch ⌝ }
 {
-    send_keys::is_usable(keys_at(w), epoch)
+    if epoch == 0 {
+        return true;
+    }
+    if epoch == 2 {
+        return true;
+    }
+    if epoch < 3 {
+        return false;
+    }
+    epoch == words::low(w[APPLICATION])
 }
 
+// Whether a usable epoch has its keys.
 pub fn is_keyed(w: &[u64; WORDS], epoch: u16) -> bool
     ensures { λ r. ⌜ r ≡ isKeyed (stateOf (now (w .entry)) .keys) epoch ⌝ }
 {
-    send_keys::is_keyed(keys_at(w), epoch)
+    if epoch == 2 {
+        return words::low(w[HANDSHAKE]) == 2;
+    }
+    true
 }
 
+// The next number to send in an epoch.
 pub fn next_of(w: &[u64; WORDS], epoch: u16) -> u64
     ensures { λ r. ⌜ r ≡ nextOf (stateOf (now (w .entry)) .keys) epoch ⌝ }
 {
-    send_keys::next_of(keys_at(w), epoch)
+    if epoch == 0 {
+        return w[PLAINTEXT_NEXT];
+    }
+    if epoch == 2 {
+        return w[HANDSHAKE_NEXT];
+    }
+    w[APPLICATION_NEXT]
 }
 
 // The length of a slot's datagram.

@@ -1,18 +1,16 @@
 -- The sending side's state in words that the host keeps: which word is which, and what they stand for.
 use mathlib.Core.Bool.{Bool}
 use mathlib.Core.List.{List, [], _∷_}
-use Prim.Native.Nat.{ℕ, zero, suc, _+_, _≤_, _%_}
-use mathlib.Core.Path.{_≡_}
+use Prim.Native.Nat.{ℕ, zero, suc, _+_, _%_}
 use lib.Dec.{leb, eqb}
 use lib.ListN.{length, getD, set}
-use Rattle.base.specs.Bytes.{beAt, Bytes}
 use Rattle.base.specs.Choose.{both}
 use Rattle.queue.specs.declared.Queue.{Queue}
 use Rattle.send_keys.specs.declared.SendEpoch.{SendEpoch}
 use Rattle.outgoing.specs.declared.Waiting.{Waiting}
 use Rattle.outgoing.specs.declared.Sending.{Sending}
 use Rattle.words.specs.Fields.{bitOf}
-use Rattle.words.specs.Packed.{ivOf}
+use Rattle.words.specs.Packed.{ivOf, putIv}
 
 -- ---- which word is which
 
@@ -162,27 +160,9 @@ isFlat w = both (leb (getD w closed-at 0) 1) (leb (getD w sealing-at 0) 1)
 
 -- ---- words written
 
-abbrev pub LowLengths : List ℕ → Type 0
-LowLengths l = (length l ≡ 16) × ((i : ℕ) → getD l i 0 ≤ 65535)
-
-abbrev pub LowIv : List ℕ → Type 0
-LowIv l = (length l ≡ 12) × Bytes l
-
--- the lengths of the first n slots
-abbrev pub putLengths : ℕ → List ℕ → List ℕ → List ℕ
-putLengths zero l w = w
-putLengths (suc n) l w = set (putLengths n l w) (length-at n) (getD l n 0)
-
-abbrev pub putQueue : Queue → List ℕ → List ℕ
-putQueue q w =
-    putLengths 16 (q .lengths) (set (set (set (set (set w mtu-at (q .mtu)) limit-at (q .limit)) first-at (q .first)) count-at (q .count)) closed-at (bitOf (q .closed)))
-
 abbrev pub putWaiting : Waiting → List ℕ → List ℕ
 putWaiting x w =
     set (set (set (set (set (set w sealing-at (bitOf (x .any))) sealing-slot-at (x .slot)) sealing-start-at (x .start)) sealing-length-at (x .length)) sealing-epoch-at (x .epoch)) sealing-number-at (x .number)
 
-abbrev pub putIv : ℕ → List ℕ → List ℕ → List ℕ
-putIv at v w = set (set w at (beAt 4 v 0)) (back-of at) (beAt 8 v 4)
-
 abbrev pub putEpoch : ℕ → ℕ → SendEpoch → List ℕ → List ℕ
-putEpoch b at e w = putIv at (e .iv) (set (set (set w b (e .epoch)) (next-of b) (e .next)) (sealed-of b) (e .sealed))
+putEpoch b at e w = putIv at (back-of at) (e .iv) (set (set (set w b (e .epoch)) (next-of b) (e .next)) (sealed-of b) (e .sealed))

@@ -153,13 +153,13 @@ fn send(w: &mut [u64; WORDS], input: &[u8], queue: &mut [u8]) -> u8 {
     link_sending::send(w, epoch, content_type, base::behind(input, 5), queue)
 }
 
-// Sealed bytes are written where the question says.
+// Sealed bytes are written to the part that the question names.
 fn reply(w: &mut [u64; WORDS], input: &[u8], queue: &mut [u8]) -> u8 {
     let q = link_sending::sealing(w);
     let sealed = base::fragment(base::behind(input, 4), 0, q.length);
     let length = lines::get2(input, 2) as usize;
     let mask_0 = lines::get1(input, 0);
-    lines::push_all(queue, q.start, sealed);
+    lines::push_all(seal_steps::part(w, queue), 0, sealed);
     link_sending::sealed(w, length, mask_0, lines::get1(input, 1), queue)
 }
 

@@ -1,12 +1,12 @@
 -- Bytes packed into words, the first byte highest: what is packed reads back, for every number of bytes. Assumes nothing.
-use mathlib.Core.List.{List, [], _∷_, _++_}
+use mathlib.Core.List.{List, _∷_, _++_}
 use mathlib.Core.Path.{_≡_, refl, sym, ap, _∙_}
 use Prim.Native.Nat.{ℕ, zero, suc, _+_, _*_, _/_, _%_, _^_, _≤_, _<_}
 use native.Mathlib.Nat.{mod-eq-of-lt, mul-assoc, pow-succ', mul-add-div-right, mul-add-mod-self-right}
 use native.Mathlib.Numerals.{add-one}
 use native.Mathlib.Omega.{arith}
 use lib.Arith.{digits-lt, digits-div}
-use lib.ListN.{length, getD, take, drop}
+use lib.ListN.{length, getD, set, take, drop}
 use lib.Seq.{drop-cons, take-add, take-all}
 use Rattle.base.specs.Bytes.{be, beAt, Bytes}
 use Rattle.base.specs.Parts.{part}
@@ -47,23 +47,16 @@ be-beAt (suc k) d i b h =
 unfoldable pub ivOf : ℕ → ℕ → List ℕ
 ivOf front back = be 4 front ++ be 8 back
 
+abbrev pub LowIv : List ℕ → Type 0
+LowIv v = (length v ≡ 12) × Bytes v
+
+-- an IV put into two words
+abbrev pub putIv : ℕ → ℕ → List ℕ → List ℕ → List ℕ
+putIv front back v w = set (set w front (beAt 4 v 0)) back (beAt 8 v 4)
+
 pub iv-back : (v : List ℕ) → length v ≡ 12 → Bytes v → ivOf (beAt 4 v 0) (beAt 8 v 4) ≡ v
 unfolding ivOf
 iv-back v h b =
     ap (λ (l : List ℕ). l ++ be 8 (beAt 8 v 4)) (be-beAt 4 v 0 b (omega arith))
     ∙ ap (λ (l : List ℕ). take 4 v ++ l) (be-beAt 8 v 4 b (omega arith))
     ∙ sym (take-add 4 8 v) ∙ take-all 12 v (omega arith)
-
--- ---- four and eight bytes by halves
-
-pub beAt-four : (d : List ℕ) (i : ℕ) → beAt 4 d i ≡ beAt 2 d i * 65536 + beAt 2 d (i + 2)
-beAt-four d i =
-    let z : i + 1 + 1 ≡ i + 2 = omega arith in
-    let y : beAt 2 d (i + 1 + 1) ≡ beAt 2 d (i + 2) = ap (beAt 2 d) z in
-    omega arith
-
-pub beAt-eight : (d : List ℕ) (i : ℕ) → beAt 8 d i ≡ beAt 4 d i * 4294967296 + beAt 4 d (i + 4)
-beAt-eight d i =
-    let z : i + 1 + 1 + 1 + 1 ≡ i + 4 = omega arith in
-    let y : beAt 4 d (i + 1 + 1 + 1 + 1) ≡ beAt 4 d (i + 4) = ap (beAt 4 d) z in
-    omega arith

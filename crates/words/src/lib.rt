@@ -1,9 +1,9 @@
 // Bytes packed into words, the first byte highest, and read back.
 ghost use mathlib.Core.Path.{_≡_};
-ghost use Prim.Native.Nat.{_+_, _≤_, _<_, _%_};
+ghost use Prim.Native.Nat.{_≤_, _<_, _%_};
 ghost use lib.ListN.{length};
-ghost use Rattle.base.specs.Bytes.{beAt, Bytes};
-ghost use Rattle.words.specs.Packed.{ivOf};
+ghost use Rattle.base.specs.Bytes.{Bytes};
+ghost use Rattle.words.specs.Packed.{ivOf, LowIv, putIv};
 
 // The elements of a slice are bytes.
 pub fn bytes(d: &[u8]) -> u8
@@ -11,24 +11,6 @@ pub fn bytes(d: &[u8]) -> u8
     ensures { λ _. ⌜ Bytes (now (d .entry)) ⌝ }
 {
     d[0]
-}
-
-// The number that four bytes make, from place i on.
-pub fn be32(d: &[u8], i: usize) -> u64
-    requires { ⌜ i + 4 ≤ length (now d) ⌝ }
-    ensures { λ r. ⌜ (r ≡ beAt 4 (now (d .entry)) i) × (r < 4294967296) ⌝ }
-{
-    let j = i + 2;
-    base::be16(d, i) * 0x1_0000 + base::be16(d, j)
-}
-
-// The number that eight bytes make, from place i on.
-pub fn be64(d: &[u8], i: usize) -> u64
-    requires { ⌜ i + 8 ≤ length (now d) ⌝ }
-    ensures { λ r. ⌜ r ≡ beAt 8 (now (d .entry)) i ⌝ }
-{
-    let j = i + 4;
-    be32(d, i) * 0x1_0000_0000 + be32(d, j)
 }
 
 // The IV that two words hold.
@@ -49,6 +31,16 @@ pub fn iv_of(front: u64, back: u64) -> [u8; 12]
         (back / 0x100 % 256) as u8,
         (back % 256) as u8,
     ]
+}
+
+// An IV put into two words.
+pub fn put_iv(w: &mut [u64], front: usize, back: usize, iv: [u8; 12])
+    requires { ⌜ (front < length (now w)) × (back < length (now w)) ⌝ }
+    ensures { λ _. ⌜ (now (w .exit) ≡ putIv front back iv (now (w .entry))) × LowIv iv ⌝ }
+{
+    bytes(&iv);
+    w[front] = base::be32(&iv, 0);
+    w[back] = base::be64(&iv, 4);
 }
 
 // A value of 16 bits in a word.

@@ -1,10 +1,14 @@
 -- `link_words::put_entry` meets its contract. Assumes nothing.
 use borrow.Author.Needs.{needs}
-use mathlib.Core.Path.{_≡_, refl, sym, ap, _∙_}
-use native.Mathlib.Omega.{arith}
 use Rattle.link_words.specs.Entries.{written}
 use Rattle.link_words.proofs.put_entry.Statement.{statement}
 use Rattle.link_words.proofs.put_entry.Tie as tie
+
+add-front : tie.Need-add-front
+add-front c = search needs
+
+add-back : tie.Need-add-back
+add-back c = search needs
 
 sized-requires : tie.Need-sized-requires
 sized-requires c κs = search needs
@@ -25,12 +29,14 @@ put-iv-requires : tie.Need-put-iv-requires
 put-iv-requires c κs = search needs
 
 returns : tie.Need-returns
-returns c = rw (c .put-iv .ensures .0, c .before .before .put-window .ensures, c .before .before .before .before .wide .ensures .0) (written (c .before .before .before .before .before .before .before .before .before .args .i) (c .before .before .before .before .before .before .before .before .before .args .e) (c .before .before .before .before .before .before .before .before .before .args .w .now) (c .before .before .before .before .before .before .before .before .before .pre) (c .before .before .before .before .before .sized .ensures) (rw (c .before .before .before .before .wide .ensures .0) at (c .before .before .before .before .wide .ensures .1)) (c .put-iv .ensures .1))
+returns c = let a = c .before .before .before .before .before .before .before .before .before .args in rw (c .put-iv .ensures .0, c .before .before .put-window .ensures, c .before .before .before .before .wide .ensures .0) (written (a .i) (a .e) (a .w .now) (c .before .before .before .before .before .before .before .before .before .pre) (c .before .before .before .before .before .sized .ensures) (rw (c .before .before .before .before .wide .ensures .0) at (c .before .before .before .before .wide .ensures .1)) (c .put-iv .ensures .1))
 
 pub put-entry-spec : {M : Type 1} → statement M
 put-entry-spec =
     tie.close
     (tie.spec
+    add-front
+    add-back
     sized-requires
     wide-requires
     mul-w

@@ -9,6 +9,9 @@ add-next c = search needs
 add-sealed : tie.Need-add-sealed
 add-sealed c = search needs
 
+add-back : tie.Need-add-back
+add-back c = search needs
+
 wide-requires : tie.Need-wide-requires
 wide-requires c κs = search needs
 
@@ -30,11 +33,14 @@ mul-w-3 c = search needs
 element-write-w-3 : tie.Need-element-write-w-3
 element-write-w-3 c = search needs
 
+sized-requires : tie.Need-sized-requires
+sized-requires c κs = search needs
+
 put-iv-requires : tie.Need-put-iv-requires
 put-iv-requires c κs = search needs
 
 returns : tie.Need-returns
-returns c = (rw (c .before .before .wide .ensures .0) at (c .put-iv .ensures .0), rw (c .before .before .wide .ensures .0) at (c .before .before .wide .ensures .1), c .put-iv .ensures .1)
+returns c = (rw (c .before .before .before .before .wide .ensures .0) at (c .put-iv .ensures .0), rw (c .before .before .before .before .wide .ensures .0) at (c .before .before .before .before .wide .ensures .1), c .put-iv .ensures .1)
 
 pub put-epoch-spec : {M : Type 1} → statement M
 put-epoch-spec =
@@ -42,6 +48,7 @@ put-epoch-spec =
     (tie.spec
     add-next
     add-sealed
+    add-back
     wide-requires
     mul-w
     element-write-w
@@ -49,5 +56,6 @@ put-epoch-spec =
     element-write-w-2
     mul-w-3
     element-write-w-3
+    sized-requires
     put-iv-requires
     returns)
