@@ -2,17 +2,15 @@
 use mathlib.Core.Bool.{Bool, true, false}
 use mathlib.Core.List.{List}
 use mathlib.Core.Path.{_≡_, refl, sym, ap, _∙_}
-use Prim.Native.Nat.{ℕ, _+_, _*_, _≤_, _<_}
-use lib.Dec.{ltb, eqb}
+use Prim.Native.Nat.{ℕ, _+_, _≤_, _<_}
 use borrow.Author.Tests.{lt-ltb, le-ltb, eq-eqb, ne-eqb}
 use lib.ListN.{length, getD, set}
 use native.Mathlib.Omega.{arith}
 use Rattle.base.specs.Choose.{choose, if-true, if-false}
 use Rattle.queue.specs.Queue.{isReady}
-use Rattle.outgoing.specs.declared.SendAnswer.{SendAnswer}
-use Rattle.outgoing.specs.declared.SendAnswer.the-variants.{Done, OutOfRange}
-use Rattle.outgoing.specs.State.{isDone}
-use Rattle.outgoing.specs.Send.{sendAnswer, sendState, sendMemory}
+use Rattle.send_keys.specs.declared.SendAnswer.{SendAnswer}
+use Rattle.send_keys.specs.declared.SendAnswer.the-variants.{Done, OutOfRange}
+use Rattle.outgoing.specs.Send.{sendState}
 use Rattle.flight.specs.declared.Entry.{Entry}
 use Rattle.flight.specs.declared.Flight.{Flight}
 use Rattle.flight.specs.Flight.{entryAt}
@@ -23,12 +21,13 @@ use Rattle.acks.specs.declared.Notes.{Notes}
 use Rattle.acks.specs.declared.NoteAnswer.{NoteAnswer}
 use Rattle.acks.specs.declared.Noting.{Noting}
 use Rattle.acks.specs.declared.AckSent.{AckSent}
-use Rattle.acks.specs.Acks.{forgotten, ackEpoch, ackContent, ackLen, ackAnswer, ackSent, nothingSent, noticeState, noticeMemory, sentAck, ackMemory, length-content}
+use Rattle.acks.specs.Acks.{forgotten, ackEpoch, ackContent, ackAnswer, ackSent, nothingSent, noticeState, noticeMemory, sentAck, ackMemory, length-content}
 use Rattle.send_words.specs.Words.{stateOf, isFlat}
 use Rattle.send_steps.specs.Sends.{Sends}
 use Rattle.flight_words.specs.Words.{words, saved-at, entryAt as rowAt, flightOf, flatTo}
 use Rattle.flight_words.specs.Laws.{begins}
 use Rattle.flight_words.specs.Entries.{entry-at, Entered, withMarked}
+use Rattle.send_keys.specs.Answer.{isDone}
 
 -- ---- notes
 

@@ -13,7 +13,7 @@ ghost use Rattle.flight_words.specs.Words.{saved-at, flightOf, flatTo};
 ghost use Rattle.ack_steps.specs.Steps.{notesOf, tabled, noting, SendsAck, Flights, actedOn};
 use acks::NoteAnswer;
 use flight_words::SAVED;
-use outgoing::SendAnswer;
+use send_keys::SendAnswer;
 use process_ack::Tally;
 use send_words::APPLICATION;
 use send_words::WORDS;
@@ -123,7 +123,7 @@ pub fn send_ack(
         return SendAnswer::Done;
     }
     let a = send_noted(w, n, epochs, numbers, queue);
-    if outgoing::is_done(a) {
+    if send_keys::is_done(a) {
         *count = [0];
         return a;
     }

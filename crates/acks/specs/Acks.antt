@@ -14,10 +14,10 @@ use Rattle.queue.specs.Queue.{isReady}
 use Rattle.send_keys.specs.declared.SendKeys.{SendKeys}
 use Rattle.outgoing.specs.declared.Sending.{Sending}
 use Rattle.outgoing.specs.declared.Sent.{Sent}
-use Rattle.outgoing.specs.declared.SendAnswer.{SendAnswer}
-use Rattle.outgoing.specs.declared.SendAnswer.the-variants as send
-use Rattle.outgoing.specs.State.{isDone}
+use Rattle.send_keys.specs.declared.SendAnswer.{SendAnswer}
+use Rattle.send_keys.specs.declared.SendAnswer.the-variants as send
 use Rattle.outgoing.specs.Send.{sendAnswer, sendState, sendMemory}
+use Rattle.send_keys.specs.Answer.{isDone}
 use Rattle.acks.specs.declared.Notes.{Notes}
 use Rattle.acks.specs.declared.NoteAnswer.{NoteAnswer}
 use Rattle.acks.specs.declared.NoteAnswer.the-variants.{Noted, Full, OutOfRange}

@@ -5,7 +5,7 @@ ghost use lib.ListN.{length};
 ghost use Rattle.base.specs.Bytes.{be};
 ghost use Rattle.base.specs.Parts.{splice};
 ghost use Rattle.acks.specs.Acks.{pairOf};
-use outgoing::SendAnswer;
+use send_keys::SendAnswer;
 use outgoing::Sending;
 
 // Epochs and numbers of the records noted, in the order of noting.

@@ -6,19 +6,18 @@ use lib.ListN.{length}
 use mathlib.Core.List.{List}
 use Rattle.base.specs.Choose.{choose}
 use Rattle.send_keys.specs.Keys.{nextOf}
-use Rattle.outgoing.specs.declared.SendAnswer.{SendAnswer}
+use Rattle.send_keys.specs.declared.SendAnswer.{SendAnswer}
 use Rattle.outgoing.specs.declared.Sending.{Sending}
 use Rattle.outgoing.specs.Send.{sendAnswer}
-use Rattle.outgoing.specs.State.{isDone}
 use Rattle.flight.specs.Flight.{entryAt}
 use Rattle.flight.specs.Save.{saveAnswer}
 use Rattle.messages.specs.Cut.{epochOf}
 use Rattle.messages.specs.Message.{contentOf, Laid, sizeNow, pieceOf, beginning, messageAnswer}
 use Rattle.acks.specs.Acks.{ackEpoch, ackContent, ackLen, ackAnswer}
-use Rattle.resend.specs.declared.ResendAnswer.{ResendAnswer}
 use Rattle.resend.specs.Resend.{Laying as Again, contentAt, againAnswer, againAfter}
-use Rattle.resend.specs.Tests.{isDone as isResent, closedState, resendAnswer}
+use Rattle.resend.specs.Tests.{closedState, resendAnswer}
 use Rattle.waiting.specs.Calls.{Stores, SendCall, keySend·, send·, save·, message·, beginFlight·, resend·, note·, sendAck·, ack·, fill·, sealed·, take·}
+use Rattle.send_keys.specs.Answer.{isDone}
 use Rattle.ends.specs.Sender.{Books, Sender, enters, sendsWith}
 
 -- a record sent: under the number that was next in its epoch, with the type and content that the host gave
@@ -60,8 +59,8 @@ againBooks kept l (suc n) b =
 abbrev pub closing : Stores → Again
 closing w = record { state = closedState (w .state); flight = w .flight; queue = w .queue }
 
-unfoldable pub resendBooks : ResendAnswer → Stores → Books → Books
-resendBooks a w b = choose (isResent a) (againBooks (w .kept) (closing w) (w .flight .saved) b) b
+unfoldable pub resendBooks : SendAnswer → Stores → Books → Books
+resendBooks a w b = choose (isDone a) (againBooks (w .kept) (closing w) (w .flight .saved) b) b
 
 -- an ACK: a record of type 26 that names the records noted, if there are any
 unfoldable pub ackBooks : Stores → Books → Books

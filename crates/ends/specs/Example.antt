@@ -35,7 +35,7 @@ use Rattle.flight.specs.Save as flight-save
 use Rattle.handshake.specs.Header as handshake-header
 use Rattle.messages.specs.Cut as messages-cut
 use Rattle.messages.specs.Message as messages-message
-use Rattle.waiting.specs.Calls.{SendCall, keySend·, send·, save·, message·, beginFlight·, resend·, note·, sendAck·, ack·, fill·, sealed·, take·, Reply, only}
+use Rattle.waiting.specs.Calls.{SendCall, keySend·, send·, save·, message·, resend·, note·, sendAck·, ack·, fill·, sealed·, take·, Reply, only}
 use Rattle.history.specs.Account as history-account
 use Rattle.history.specs.Receiver as history-receiver
 use Rattle.process_ack.specs.Ack as process-ack-ack
@@ -55,7 +55,7 @@ use Rattle.ends.specs.Ledger as ends-ledger
 use Rattle.ends.specs.Ledger.{Sent, Item, Kept, Name, Ledger, newLedger, withKeys, withSaved, withMessages, total, keyed, sendNumber, saveNumber, posted, messageNumber, resendNumber}
 use Rattle.ends.specs.Proof.{every-list}
 use Rattle.ends.specs.Sender as ends-sender
-use Rattle.ends.specs.World.{Side, post, gateway, Said, Deed, sending, receiving, Event, run, Setting, fresh-pair, Honest}
+use Rattle.ends.specs.World.{Side, post, gateway, Said, sending, receiving, Event, run, Setting, fresh-pair, Honest}
 
 -- every definition that a list computes with
 opened : Unit {0}

@@ -5,11 +5,10 @@ use mathlib.Core.Bool.{Bool, true, false, false≢true}
 use mathlib.Core.List.{List, [], _∷_, _++_, List·Memᴰ as Mem, List·Memᴰ·tail as there}
 use mathlib.Core.Path.{_≡_, refl, sym, ap, subst, _∙_}
 use Rattle.base.specs.Choose.{choose, either}
-use Rattle.outgoing.specs.declared.SendAnswer.{SendAnswer}
-use Rattle.outgoing.specs.declared.SendAnswer.the-variants as send
-use Rattle.outgoing.specs.State.{refusal, isDone}
+use Rattle.send_keys.specs.declared.SendAnswer.{SendAnswer}
 use Rattle.history.specs.Account.{upd}
 use Rattle.history.specs.Lists.{upd-by}
+use Rattle.send_keys.specs.Answer.{isDone, refusal, done-number}
 use Rattle.ends.specs.Ledger.{Sent, Kept, Name, isNamed}
 use Rattle.ends.specs.Sender.{Books, enters, entersAll}
 
@@ -66,17 +65,6 @@ or-is {a} {b} {p} {q} g h = split a p ∙ (λ i. either (g i) (h i))
 abbrev pub Told : SendAnswer → ℕ → Type 0
 Told a n = refusal a ≡ n
 
-done-is : (a : SendAnswer) → eqb (refusal a) 0 ≡ isDone a
-done-is send.Done = refl
-done-is send.OutOfRange = refl
-done-is send.BadEpoch = refl
-done-is send.BadRecord = refl
-done-is send.KeysAbsent = refl
-done-is send.MessagesSpent = refl
-done-is send.FlightFull = refl
-done-is send.QueueFull = refl
-done-is send.NumbersSpent = refl
-
 -- it is done where the account's number is 0
 pub done-by : (a : SendAnswer) {n : ℕ} → refusal a ≡ n → eqb n 0 ≡ isDone a
-done-by a h = ap (λ (n : ℕ). eqb n 0) (sym h) ∙ done-is a
+done-by a h = ap (λ (n : ℕ). eqb n 0) (sym h) ∙ done-number a

@@ -14,10 +14,9 @@ use Rattle.queue.specs.Laid.{bytes-plaintext, trailerOf}
 use Rattle.queue.specs.Queue.{lastLen}
 use Rattle.send_keys.specs.declared.SendKeys.{SendKeys}
 use Rattle.send_keys.specs.Keys.{nextOf}
-use Rattle.outgoing.specs.declared.SendAnswer.{SendAnswer}
+use Rattle.send_keys.specs.declared.SendAnswer.{SendAnswer}
 use Rattle.outgoing.specs.declared.Sending.{Sending}
 use Rattle.outgoing.specs.Send.{laidState, laidMemory, sendAnswer, sendState, sendMemory}
-use Rattle.outgoing.specs.State.{isDone}
 use Rattle.flight.specs.declared.Flight.{Flight}
 use Rattle.flight.specs.declared.Saved.{Saved}
 use Rattle.flight.specs.Save.{saveAnswer, saveState, saveQueue}
@@ -30,6 +29,7 @@ use Rattle.waiting.specs.Sends.{Sent, sent, saved, recordOf, sentTo, laid-holds
 use Rattle.history.specs.Claim.{asHanded}
 use Rattle.history.specs.Lists.{upd-same}
 use Rattle.history.specs.Receiver.{Sealed, Handed}
+use Rattle.send_keys.specs.Answer.{isDone}
 use Rattle.ends.specs.Books.{written, lays, pieceSize, piece, pieceBooks, laysAll, messageBooks}
 use Rattle.ends.specs.Laws.{upd-grows, by-three, by-four}
 use Rattle.ends.specs.Numbers.{Numbers, sent-numbers, Ivs, used-ivs}

@@ -11,8 +11,7 @@ use mathlib.Core.Path.{_≡_, refl, sym, ap, subst, _∙_}
 use native.Mathlib.Omega.{arith}
 use Rattle.base.specs.Bytes.{beAt}
 use Rattle.base.specs.Choose.{choose, both, either, if-true, if-false, test-cases, both-true, both-false, eq-or-ne}
-use Rattle.outgoing.specs.declared.SendAnswer.the-variants.{Done}
-use Rattle.outgoing.specs.State.{refusal}
+use Rattle.send_keys.specs.declared.SendAnswer.the-variants.{Done}
 use Rattle.flight.specs.declared.Begun.{Begun}
 use Rattle.flight.specs.declared.Entry.{Entry}
 use Rattle.flight.specs.declared.Flight.{Flight}
@@ -24,6 +23,7 @@ use Rattle.process_ack.specs.Ack.{pairsIn, isPair, isRemembered, isAcked, withM
 use Rattle.waiting.specs.Calls.{Stores, beginFlight·, ack·, only}
 use Rattle.history.specs.Account.{isIn}
 use Rattle.history.specs.Lists.{by-both}
+use Rattle.send_keys.specs.Answer.{refusal}
 use Rattle.ends.specs.Laws.{markedAs, or-is}
 use Rattle.ends.specs.Ledger as ledger
 use Rattle.ends.specs.Ledger.{Kept, Name, Ledger, known, isFormed, pairsOf, namesIn, isNamed, marked, anyTwo, allTwo, isOver, ackedBy, after, sentBy}

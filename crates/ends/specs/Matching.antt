@@ -20,10 +20,10 @@ use Rattle.queue.specs.Laid.{recordLen}
 use Rattle.queue.specs.Queue.{isReady, slotOf, lastLen, tailOf, joins, placeOf, grown, laid}
 use Rattle.send_keys.specs.declared.SendKeys.{SendKeys}
 use Rattle.send_keys.specs.Keys.{isUsable, isKeyed, nextOf, used, used-next}
-use Rattle.outgoing.specs.declared.SendAnswer.the-variants.{Done, QueueFull, NumbersSpent}
+use Rattle.send_keys.specs.declared.SendAnswer.the-variants.{Done, QueueFull, NumbersSpent}
 use Rattle.outgoing.specs.declared.Sending.{Sending}
 use Rattle.outgoing.specs.Send.{spotOf, isFull, isSpent, laidState, laidMemory}
-use Rattle.outgoing.specs.State.{refusal, isAllowed, isContentType}
+use Rattle.outgoing.specs.State.{isAllowed, isContentType}
 use Rattle.flight.specs.declared.Entry.{Entry}
 use Rattle.flight.specs.declared.Flight.{Flight}
 use Rattle.flight.specs.Flight.{entryOf, noEntry, entryAt, isKept, savedWith, savedMemory, Keeps}
@@ -39,6 +39,7 @@ use Rattle.waiting.specs.Seals.{ready-always}
 use Rattle.waiting.specs.Sends.{Sent, recordOf, sentTo, laid-holds}
 use Rattle.history.specs.Account.{upd}
 use Rattle.history.specs.Lists.{upd-same, upd-by, by-both}
+use Rattle.send_keys.specs.Answer.{refusal}
 use Rattle.ends.specs.Books.{booksBy}
 use Rattle.ends.specs.Laws.{off-parts, Told}
 use Rattle.ends.specs.Ledger as ledger

@@ -9,14 +9,14 @@ use mathlib.Core.Logic.{_⊎_, inl, inr, ⊎-elim}
 use mathlib.Core.Path.{_≡_, refl, sym, ap, subst, _∙_}
 use native.Mathlib.Omega.{arith}
 use Rattle.base.specs.Choose.{choose, both, either, if-true, if-false, by-test, test-cases, either-true, either-false}
-use Rattle.send_keys.specs.declared.KeyAnswer.{KeyAnswer}
+use Rattle.send_keys.specs.declared.SendAnswer.{SendAnswer}
 use Rattle.send_keys.specs.declared.SendKeys.{SendKeys}
 use Rattle.send_keys.specs.Keys.{isUsable, isKeyed, nextOf, used, sealedUpTo, keyAnswer, begun, keyed, next-plaintext, next-handshake, next-application, used-next}
-use Rattle.outgoing.specs.State.{isKeyedNow}
 use Rattle.history.specs.Account.{upd}
 use Rattle.history.specs.Claim.{Once}
 use Rattle.history.specs.Lists.{upd-same, upd-other, upd-by, mem-by, either-cases, both-cases}
 use Rattle.history.specs.Receiver.{Handed}
+use Rattle.send_keys.specs.Answer.{isDone}
 
 -- at or below an epoch that was keyed
 abbrev pub Reached : SendKeys → ℕ → Type 0
@@ -100,10 +100,10 @@ pub record NewEpoch (k : SendKeys) (e : ℕ) : Type 0 where
   pub handshake : k .handshake .epoch < e
   pub application : k .application .epoch < e
 
-pub new-epoch : (k : SendKeys) (sound : Bool) (e : ℕ) → isKeyedNow (keyAnswer k sound e) ≡ true → NewEpoch k e
+pub new-epoch : (k : SendKeys) (sound : Bool) (e : ℕ) → isDone (keyAnswer k sound e) ≡ true → NewEpoch k e
 unfolding keyAnswer
 new-epoch k sound e =
-    let P : KeyAnswer → Type 0 = λ a. isKeyedNow a ≡ true → NewEpoch k e in
+    let P : SendAnswer → Type 0 = λ a. isDone a ≡ true → NewEpoch k e in
     by-test P
     (λ s. by-test P (λ a z. absurd (false≢true z))
     (λ a. by-test P (λ b z. absurd (false≢true z))

@@ -14,10 +14,9 @@ use Rattle.queue.specs.declared.Tail.{Tail}
 use Rattle.queue.specs.Laid.{recordLen}
 use Rattle.queue.specs.Queue.{tailOf, placeOf, grown}
 use Rattle.send_keys.specs.Keys.{nextOf}
-use Rattle.outgoing.specs.declared.SendAnswer.{SendAnswer}
+use Rattle.send_keys.specs.declared.SendAnswer.{SendAnswer}
 use Rattle.outgoing.specs.declared.Sending.{Sending}
 use Rattle.outgoing.specs.Send.{laidState, laidMemory}
-use Rattle.outgoing.specs.State.{refusal, isDone}
 use Rattle.flight.specs.Flight.{savedWith, savedMemory}
 use Rattle.flight.specs.Save.{saveAnswer, save-safe}
 use Rattle.messages.specs.declared.Cut.{Cut}
@@ -47,6 +46,7 @@ use Rattle.whole.specs.Lay.{layOne, Able, len-more, usable, ends, piece-done, p
 use Rattle.whole.specs.Leaves.{tailBehind}
 use Rattle.whole.specs.Whole.{done-able, reach-is}
 use Rattle.history.specs.Lists.{upd-same, by-both}
+use Rattle.send_keys.specs.Answer.{isDone, refusal}
 use Rattle.ends.specs.Books as books
 use Rattle.ends.specs.Books.{pieceBooks, laysAll, messageBooks}
 use Rattle.ends.specs.Cuts.{next, behind, size-rest, content-long, pieces-last, pieces-more}

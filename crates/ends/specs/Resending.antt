@@ -15,16 +15,15 @@ use Rattle.queue.specs.Laid.{recordLen}
 use Rattle.queue.specs.Queue.{tailOf, placeOf, grown}
 use Rattle.send_keys.specs.declared.SendKeys.{SendKeys}
 use Rattle.send_keys.specs.Keys.{isUsable, nextOf}
-use Rattle.outgoing.specs.declared.SendAnswer.the-variants as send
+use Rattle.send_keys.specs.declared.SendAnswer.the-variants as send
 use Rattle.outgoing.specs.Send.{laidState, laidMemory, sendAnswer}
-use Rattle.outgoing.specs.State.{isDone as isSent}
 use Rattle.flight.specs.declared.Entry.{Entry}
 use Rattle.flight.specs.declared.Flight.{Flight}
 use Rattle.flight.specs.Flight.{entryAt}
-use Rattle.resend.specs.declared.ResendAnswer.{ResendAnswer}
-use Rattle.resend.specs.declared.ResendAnswer.the-variants.{Done, OutOfRange, BadEpoch, BadRecord, KeysAbsent, HistoryFull, QueueFull, NumbersSpent}
+use Rattle.send_keys.specs.declared.SendAnswer.{SendAnswer}
+use Rattle.send_keys.specs.declared.SendAnswer.the-variants.{Done}
 use Rattle.resend.specs.Resend.{withNumber, canRemember, can-few, renewed, Laying, contentAt, againAnswer, againAt, againAfter, resendState, resendQueue}
-use Rattle.resend.specs.Tests.{refusal, isDone, remembers, hasRoom, passes, allPass, joined, tailAfter, countAfter, isOver, isSpent, anySpent, closedState, fitAnswer, resendAnswer}
+use Rattle.resend.specs.Tests.{remembers, hasRoom, passes, allPass, joined, tailAfter, countAfter, isOver, isSpent, anySpent, closedState, fitAnswer, resendAnswer}
 use Rattle.resent.specs.Plan.{Able, able}
 use Rattle.resent.specs.Steps.{again-skips, again-lays, renewed-entries, renewed-numbers, renewed-saved, renewed-other, Tables, Reached, again-done, reaches}
 use Rattle.resent.specs.Whole.{can-remember, renewed-own, renewed-cell, renewed-cells}
@@ -32,6 +31,7 @@ use Rattle.waiting.specs.Calls.{Stores, resend·, stored, only}
 use Rattle.waiting.specs.Resends.{closed-holds}
 use Rattle.waiting.specs.Sends as sends
 use Rattle.history.specs.Lists.{upd-by, by-both}
+use Rattle.send_keys.specs.Answer.{isDone, refusal, done-number}
 use Rattle.ends.specs.Books.{lays, againBooks, closing, resendBooks}
 use Rattle.ends.specs.Laws.{enters-append, under, or-is}
 use Rattle.ends.specs.Ledger as ledger
@@ -206,10 +206,10 @@ planned-all w l n (k ∷ ks) g es p =
 
 -- ---- the answer
 
-abbrev Told : ResendAnswer → ℕ → Type 0
+abbrev Told : SendAnswer → ℕ → Type 0
 Told a n = refusal a ≡ n
 
-abbrev answerOf : Stores → ResendAnswer
+abbrev answerOf : Stores → SendAnswer
 answerOf w = resendAnswer (w .state) (w .flight) (length (w .queue)) (length (w .kept))
 
 module _ (w : Stores) (l : Ledger) (i : Matches w l) where
@@ -442,7 +442,7 @@ module _ (w : Stores) (a : Able (w .state) (w .flight) (w .kept) (w .queue)) (t 
       accepted : sends.Sent (r .state) (length (r .queue)) (k .epoch) (k .type) (length (k .content))
       accepted =
           sends.sent (r .state) (length (r .queue)) (k .epoch) (k .type) (length (k .content))
-          (ap isSent (sym (λ j. sendAnswer (r .state) (length (r .queue)) (here .epoch j) (here .type j) (length (content-is j))) ∙ done))
+          (ap isDone (sym (λ j. sendAnswer (r .state) (length (r .queue)) (here .epoch j) (here .type j) (length (content-is j))) ∙ done))
 
       number-is : nextOf (r .state .keys) (k .epoch) ≡ g .ledger .next (k .epoch)
       number-is = o .matches .keys .next (k .epoch) (accepted .usable)
@@ -506,16 +506,6 @@ module _ (w : Stores) (a : Able (w .state) (w .flight) (w .kept) (w .queue)) (t 
       (by-test (λ (v : Going). Sofar w (suc n) v ks) (sofar-passed n below g k ks o) (sofar-sent n below g k ks o)))
 
 -- ---- the call
-
-done-number : (a : ResendAnswer) → eqb (refusal a) 0 ≡ isDone a
-done-number Done = refl
-done-number OutOfRange = refl
-done-number BadEpoch = refl
-done-number BadRecord = refl
-done-number KeysAbsent = refl
-done-number HistoryFull = refl
-done-number QueueFull = refl
-done-number NumbersSpent = refl
 
 module _ (w : Stores) (l : Ledger) (i : Matches w l) where
   accepted-is : eqb (resendNumber l) 0 ≡ isDone (answerOf w)

@@ -6,19 +6,19 @@ use mathlib.Core.List.{List}
 use mathlib.Core.Path.{refl, subst}
 use Rattle.outgoing.specs.declared.Sending.{Sending}
 use Rattle.outgoing.specs.Send.{sendAnswer, sendState, sendMemory}
-use Rattle.outgoing.specs.State.{isDone}
 use Rattle.flight.specs.Flight.{entryAt}
 use Rattle.acks.specs.declared.AckSent.{AckSent}
 use Rattle.acks.specs.Acks.{ackEpoch, ackContent, ackLen, noticeState, noticeMemory, ackAnswer, ackSent, sentAck, ackMemory, length-content}
-use Rattle.resend.specs.declared.ResendAnswer.{ResendAnswer}
+use Rattle.send_keys.specs.declared.SendAnswer.{SendAnswer}
 use Rattle.resend.specs.declared.Resent.{Resent}
 use Rattle.resend.specs.Resend.{Laying as Again, contentAt, sentAgain, againAt, againAfter, resendState, resendQueue}
-use Rattle.resend.specs.Tests.{isDone as isResent, closedState}
+use Rattle.resend.specs.Tests.{closedState}
 use Rattle.waiting.specs.Calls.{Stores}
 use Rattle.waiting.specs.Queued.{Queued}
 use Rattle.waiting.specs.Resends.{closed-holds, againSent, afterResend, afterAck}
 use Rattle.waiting.specs.Sends.{afterSend}
 use Rattle.history.specs.Receiver.{Sealed}
+use Rattle.send_keys.specs.Answer.{isDone}
 use Rattle.ends.specs.Books.{lays, againBooks, closing, resendBooks, ackBooks}
 use Rattle.ends.specs.Laws.{by-three, by-four}
 use Rattle.ends.specs.Laying.{Laying, alike-lays, send-lays}
@@ -35,12 +35,12 @@ module _ (log : ℕ → List Sealed) (gone : List Line) (ivs : ℕ → List ℕ)
       by-three (λ (a : Again) (us : List (List Queued)) (c : Books). Laying log gone ivs (a .state) (a .queue) us c) (entryAt (r .flight) n .marked)
       (λ m. ih) (λ m. send-lays ih (entryAt (r .flight) n .epoch) (entryAt (r .flight) n .«content_type») (contentAt kept n r))
 
-  pub resend-lays : (a : ResendAnswer) (w : Stores) (ds : List (List Queued)) (b : Books) → Laying log gone ivs (w .state) (w .queue) ds b
+  pub resend-lays : (a : SendAnswer) (w : Stores) (ds : List (List Queued)) (b : Books) → Laying log gone ivs (w .state) (w .queue) ds b
       → Laying log gone ivs (resendState a (w .state) (w .flight) (w .kept) (w .queue) .state) (resendQueue a (w .state) (w .flight) (w .kept) (w .queue))
       (afterResend a (w .state) (w .flight) (w .kept) (w .queue) ds) (resendBooks a w b)
   unfolding resendState resendQueue resendBooks closedState
   resend-lays a w ds b i =
-      by-four (λ (r : Resent) (q : List ℕ) (us : List (List Queued)) (c : Books). Laying log gone ivs (r .state) q us c) (isResent a)
+      by-four (λ (r : Resent) (q : List ℕ) (us : List (List Queued)) (c : Books). Laying log gone ivs (r .state) q us c) (isDone a)
       (λ z. again-lays (w .kept) (closing w) (w .flight .saved) ds b (alike-lays i (closed-holds (w .state) (w .queue) ds (i .holds)) refl)) (λ z. i)
 
   -- ---- an ACK

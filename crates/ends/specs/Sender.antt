@@ -11,7 +11,7 @@ use Rattle.base.specs.Choose.{choose, both}
 use Rattle.base.specs.Parts.{part}
 use Rattle.outgoing.specs.declared.Keying.{Keying}
 use Rattle.outgoing.specs.declared.Sending.{Sending}
-use Rattle.outgoing.specs.State.{isKeyedNow, keyingState}
+use Rattle.outgoing.specs.State.{keyingState}
 use Rattle.sealing.specs.declared.SealAnswer.{SealAnswer}
 use Rattle.sealing.specs.declared.SealQuestion.{SealQuestion}
 use Rattle.sealing.specs.declared.SealQuestion.the-variants as ask
@@ -23,6 +23,7 @@ use Rattle.waiting.specs.Calls.{Stores, SendCall, keySend·, send·, save·, me
 use Rattle.history.specs.Account.{upd}
 use Rattle.history.specs.Claim.{Masks}
 use Rattle.history.specs.Receiver.{Sealed, Handed}
+use Rattle.send_keys.specs.Answer.{isDone}
 use Rattle.ends.specs.Ledger.{sealedHead, sealedTail, Sent, Item}
 
 -- ---- what the history holds
@@ -170,7 +171,7 @@ turns x w b ivs sealed taken = record {
 }
 
 abbrev pub keyedBy : Keying → ℕ → List ℕ → (ℕ → List ℕ) → ℕ → List ℕ
-keyedBy r e iv f = choose (isKeyedNow (r .answer)) (upd f e iv) f
+keyedBy r e iv f = choose (isDone (r .answer)) (upd f e iv) f
 
 -- an accepted reply seals what the question showed
 abbrev pub sealedBy : SealAnswer → Option Lent → List ℕ → List ℕ → (ℕ → List Sealed) → ℕ → List Sealed

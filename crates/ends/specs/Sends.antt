@@ -12,7 +12,7 @@ use Rattle.base.specs.Choose.{if-true, if-false, by-test, test-cases, eq-or-ne}
 use Rattle.base.specs.Parts.{part, part-first, splice, splice-here}
 use Rattle.dtls_aead.specs.Nonce.{nonceOf}
 use Rattle.queue.specs.Queue.{isSetting, isSound}
-use Rattle.send_keys.specs.declared.KeyAnswer.{KeyAnswer}
+use Rattle.send_keys.specs.declared.SendAnswer.{SendAnswer}
 use Rattle.send_keys.specs.declared.SendKeys.{SendKeys}
 use Rattle.send_keys.specs.Keys.{nextOf, next-handshake, ivOf, keyAnswer, noEpoch, noKeys}
 use Rattle.outgoing.specs.declared.Sending.{Sending}
@@ -273,7 +273,7 @@ module _ (masks : Masks) (x : Sender) (i : Sends masks x) where
         same-ivs = key-ivs;
       }) (effect (keySend· e iv))
     where
-      a : KeyAnswer
+      a : SendAnswer
       a = keyAnswer (w .state .keys) (isSound (w .state .queue)) e
 
       key-numbers : Numbers (keyingState (w .state) e iv .state .keys) (x .books .sent)

@@ -11,13 +11,13 @@ use mathlib.Core.Path.{_≡_, refl, sym, ap, _∙_}
 use native.Mathlib.Omega.{arith}
 use Rattle.base.specs.Choose.{choose, both, either, if-true, if-false, by-test, test-cases}
 use Rattle.queue.specs.Queue.{isSetting, isSound}
-use Rattle.send_keys.specs.declared.KeyAnswer.{KeyAnswer}
-use Rattle.send_keys.specs.declared.KeyAnswer.the-variants as key
+use Rattle.send_keys.specs.declared.SendAnswer.{SendAnswer}
+use Rattle.send_keys.specs.declared.SendAnswer.the-variants as key
 use Rattle.send_keys.specs.declared.SendKeys.{SendKeys}
 use Rattle.send_keys.specs.Keys as keys
 use Rattle.send_keys.specs.Keys.{isUsable, nextOf, sealedUpTo, keyAnswer, noEpoch, noKeys}
 use Rattle.outgoing.specs.declared.Sending.{Sending}
-use Rattle.outgoing.specs.State.{isKeyedNow, keyingState, freshSending}
+use Rattle.outgoing.specs.State.{keyingState, freshSending}
 use Rattle.sealing.specs.declared.SealAnswer.{SealAnswer}
 use Rattle.sealing.specs.declared.SealAnswer.the-variants as seal
 use Rattle.sealing.specs.Sealing as sealing
@@ -37,6 +37,7 @@ use Rattle.waiting.specs.Seals.{seal-holds, seal-told}
 use Rattle.waiting.specs.Takes.{takeTold, take-told, afterTaken, take-holds}
 use Rattle.history.specs.Account.{upd}
 use Rattle.history.specs.Lists.{upd-same, upd-other, by-both}
+use Rattle.send_keys.specs.Answer.{isDone, refusal, done-number}
 use Rattle.ends.specs.Ledger.{
   Item,
   Ledger,
@@ -297,14 +298,8 @@ keyed-keys k l e iv new i = record {
   most = λ x u. ⊎-elim (λ y. omega (arith, y .1)) (λ y. omega (arith, y .2, i .most x (y .1))) (keyed-next k e iv new x u);
 }
 
-key-zero : (a : KeyAnswer) → eqb (keys.refusal a) 0 ≡ isKeyedNow a
-key-zero key.Keyed = refl
-key-zero key.OutOfRange = refl
-key-zero key.BadEpoch = refl
-key-zero key.SealingWaits = refl
-
 key-tests : (a b c d : Bool)
-    → keys.refusal (choose a key.BadEpoch (choose b key.BadEpoch (choose c key.BadEpoch (choose d key.SealingWaits key.Keyed))))
+    → refusal (choose a key.BadEpoch (choose b key.BadEpoch (choose c key.BadEpoch (choose d key.SealingWaits key.Done))))
     ≡ choose (either a (either b c)) 13 (choose d 23 0)
 unfolding choose either
 key-tests true b c d = refl
@@ -313,13 +308,13 @@ key-tests false false true d = refl
 key-tests false false false true = refl
 key-tests false false false false = refl
 
-key-number : (w : Stores) (l : Ledger) → Matches w l → (e : ℕ) → keys.refusal (keyAnswer (w .state .keys) (isSound (w .state .queue)) e) ≡ keyNumber l e
+key-number : (w : Stores) (l : Ledger) → Matches w l → (e : ℕ) → refusal (keyAnswer (w .state .keys) (isSound (w .state .queue)) e) ≡ keyNumber l e
 unfolding keyNumber isOld
 key-number w l i e =
     let k : SendKeys = w .state .keys in
     let under : ltb 0 (length (numbersOf (k .application .epoch) (flat (i .ds)))) ≡ waitsUnder (l .application) (items (l .queue)) =
     under-in (k .application .epoch) (flat (i .ds)) ∙ (λ j. waitsUnder (i .keys .application j) ((sym (items-flat (i .ds)) ∙ ap items (i .queue)) j)) in
-    ap keys.refusal (keying-told (w .state) (w .queue) (i .ds) (i .holds) e)
+    ap refusal (keying-told (w .state) (w .queue) (i .ds) (i .holds) e)
     ∙ key-tests (ltb e 2) (leb e (k .handshake .epoch)) (leb e (k .application .epoch)) (ltb 0 (length (numbersOf (k .application .epoch) (flat (i .ds)))))
     ∙ λ j. choose (either (ltb e 2) (either (leb e (i .keys .two j)) (leb e (i .keys .application j)))) 13 (choose (under j) 23 0)
 
@@ -327,9 +322,9 @@ pub key-does : (w : Stores) (l : Ledger) → Matches w l → (e : ℕ) (iv : Lis
 unfolding keyingState keyed choose
 key-does w l i e iv small =
     let k : SendKeys = w .state .keys in
-    let a : KeyAnswer = keyAnswer k (isSound (w .state .queue)) e in
-    let told : keys.refusal a ≡ keyNumber l e = key-number w l i e in
-    wholly w l i (keySend· e iv) (isKeyedNow a) (ap only told) (ap (λ (n : ℕ). eqb n 0) (sym told) ∙ key-zero a)
+    let a : SendAnswer = keyAnswer k (isSound (w .state .queue)) e in
+    let told : refusal a ≡ keyNumber l e = key-number w l i e in
+    wholly w l i (keySend· e iv) (isDone a) (ap only told) (ap (λ (n : ℕ). eqb n 0) (sym told) ∙ done-number a)
     (λ d.
     rw d (record {
       ds = i .ds;

@@ -11,11 +11,10 @@ use Rattle.base.specs.Choose.{choose, if-false, by-test, test-cases, both-true,
 use Rattle.queue.specs.declared.Queue.{Queue}
 use Rattle.queue.specs.Queue.{isSound, isReady}
 use Rattle.send_keys.specs.Keys.{nextOf}
-use Rattle.outgoing.specs.declared.SendAnswer.{SendAnswer}
-use Rattle.outgoing.specs.declared.SendAnswer.the-variants as send
+use Rattle.send_keys.specs.declared.SendAnswer.{SendAnswer}
+use Rattle.send_keys.specs.declared.SendAnswer.the-variants as send
 use Rattle.outgoing.specs.declared.Sending.{Sending}
 use Rattle.outgoing.specs.Send.{laidState, sendAnswer, sendState, sendMemory}
-use Rattle.outgoing.specs.State.{refusal, isDone}
 use Rattle.sealing.specs.declared.SealAnswer.the-variants as seal
 use Rattle.sealing.specs.Sealing as sealing
 use Rattle.sealing.specs.Sealing.{sealAnswer, isSealed, sealedState, sealedMemory}
@@ -29,14 +28,13 @@ use Rattle.messages.specs.Message.{messageAnswer, messageState, messageQueue, m
 use Rattle.acks.specs.declared.AckSent.{AckSent}
 use Rattle.acks.specs.declared.Notes.{Notes}
 use Rattle.acks.specs.Acks.{ackAnswer, nothingSent, sentAck, ackMemory}
-use Rattle.resend.specs.declared.ResendAnswer.the-variants as again
 use Rattle.resend.specs.declared.Resent.{Resent}
 use Rattle.resend.specs.Resend.{resendState, resendQueue}
-use Rattle.resend.specs.Tests as resend
 use Rattle.resend.specs.Tests.{resendAnswer}
 use Rattle.waiting.specs.Answers.{ackReply, takeReply, answered}
 use Rattle.waiting.specs.Calls.{Stores, SendCall, keySend·, send·, save·, message·, beginFlight·, resend·, note·, sendAck·, ack·, fill·, sealed·, take·, stored, lending, Short, only}
 use Rattle.history.specs.Lists.{mem-by}
+use Rattle.send_keys.specs.Answer.{isDone, refusal}
 use Rattle.ends.specs.Ledger.{shortReply}
 use Rattle.ends.specs.World.{Over, oversBy}
 
@@ -88,7 +86,7 @@ module _ (s : Sending) (f : Flight) (q k : List ℕ) (h : (length q < s .queue .
   unfolding messageAnswer
   message-short kind n = refuses _ _ _ _ one-fails
 
-  resend-short : resendAnswer s f (length q) (length k) ≡ again.OutOfRange
+  resend-short : resendAnswer s f (length q) (length k) ≡ send.OutOfRange
   unfolding resendAnswer
   resend-short = refuses _ _ _ _ one-fails
 
@@ -101,7 +99,7 @@ short-answered w q k (send· e t x) h = ap (λ a. only (refusal a)) (send-short 
 short-answered w q k (save· e t x) h = ap (λ a. only (refusal a)) (save-short (w .state) (w .flight) q k h e t (length x))
 short-answered w q k (message· kind body) h = ap (λ a. only (refusal a)) (message-short (w .state) (w .flight) q k h kind (length body))
 short-answered w q k beginFlight· h = absurd h
-short-answered w q k resend· h = ap (λ a. only (resend.refusal a)) (resend-short (w .state) (w .flight) q k h)
+short-answered w q k resend· h = ap (λ a. only (refusal a)) (resend-short (w .state) (w .flight) q k h)
 short-answered w q k (note· e n) h = absurd h
 short-answered w q k sendAck· h = ack-told (w .state) q h (w .notes)
 short-answered w q k (ack· d) h = absurd h
@@ -126,7 +124,7 @@ short-stays w q k (message· kind body) h =
     ap (λ (r : Saved). with w (r .state) (r .flight) (w .notes)) (if-false _ _ (ap isDone (message-short (w .state) (w .flight) q k h kind (length body))))
 short-stays w q k beginFlight· h = absurd h
 short-stays w q k resend· h =
-    ap (λ (r : Resent). with w (r .state) (r .flight) (w .notes)) (if-false _ _ (ap resend.isDone (resend-short (w .state) (w .flight) q k h)))
+    ap (λ (r : Resent). with w (r .state) (r .flight) (w .notes)) (if-false _ _ (ap isDone (resend-short (w .state) (w .flight) q k h)))
 short-stays w q k (note· e n) h = absurd h
 short-stays w q k sendAck· h = ap (λ (r : AckSent). with w (r .state) (w .flight) (r .notes)) (if-false _ _ (ap isDone (ack-short (w .state) q h (w .notes))))
 short-stays w q k (ack· d) h = absurd h
@@ -154,7 +152,7 @@ over-all w q k (message· kind body) os h old =
     let d = ap isDone (message-short (w .state) (w .flight) q k h kind (length body)) in
     more-over _ os old (if-false _ _ d, if-false _ _ d)
 over-all w q k beginFlight· os h old = absurd h
-over-all w q k resend· os h old = more-over _ os old (if-false _ _ (ap resend.isDone (resend-short (w .state) (w .flight) q k h)), refl)
+over-all w q k resend· os h old = more-over _ os old (if-false _ _ (ap isDone (resend-short (w .state) (w .flight) q k h)), refl)
 over-all w q k (note· e n) os h old = absurd h
 over-all w q k sendAck· os h old = more-over _ os old (if-false _ _ (ap isDone (ack-short (w .state) q h (w .notes))), refl)
 over-all w q k (ack· d) os h old = absurd h

@@ -12,11 +12,11 @@ use Rattle.base.specs.Bytes.{be}
 use Rattle.base.specs.Choose.{choose, if-true, if-false, test-cases}
 use Rattle.send_keys.specs.declared.SendKeys.{SendKeys}
 use Rattle.send_keys.specs.Keys.{isUsable, isKeyed}
-use Rattle.outgoing.specs.declared.SendAnswer.{SendAnswer}
-use Rattle.outgoing.specs.declared.SendAnswer.the-variants as send
+use Rattle.send_keys.specs.declared.SendAnswer.{SendAnswer}
+use Rattle.send_keys.specs.declared.SendAnswer.the-variants as send
 use Rattle.outgoing.specs.declared.Sending.{Sending}
 use Rattle.outgoing.specs.Send.{laidState, laidMemory, sendAnswer, sendState, sendMemory}
-use Rattle.outgoing.specs.State.{refusal, isDone, isAllowed}
+use Rattle.outgoing.specs.State.{isAllowed}
 use Rattle.flight.specs.Save.{saveAnswer, saveState, saveQueue, saveKept, save-safe}
 use Rattle.acks.specs.declared.Notes.{Notes}
 use Rattle.acks.specs.declared.Noting.{Noting}
@@ -41,6 +41,7 @@ use Rattle.waiting.specs.Answers.{noteReply}
 use Rattle.waiting.specs.Calls.{Stores, send·, save·, note·, sendAck·, only}
 use Rattle.waiting.specs.Sends.{Sent, sent, saved}
 use Rattle.history.specs.Lists.{by-both}
+use Rattle.send_keys.specs.Answer.{isDone, refusal}
 use Rattle.ends.specs.Books as books
 use Rattle.ends.specs.Books.{written, ackBooks}
 use Rattle.ends.specs.Laws.{Told, done-by}

@@ -8,9 +8,10 @@ use mathlib.Core.Path.{_≡_, sym, ap, _∙_}
 use native.Mathlib.Omega.{arith}
 use Rattle.base.specs.Choose.{if-true, if-false, test-cases, both-left, both-right, both-true}
 use Rattle.queue.specs.Queue.{isSetting}
-use Rattle.outgoing.specs.State.{refusal, started}
+use Rattle.outgoing.specs.State.{started}
 use Rattle.receiving.specs.declared.Kept.{Kept}
 use Rattle.receiving.specs.Receiving.{answerNumber, freshOf}
+use Rattle.send_keys.specs.Answer.{refusal}
 
 -- "MTU 576 to 1,500 and queue 1 to 16 datagrams"
 pub record Ranges (mtu limit : ℕ) : Type 0 where

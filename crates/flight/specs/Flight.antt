@@ -6,7 +6,7 @@ use lib.Dec.{leb}
 use lib.ListN.{length, getD, set, replicate}
 use Rattle.base.specs.Choose.{choose, both}
 use Rattle.base.specs.Parts.{splice}
-use Rattle.outgoing.specs.declared.SendAnswer.the-variants.{Done, OutOfRange}
+use Rattle.send_keys.specs.declared.SendAnswer.the-variants.{Done, OutOfRange}
 use Rattle.flight.specs.declared.Entry.{Entry}
 use Rattle.flight.specs.declared.Flight.{Flight}
 use Rattle.flight.specs.declared.Begun.{Begun}

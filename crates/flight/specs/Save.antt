@@ -13,10 +13,11 @@ use Rattle.queue.specs.Queue.{isReady, InRange, ready, laid-range}
 use Rattle.queue.specs.Laid.{len-over}
 use Rattle.send_keys.specs.Keys.{isUsable, isKeyed, nextOf}
 use Rattle.outgoing.specs.declared.Sending.{Sending}
-use Rattle.outgoing.specs.declared.SendAnswer.{SendAnswer}
-use Rattle.outgoing.specs.declared.SendAnswer.the-variants.{Done, OutOfRange, BadEpoch, BadRecord, KeysAbsent, FlightFull, QueueFull, NumbersSpent}
-use Rattle.outgoing.specs.State.{isDone, isAllowed}
+use Rattle.send_keys.specs.declared.SendAnswer.{SendAnswer}
+use Rattle.send_keys.specs.declared.SendAnswer.the-variants.{Done, OutOfRange, BadEpoch, BadRecord, KeysAbsent, FlightFull, QueueFull, NumbersSpent}
+use Rattle.outgoing.specs.State.{isAllowed}
 use Rattle.outgoing.specs.Send.{spotOf, isFull, isSpent, laidState, laidMemory, Clear, allowed-fits, clear-fits}
+use Rattle.send_keys.specs.Answer.{isDone}
 use Rattle.flight.specs.declared.Flight.{Flight}
 use Rattle.flight.specs.declared.Saved.{Saved}
 use Rattle.flight.specs.Flight.{counted, isKept, savedWith, savedMemory, Keeps}

@@ -3,7 +3,7 @@ ghost use mathlib.Core.Path.{_≡_};
 ghost use Prim.Native.Nat.{_*_, _≤_, _<_};
 ghost use lib.ListN.{length};
 ghost use Rattle.flight.specs.Flight.{counted, isKept};
-use outgoing::SendAnswer;
+use send_keys::SendAnswer;
 use outgoing::Sending;
 
 // A saved record: its content type, epoch, number and length; whether it was acknowledged; how many earlier numbers it remembers.

@@ -5,7 +5,7 @@ ghost use Rattle.send_keys.specs.Keys.{keyAnswer, keyed};
 ghost use Rattle.outgoing.specs.State.{withKeys, keyingState};
 ghost use Rattle.send_words.specs.Words.{stateOf};
 ghost use Rattle.send_words.specs.Partly.{Partly};
-use send_keys::KeyAnswer;
+use send_keys::SendAnswer;
 use send_keys::SendEpoch;
 use send_words::APPLICATION;
 use send_words::APPLICATION_IV;
@@ -16,29 +16,29 @@ use send_words::HANDSHAKE_IV;
 use send_words::WORDS;
 
 // Whether an epoch can be keyed to send, or why not.
-fn key_answer(w: &[u64; WORDS], epoch: u16) -> KeyAnswer
+fn key_answer(w: &[u64; WORDS], epoch: u16) -> SendAnswer
     ensures { λ r. ⌜ r ≡ keyAnswer (stateOf (now (w .entry)) .keys) (isSound (stateOf (now (w .entry)) .queue)) epoch ⌝ }
 {
     if !send_steps::is_sound(w) {
-        return KeyAnswer::OutOfRange;
+        return SendAnswer::OutOfRange;
     }
     let application = words::low(w[APPLICATION]);
     if epoch < 2 {
-        return KeyAnswer::BadEpoch;
+        return SendAnswer::BadEpoch;
     }
     if epoch <= words::low(w[HANDSHAKE]) {
-        return KeyAnswer::BadEpoch;
+        return SendAnswer::BadEpoch;
     }
     if epoch <= application {
-        return KeyAnswer::BadEpoch;
+        return SendAnswer::BadEpoch;
     }
     if application == 0 {
-        return KeyAnswer::Keyed;
+        return SendAnswer::Done;
     }
     if w[APPLICATION_SEALED] < w[APPLICATION_NEXT] {
-        return KeyAnswer::SealingWaits;
+        return SendAnswer::SealingWaits;
     }
-    KeyAnswer::Keyed
+    SendAnswer::Done
 }
 
 // An epoch keyed: numbers begin at 0; an application epoch takes the place of the one before.
@@ -60,11 +60,11 @@ fn put_keyed(w: &mut [u64; WORDS], epoch: u16, iv: [u8; 12])
 }
 
 // An epoch keyed to send, with its IV.
-pub fn key_send(w: &mut [u64; WORDS], epoch: u16, iv: [u8; 12]) -> KeyAnswer
+pub fn key_send(w: &mut [u64; WORDS], epoch: u16, iv: [u8; 12]) -> SendAnswer
     ensures { λ r. ⌜ (r ≡ keyingState (stateOf (now (w .entry))) epoch iv .answer) × Partly (keyingState (stateOf (now (w .entry))) epoch iv .state) (now (w .entry)) (now (w .exit)) ⌝ }
 {
     let a = key_answer(w, epoch);
-    if outgoing::is_keyed_now(a) {
+    if send_keys::is_done(a) {
         put_keyed(w, epoch, iv);
     }
     a

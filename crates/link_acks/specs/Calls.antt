@@ -5,12 +5,10 @@ use mathlib.Core.List.{List}
 use mathlib.Core.Path.{_≡_, refl, sym, ap, _∙_}
 use Prim.Native.Nat.{ℕ}
 use lib.ListN.{length}
-use Rattle.base.specs.Choose.{choose, both, if-true, if-false, both-true, both-false}
-use Rattle.outgoing.specs.declared.SendAnswer.{SendAnswer}
-use Rattle.outgoing.specs.State as sends
+use Rattle.base.specs.Choose.{choose, both, if-true, if-false, both-true}
+use Rattle.send_keys.specs.declared.SendAnswer.{SendAnswer}
 use Rattle.resend.specs.declared.Resent.{Resent}
-use Rattle.resend.specs.declared.ResendAnswer.{ResendAnswer}
-use Rattle.resend.specs.Tests.{refusal, isDone, resendAnswer}
+use Rattle.resend.specs.Tests.{resendAnswer}
 use Rattle.resend.specs.Resend.{Laying, allAgain, resendState, resendQueue}
 use Rattle.process_ack.specs.Ack.{acked}
 use Rattle.process_ack.specs.declared.Acked.{Acked}
@@ -24,6 +22,7 @@ use Rattle.flight_words.specs.Words.{flightOf, flatTo}
 use Rattle.flight_words.specs.Laws as flights
 use Rattle.resend_steps.specs.Again.{layingOf}
 use Rattle.ack_steps.specs.Steps.{SendsAck}
+use Rattle.send_keys.specs.Answer.{isDone, refusal}
 pub use Rattle.ack_steps.specs.Steps.{notesOf}
 
 -- both words stand for something
@@ -44,7 +43,7 @@ Resends r v w g f m n k =
 -- f, n before; g, m behind
 abbrev pub Acts : ℕ → List ℕ → List ℕ → List ℕ → List ℕ → Acked → Type 0
 Acts r g f m n k =
-    (r ≡ choose (flatTo f 12) (sends.refusal (k .answer)) 12)
+    (r ≡ choose (flatTo f 12) (refusal (k .answer)) 12)
     × (flightOf g m ≡ choose (flatTo f 12) (k .flight) (flightOf f n)) × (flatTo g 12 ≡ flatTo f 12)
 
 abbrev pub Noted : ℕ → noted.Notes → Noting → Type 0
@@ -53,7 +52,7 @@ Noted r m k = (r ≡ noting.refusal (k .answer)) × (m ≡ k .notes)
 -- w, n before; v, m behind
 abbrev pub Acknowledges : ℕ → List ℕ → List ℕ → noted.Notes → noted.Notes → AckSent → Type 0
 Acknowledges r v w m n k =
-    (r ≡ choose (isFlat w) (sends.refusal (k .answer)) 12)
+    (r ≡ choose (isFlat w) (refusal (k .answer)) 12)
     × (stateOf v ≡ choose (isFlat w) (k .state) (stateOf w)) × (isFlat v ≡ isFlat w)
     × (m ≡ choose (isFlat w) (k .notes) n)
 
@@ -91,7 +90,7 @@ resends r v w g f m n x k p q a s t z e =
     )
 
 -- tested: all sent again, or nothing written
-module _ (r : ℕ) (a : ResendAnswer) (w f n k q : List ℕ) (i : isFlat w ≡ true) (j : flatTo f 12 ≡ true) (c : r ≡ refusal a) where
+module _ (r : ℕ) (a : SendAnswer) (w f n k q : List ℕ) (i : isFlat w ≡ true) (j : flatTo f 12 ≡ true) (c : r ≡ refusal a) where
   pub resends-all : (v g m p : List ℕ) → isDone a ≡ true → isFlat v ≡ true → flatTo g 12 ≡ true → layingOf v g m p ≡ allAgain (stateOf w) (flightOf f n) k q
       → Resends r v w g f m n (resendState a (stateOf w) (flightOf f n) k q) × (p ≡ either w f (resendQueue a (stateOf w) (flightOf f n) k q) q)
   unfolding resendState resendQueue
@@ -109,17 +108,17 @@ module _ (r : ℕ) (a : ResendAnswer) (w f n k q : List ℕ) (i : isFlat w ≡ t
     sym (if-false _ _ d) ∙ sym (if-true _ _ (both-true i ∙ j)),
   )
 
-pub acts : (r : ℕ) (g f m n : List ℕ) (x k : Acked) → flatTo f 12 ≡ true → r ≡ sends.refusal (x .answer)
+pub acts : (r : ℕ) (g f m n : List ℕ) (x k : Acked) → flatTo f 12 ≡ true → r ≡ refusal (x .answer)
     → flights.Kept (x .flight) g → m ≡ x .flight .numbers → x ≡ k → Acts r g f m n k
 acts r g f m n x k q a t z e = (
-  a ∙ ap (λ (y : Acked). sends.refusal (y .answer)) e ∙ sym (if-true _ _ q),
+  a ∙ ap (λ (y : Acked). refusal (y .answer)) e ∙ sym (if-true _ _ q),
   ap (flightOf g) z ∙ t .0 ∙ ap (λ (y : Acked). y .flight) e ∙ sym (if-true _ _ q),
   t .1 ∙ sym q,
 )
 
-pub acknowledges : (r : ℕ) (x : SendAnswer) (v w : List ℕ) (b a : noted.Notes) (p q : List ℕ) → isFlat w ≡ true → r ≡ sends.refusal x → SendsAck x v w b a p q → SendAckCall r v w b a p q
+pub acknowledges : (r : ℕ) (x : SendAnswer) (v w : List ℕ) (b a : noted.Notes) (p q : List ℕ) → isFlat w ≡ true → r ≡ refusal x → SendsAck x v w b a p q → SendAckCall r v w b a p q
 acknowledges r x v w b a p q f e s = (
-  (e ∙ ap sends.refusal (s .answer) ∙ sym (if-true _ _ f), s .state ∙ sym (if-true _ _ f), s .flat f ∙ sym f, s .notes ∙ sym (if-true _ _ f)),
+  (e ∙ ap refusal (s .answer) ∙ sym (if-true _ _ f), s .state ∙ sym (if-true _ _ f), s .flat f ∙ sym f, s .notes ∙ sym (if-true _ _ f)),
   s .memory ∙ sym (if-true _ _ f),
 )
 

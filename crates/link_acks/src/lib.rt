@@ -29,12 +29,12 @@ pub fn resend(
     if send_words::is_flat(w) {
         if flight_words::is_flat(f) {
             let a = resend_steps::resend_answer(w, f, queue.len(), kept.len());
-            if resend::is_done(a) {
+            if send_keys::is_done(a) {
                 resend_steps::close(w);
                 resend_steps::resend_all(w, f, numbers, kept, queue);
-                return resend::refusal(a);
+                return send_keys::refusal(a);
             }
-            return resend::refusal(a);
+            return send_keys::refusal(a);
         }
         return 12;
     }
@@ -50,7 +50,7 @@ pub fn process_ack(
     ensures { λ r. ⌜ ProcessAckCall r (now (f .exit)) (now (f .entry)) (now (numbers .exit)) (now (numbers .entry)) (now (content .entry)) ⌝ }
 {
     if flight_words::is_flat(f) {
-        return outgoing::refusal(ack_steps::process_ack(f, numbers, content));
+        return send_keys::refusal(ack_steps::process_ack(f, numbers, content));
     }
     12
 }
@@ -79,7 +79,7 @@ pub fn send_ack(
     ensures { λ r. ⌜ SendAckCall r (now (w .exit)) (now (w .entry)) (notesOf (now (count .exit)) (now (epochs .exit)) (now (numbers .exit))) (notesOf (now (count .entry)) (now (epochs .entry)) (now (numbers .entry))) (now (queue .exit)) (now (queue .entry)) ⌝ }
 {
     if send_words::is_flat(w) {
-        return outgoing::refusal(ack_steps::send_ack(w, count, epochs, numbers, queue));
+        return send_keys::refusal(ack_steps::send_ack(w, count, epochs, numbers, queue));
     }
     12
 }

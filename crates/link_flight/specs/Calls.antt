@@ -2,16 +2,12 @@
 -- for none are refused by 12, and state, flight and memory stay.
 use mathlib.Core.Bool.{Bool, true, false}
 use mathlib.Core.List.{List}
-use mathlib.Core.Path.{_≡_, refl, sym, ap, subst, _∙_}
-use Prim.Native.Nat.{ℕ, _≤_, _<_}
+use mathlib.Core.Path.{_≡_, refl, sym, ap, _∙_}
+use Prim.Native.Nat.{ℕ}
 use lib.Dec.{leb}
 use lib.ListN.{length, set, replicate}
-use Rattle.base.specs.Choose.{choose, both, if-true, if-false, both-true, both-false}
-use Rattle.outgoing.specs.State.{refusal}
-use Rattle.outgoing.specs.declared.SendAnswer.{SendAnswer}
-use Rattle.outgoing.specs.declared.SendAnswer.the-variants.{Done, OutOfRange}
-use Rattle.outgoing.specs.declared.Sending.{Sending}
-use Rattle.flight.specs.declared.Flight.{Flight}
+use Rattle.base.specs.Choose.{choose, both, if-true, if-false, both-true}
+use Rattle.send_keys.specs.declared.SendAnswer.{SendAnswer}
 use Rattle.flight.specs.declared.Begun.{Begun}
 use Rattle.flight.specs.declared.Saved.{Saved}
 use Rattle.flight.specs.Flight.{begun, freshFlight}
@@ -20,6 +16,7 @@ use Rattle.messages.specs.Message.{messageAnswer, messageState, messageQueue, m
 use Rattle.send_words.specs.Words.{stateOf, isFlat}
 use Rattle.flight_words.specs.Words.{words, saved-at, entriesOf, flightOf, flatTo}
 use Rattle.flight_words.specs.Laws.{begins}
+use Rattle.send_keys.specs.Answer.{refusal}
 
 -- both words stand for something
 abbrev pub areFlat : List ℕ → List ℕ → Bool

@@ -42,7 +42,7 @@ pub fn send_saved(
     if send_words::is_flat(w) {
         if flight_words::is_flat(f) {
             let a = save_steps::send_saved(w, f, epoch, content_type, content, queue, kept);
-            return outgoing::refusal(a);
+            return send_keys::refusal(a);
         }
         return 12;
     }
@@ -64,7 +64,7 @@ pub fn create_handshake(
     if send_words::is_flat(w) {
         if flight_words::is_flat(f) {
             let a = message_steps::create_handshake(w, f, kind, body, queue, kept);
-            return outgoing::refusal(a);
+            return send_keys::refusal(a);
         }
         return 12;
     }

@@ -10,7 +10,7 @@ use lib.ListN.{replicate, length, set}
 use Rattle.base.specs.Choose.{choose, if-true, if-false, both-true, by-test}
 use Rattle.base.specs.Parts.{part, splice}
 use Rattle.send_keys.specs.Keys as keying
-use Rattle.outgoing.specs.State.{refusal, noWaiting, freshSending, started, keyingState, isDone}
+use Rattle.outgoing.specs.State.{noWaiting, freshSending, started, keyingState}
 use Rattle.outgoing.specs.declared.Sending.{Sending}
 use Rattle.outgoing.specs.declared.Sent.{Sent}
 use Rattle.outgoing.specs.declared.Keying.{Keying}
@@ -28,9 +28,10 @@ use Rattle.send_words.specs.Laws.{slot-length}
 use Rattle.send_words.specs.Partly.{Partly}
 use Rattle.queue.specs.Queue.{isSetting, ready}
 use Rattle.take_steps.specs.Front.{frontStart}
-use Rattle.outgoing.specs.declared.SendAnswer.{SendAnswer}
+use Rattle.send_keys.specs.declared.SendAnswer.{SendAnswer}
 use Rattle.outgoing.specs.Send.{sendAnswer, sendState, sendMemory, laidState, laidMemory}
 use Rattle.taking.specs.Take as takes
+use Rattle.send_keys.specs.Answer.{isDone, refusal}
 use Rattle.link_sending.specs.declared.LinkSealing.{LinkSealing}
 use Rattle.link_sending.specs.declared.LinkTake.{LinkTake}
 use Rattle.link_sending.specs.declared.LinkPart.{LinkPart}
@@ -83,7 +84,7 @@ abbrev pub Sends : ℕ → List ℕ → List ℕ → Sent → Type 0
 Sends r v w k = (r ≡ choose (isFlat w) (refusal (k .answer)) 12) × After v w (k .state)
 
 abbrev pub Keys : ℕ → List ℕ → List ℕ → Keying → Type 0
-Keys r v w k = (r ≡ choose (isFlat w) (keying.refusal (k .answer)) 12) × After v w (k .state)
+Keys r v w k = (r ≡ choose (isFlat w) (refusal (k .answer)) 12) × After v w (k .state)
 
 abbrev pub Seals : List ℕ → Question → LinkSealing
 Seals w k = choose (isFlat w) (flatSealing (k .question) (k .nonce) (k .header)) (noSealing 0 12)

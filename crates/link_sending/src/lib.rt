@@ -186,11 +186,11 @@ pub fn send(
         let v = send_steps::send_answer(w, queue.len(), epoch, content_type, content.len());
         let a = v.answer;
         let p = v.place;
-        if outgoing::is_done(a) {
+        if send_keys::is_done(a) {
             send_steps::lay(w, p, epoch, content_type, content, queue);
-            return outgoing::refusal(a);
+            return send_keys::refusal(a);
         }
-        return outgoing::refusal(a);
+        return send_keys::refusal(a);
     }
     12
 }

@@ -5,9 +5,7 @@ use mathlib.Core.Path.{_≡_, refl, sym, ap, _∙_}
 use Prim.Native.Nat.{ℕ, _+_, _≤_, _%_}
 use lib.ListN.{length, getD, set}
 use Rattle.base.specs.Choose.{if-true, if-false}
-use Rattle.outgoing.specs.declared.Sending.{Sending}
-use Rattle.outgoing.specs.declared.SendAnswer.{SendAnswer}
-use Rattle.outgoing.specs.State.{isDone}
+use Rattle.send_keys.specs.declared.SendAnswer.{SendAnswer}
 use Rattle.flight.specs.Flight.{counted}
 use Rattle.flight.specs.Save.{saveState}
 use Rattle.messages.specs.Cut.{epochOf}
@@ -17,6 +15,7 @@ use Rattle.send_words.specs.Words.{words, message-at, lowsFrom, stateOf, isFlat
 use Rattle.send_words.specs.Partly.{Partly}
 use Rattle.flight_words.specs.Words.{saved-at, flightOf, flatTo}
 use Rattle.save_steps.specs.Save.{Saves}
+use Rattle.send_keys.specs.Answer.{isDone}
 
 -- what the words v and g, the queue p and the contents j stand for behind an answer
 abbrev pub laidAs : SendAnswer → List ℕ → List ℕ → List ℕ → List ℕ → List ℕ → Laid

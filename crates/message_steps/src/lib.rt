@@ -14,7 +14,7 @@ ghost use Rattle.message_steps.specs.Create.{pieceIn, Pieces, Creates};
 use flight_words::SAVED;
 use messages::Cut;
 use messages::Plan;
-use outgoing::SendAnswer;
+use send_keys::SendAnswer;
 use send_words::LIMIT;
 use send_words::MESSAGE;
 use send_words::MTU;
@@ -84,7 +84,7 @@ fn send_piece(
     let v = save_steps::save_answer(w, saved, memory.len(), kept.len(), epoch, 22, n);
     let a = v.answer;
     let p = v.place;
-    if outgoing::is_done(a) {
+    if send_keys::is_done(a) {
         let from = saved * (w[MTU] as usize);
         let end = from + n;
         messages::write_content(&mut kept[from..end], kind, seq, body, at, size);
@@ -146,7 +146,7 @@ pub fn create_handshake(
     let seq = w[MESSAGE] % 65536;
     let saved = f[SAVED] as usize;
     let a = message_answer(w, saved, memory.len(), kept.len(), kind, body.len());
-    if outgoing::is_done(a) {
+    if send_keys::is_done(a) {
         send_all(w, f, kind, body, memory, kept);
         put_message(w, seq);
         return a;

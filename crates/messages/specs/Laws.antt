@@ -8,10 +8,10 @@ use native.Mathlib.Omega.{arith}
 use borrow.Author.Tests.{ltb-false}
 use Rattle.base.specs.Choose.{by-test, if-false}
 use Rattle.outgoing.specs.declared.Sending.{Sending}
-use Rattle.outgoing.specs.declared.SendAnswer.{SendAnswer}
-use Rattle.outgoing.specs.State.{isDone}
+use Rattle.send_keys.specs.declared.SendAnswer.{SendAnswer}
 use Rattle.flight.specs.declared.Flight.{Flight}
 use Rattle.flight.specs.Save.{saveAnswer, saveState}
+use Rattle.send_keys.specs.Answer.{isDone}
 use Rattle.messages.specs.Cut.{epochOf, overhead, pieces, total, pieces-whole}
 use Rattle.messages.specs.Message.{firstCut, countOf, messageAnswer, messageState, messageQueue, messageKept}
 

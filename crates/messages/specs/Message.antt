@@ -13,13 +13,13 @@ use Rattle.handshake.specs.Header.{headerBytes, length-header}
 use Rattle.queue.specs.Queue.{isReady, lastLen, InRange, ready}
 use Rattle.send_keys.specs.Keys.{isKeyed, nextOf}
 use Rattle.outgoing.specs.declared.Sending.{Sending}
-use Rattle.outgoing.specs.declared.SendAnswer.{SendAnswer}
-use Rattle.outgoing.specs.declared.SendAnswer.the-variants.{Done, OutOfRange, BadRecord, KeysAbsent, MessagesSpent, FlightFull, QueueFull, NumbersSpent}
-use Rattle.outgoing.specs.State.{isDone}
+use Rattle.send_keys.specs.declared.SendAnswer.{SendAnswer}
+use Rattle.send_keys.specs.declared.SendAnswer.the-variants.{Done, OutOfRange, BadRecord, KeysAbsent, MessagesSpent, FlightFull, QueueFull, NumbersSpent}
 use Rattle.flight.specs.declared.Flight.{Flight}
 use Rattle.flight.specs.declared.Saved.{Saved}
 use Rattle.flight.specs.Flight.{counted, isKept}
 use Rattle.flight.specs.Save.{saveState, saveQueue, saveKept, save-range}
+use Rattle.send_keys.specs.Answer.{isDone}
 use Rattle.messages.specs.declared.Cut.{Cut}
 use Rattle.messages.specs.Cut.{epochOf, overhead, pieceSize, cutBehind, planCount, planReach}
 

@@ -9,7 +9,7 @@ ghost use Rattle.messages.specs.Cut.{epochOf, pieceSize, cutNext, planCo
 use handshake::Header;
 ghost use Rattle.send_keys.specs.Keys.{used};
 ghost use Rattle.messages.specs.Message.{contentOf, planAnswer};
-use outgoing::SendAnswer;
+use send_keys::SendAnswer;
 use queue::Tail;
 
 // What is left to cut: the queue's end, and the bytes of the body that are left.

@@ -11,10 +11,11 @@ use Rattle.base.specs.Choose.{by-test, both-left, both-right, if-true, if-false
 use Rattle.queue.specs.Queue.{isSetting, InRange, ready, laid-range, full-only}
 use Rattle.queue.specs.Laid.{recordLen}
 use Rattle.send_keys.specs.Keys.{nextOf, used-next}
+use Rattle.send_keys.specs.Answer.{isDone}
 use Rattle.outgoing.specs.declared.Sending.{Sending}
-use Rattle.outgoing.specs.declared.SendAnswer.{SendAnswer}
-use Rattle.outgoing.specs.declared.SendAnswer.the-variants.{QueueFull}
-use Rattle.outgoing.specs.State.{isDone, freshSending}
+use Rattle.send_keys.specs.declared.SendAnswer.{SendAnswer}
+use Rattle.send_keys.specs.declared.SendAnswer.the-variants.{QueueFull}
+use Rattle.outgoing.specs.State.{freshSending}
 use Rattle.outgoing.specs.Send.{spotOf, laidState, sendAnswer, sendState, sendMemory, send-clear, clear-fits, allowed-fits}
 
 -- a refused send changes neither state nor queue

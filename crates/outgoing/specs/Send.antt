@@ -14,12 +14,13 @@ use Rattle.queue.specs.declared.Queue.{Queue}
 use Rattle.queue.specs.Queue.{isReady, slotOf, tailOf, placeOf, laid, startOf, Ready, Fits, ready, placed}
 use Rattle.queue.specs.Laid.{recordLen, recordBytes, len-over}
 use Rattle.send_keys.specs.Keys.{isUsable, isKeyed, nextOf, used}
+use Rattle.send_keys.specs.Answer.{isDone}
 use Rattle.outgoing.specs.declared.Waiting.{Waiting}
 use Rattle.outgoing.specs.declared.Sending.{Sending}
-use Rattle.outgoing.specs.declared.SendAnswer.{SendAnswer}
-use Rattle.outgoing.specs.declared.SendAnswer.the-variants.{Done, OutOfRange, BadEpoch, BadRecord, KeysAbsent, QueueFull, NumbersSpent}
+use Rattle.send_keys.specs.declared.SendAnswer.{SendAnswer}
+use Rattle.send_keys.specs.declared.SendAnswer.the-variants.{Done, OutOfRange, BadEpoch, BadRecord, KeysAbsent, QueueFull, NumbersSpent}
 use Rattle.outgoing.specs.declared.Sent.{Sent}
-use Rattle.outgoing.specs.State.{isDone, isAllowed}
+use Rattle.outgoing.specs.State.{isAllowed}
 
 -- where a record with a content of n bytes goes
 abbrev pub spotOf : Sending → ℕ → ℕ → Place

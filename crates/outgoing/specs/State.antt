@@ -11,38 +11,14 @@ use Rattle.record.specs.Record.{isType}
 use Rattle.queue.specs.Queue.{isSetting, isSound}
 use Rattle.queue.specs.Laid.{recordLen}
 use Rattle.send_keys.specs.declared.SendKeys.{SendKeys}
-use Rattle.send_keys.specs.declared.KeyAnswer.{KeyAnswer}
-use Rattle.send_keys.specs.declared.KeyAnswer.the-variants as key
+use Rattle.send_keys.specs.declared.SendAnswer.the-variants as key
+use Rattle.send_keys.specs.Answer.{isDone}
 use Rattle.send_keys.specs.Keys.{noKeys, keyAnswer, keyed}
 use Rattle.outgoing.specs.declared.Waiting.{Waiting}
 use Rattle.outgoing.specs.declared.Sending.{Sending}
-use Rattle.outgoing.specs.declared.SendAnswer.{SendAnswer}
-use Rattle.outgoing.specs.declared.SendAnswer.the-variants.{Done, OutOfRange, BadEpoch, BadRecord, KeysAbsent, MessagesSpent, FlightFull, QueueFull, NumbersSpent}
+use Rattle.send_keys.specs.declared.SendAnswer.the-variants.{Done, OutOfRange}
 use Rattle.outgoing.specs.declared.Sent.{Sent}
 use Rattle.outgoing.specs.declared.Keying.{Keying}
-
--- the paper's number of each answer; 0 where it is done
-abbrev pub refusal : SendAnswer → ℕ
-refusal Done = 0
-refusal OutOfRange = 12
-refusal BadEpoch = 13
-refusal BadRecord = 14
-refusal KeysAbsent = 17
-refusal MessagesSpent = 21
-refusal FlightFull = 18
-refusal QueueFull = 19
-refusal NumbersSpent = 20
-
-abbrev pub isDone : SendAnswer → Bool
-isDone Done = true
-isDone OutOfRange = false
-isDone BadEpoch = false
-isDone BadRecord = false
-isDone KeysAbsent = false
-isDone MessagesSpent = false
-isDone FlightFull = false
-isDone QueueFull = false
-isDone NumbersSpent = false
 
 unfoldable pub noWaiting : Waiting
 noWaiting = record { any = false; slot = 0; start = 0; length = 0; epoch = 0; number = 0 }
@@ -75,15 +51,9 @@ allowed-short mtu e t n h = leb-true n 16384 (both-left (leb n 16384) _ (both-ri
 abbrev pub withKeys : Sending → SendKeys → Sending
 withKeys s k = record { queue = s .queue; waiting = s .waiting; keys = k; «message_seq» = s .«message_seq» }
 
-abbrev pub isKeyedNow : KeyAnswer → Bool
-isKeyedNow key.Keyed = true
-isKeyedNow key.OutOfRange = false
-isKeyedNow key.BadEpoch = false
-isKeyedNow key.SealingWaits = false
-
 -- keying: 12, 13, 23; a refused one changes nothing
 unfoldable pub keyingState : Sending → ℕ → List ℕ → Keying
 keyingState s e iv = record {
   answer = keyAnswer (s .keys) (isSound (s .queue)) e;
-  state = choose (isKeyedNow (keyAnswer (s .keys) (isSound (s .queue)) e)) (withKeys s (keyed (s .keys) e iv)) s;
+  state = choose (isDone (keyAnswer (s .keys) (isSound (s .queue)) e)) (withKeys s (keyed (s .keys) e iv)) s;
 }

@@ -4,9 +4,9 @@ ghost use Prim.Native.Nat.{_<_};
 ghost use lib.ListN.{length};
 ghost use Rattle.send_keys.specs.declared.SendKeys.{SendKeys};
 ghost use Rattle.record.specs.Record.{isType};
-ghost use Rattle.outgoing.specs.State.{refusal, noWaiting, isContentType, isAllowed, isDone, isKeyedNow};
+ghost use Rattle.outgoing.specs.State.{noWaiting, isContentType, isAllowed};
 use queue::Queue;
-use send_keys::KeyAnswer;
+use send_keys::SendAnswer;
 use send_keys::SendKeys;
 
 // The oldest record that waits for its sealing, if any: its slot, where it starts there, the length of what is to be sealed, its
@@ -27,62 +27,14 @@ pub struct Sending {
     pub message_seq: u16,
 }
 
-pub enum SendAnswer {
-    Done,
-    // A setting or a field out of its range, or a lent buffer too short.
-    OutOfRange,
-    // Neither 0 nor 2 nor the application epoch.
-    BadEpoch,
-    // Type not allowed, body too long, or record over the MTU.
-    BadRecord,
-    KeysAbsent,
-    MessagesSpent,
-    FlightFull,
-    QueueFull,
-    NumbersSpent,
-}
-
 pub struct Sent {
     pub answer: SendAnswer,
     pub state: Sending,
 }
 
 pub struct Keying {
-    pub answer: KeyAnswer,
+    pub answer: SendAnswer,
     pub state: Sending,
-}
-
-// The number of an answer; 0 where a call is done.
-pub fn refusal(a: SendAnswer) -> u8
-    ensures { λ r. ⌜ r ≡ refusal a ⌝ }
-{
-    match a {
-        SendAnswer::Done => 0,
-        SendAnswer::OutOfRange => 12,
-        SendAnswer::BadEpoch => 13,
-        SendAnswer::BadRecord => 14,
-        SendAnswer::KeysAbsent => 17,
-        SendAnswer::MessagesSpent => 21,
-        SendAnswer::FlightFull => 18,
-        SendAnswer::QueueFull => 19,
-        SendAnswer::NumbersSpent => 20,
-    }
-}
-
-pub fn is_done(a: SendAnswer) -> bool
-    ensures { λ r. ⌜ r ≡ isDone a ⌝ }
-{
-    match a {
-        SendAnswer::Done => true,
-        SendAnswer::OutOfRange => false,
-        SendAnswer::BadEpoch => false,
-        SendAnswer::BadRecord => false,
-        SendAnswer::KeysAbsent => false,
-        SendAnswer::MessagesSpent => false,
-        SendAnswer::FlightFull => false,
-        SendAnswer::QueueFull => false,
-        SendAnswer::NumbersSpent => false,
-    }
 }
 
 pub fn no_waiting() -> Waiting
@@ -135,13 +87,3 @@ pub fn is_allowed(mtu: usize, epoch: u16, t: u8, n: usize) -> bool
     false
 }
 
-pub fn is_keyed_now(a: KeyAnswer) -> bool
-    ensures { λ r. ⌜ r ≡ isKeyedNow a ⌝ }
-{
-    match a {
-        KeyAnswer::Keyed => true,
-        KeyAnswer::OutOfRange => false,
-        KeyAnswer::BadEpoch => false,
-        KeyAnswer::SealingWaits => false,
-    }
-}

@@ -11,7 +11,7 @@ use lib.ListN.{length, getD, set}
 use lib.Seq.{getD-set-other}
 use Rattle.base.specs.Bytes.{beAt}
 use Rattle.base.specs.Choose.{choose, both, if-true, by-test, by-less, eq-or-ne}
-use Rattle.outgoing.specs.declared.SendAnswer.the-variants.{Done, OutOfRange}
+use Rattle.send_keys.specs.declared.SendAnswer.the-variants.{Done, OutOfRange}
 use Rattle.flight.specs.declared.Entry.{Entry}
 use Rattle.flight.specs.declared.Flight.{Flight}
 use Rattle.flight.specs.Flight.{noEntry, entryAt, withSaved}

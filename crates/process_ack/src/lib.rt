@@ -5,7 +5,7 @@ ghost use lib.ListN.{length};
 ghost use Rattle.process_ack.specs.Ack.{isFormed, isPair, isNamed, isRemembered, isAcked, tallyWith};
 use flight::Entry;
 use flight::Flight;
-use outgoing::SendAnswer;
+use send_keys::SendAnswer;
 
 // Whether records of epoch 2 are saved, and whether one of them is not acknowledged.
 pub struct Tally {

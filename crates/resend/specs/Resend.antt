@@ -13,17 +13,16 @@ use Rattle.base.specs.Parts.{part}
 use Rattle.queue.specs.Queue.{InRange}
 use Rattle.send_keys.specs.Keys.{nextOf}
 use Rattle.outgoing.specs.declared.Sending.{Sending}
-use Rattle.outgoing.specs.declared.SendAnswer.{SendAnswer}
-use Rattle.outgoing.specs.State.{isDone as isSent}
+use Rattle.send_keys.specs.declared.SendAnswer.{SendAnswer}
 use Rattle.outgoing.specs.Send.{sendAnswer, sendState, sendMemory}
 use Rattle.outgoing.specs.Laws.{send-range}
 use Rattle.flight.specs.declared.Entry.{Entry}
 use Rattle.flight.specs.declared.Flight.{Flight}
 use Rattle.flight.specs.declared.SavedRecords.{SavedRecords}
 use Rattle.flight.specs.Flight.{noEntry, entryAt, whole}
+use Rattle.send_keys.specs.Answer.{isDone}
 use Rattle.resend.specs.declared.Resent.{Resent}
-use Rattle.resend.specs.declared.ResendAnswer.{ResendAnswer}
-use Rattle.resend.specs.Tests.{isDone, remembers, closedState}
+use Rattle.resend.specs.Tests.{remembers, closedState}
 
 -- a new present number, and so many remembered
 unfoldable pub withNumber : Entry → ℕ → ℕ → Entry
@@ -45,7 +44,7 @@ renewed f i number =
     (record { entries = set (f .entries) i (withNumber (entryAt f i) number (entryAt f i .remembered)); saved = f .saved; numbers = f .numbers })
 
 unfoldable pub renewedIf : SendAnswer → Flight → ℕ → ℕ → Flight
-renewedIf a f i number = choose (isSent a) (renewed f i number) f
+renewedIf a f i number = choose (isDone a) (renewed f i number) f
 
 -- the entry and the table of a record under its new number
 unfoldable pub newEntry : Entry → ℕ → Entry
@@ -55,10 +54,10 @@ unfoldable pub newTable : Entry → ℕ → List ℕ → List ℕ
 newTable e i numbers = choose (canRemember e) (set numbers (i * 32 + e .remembered) (e .number)) numbers
 
 unfoldable pub sentEntry : SendAnswer → Entry → ℕ → Entry
-sentEntry a e number = choose (isSent a) (newEntry e number) e
+sentEntry a e number = choose (isDone a) (newEntry e number) e
 
 unfoldable pub sentTable : SendAnswer → Entry → ℕ → List ℕ → List ℕ
-sentTable a e i numbers = choose (isSent a) (newTable e i numbers) numbers
+sentTable a e i numbers = choose (isDone a) (newTable e i numbers) numbers
 
 -- saved records with another i-th
 abbrev pub withEntry : SavedRecords → ℕ → Entry → SavedRecords
@@ -101,12 +100,12 @@ abbrev pub allAgain : Sending → Flight → List ℕ → List ℕ → Laying
 allAgain s f kept q = againAfter kept (record { state = closedState s; flight = f; queue = q }) (f .saved)
 
 -- wholly or not at all
-unfoldable pub resendState : ResendAnswer → Sending → Flight → List ℕ → List ℕ → Resent
+unfoldable pub resendState : SendAnswer → Sending → Flight → List ℕ → List ℕ → Resent
 resendState a s f kept q =
     choose (isDone a) (record { answer = a; state = allAgain s f kept q .state; flight = allAgain s f kept q .flight })
     (record { answer = a; state = s; flight = f })
 
-unfoldable pub resendQueue : ResendAnswer → Sending → Flight → List ℕ → List ℕ → List ℕ
+unfoldable pub resendQueue : SendAnswer → Sending → Flight → List ℕ → List ℕ → List ℕ
 resendQueue a s f kept q = choose (isDone a) (allAgain s f kept q .queue) q
 
 -- ---- laws
@@ -121,7 +120,7 @@ pub sent-parts : (a : SendAnswer) (g : SavedRecords) (n : List ℕ) (i number : 
     → whole (withEntry g i (sentEntry a (entryAt (whole g n) i) number)) (sentTable a (entryAt (whole g n) i) i n) ≡ renewedIf a (whole g n) i number
 unfolding sentEntry sentTable renewedIf choose
 sent-parts a g n i number =
-    test-cases (isSent a) (λ t. rw t (renewed-parts g n i number))
+    test-cases (isDone a) (λ t. rw t (renewed-parts g n i number))
     (λ t. rw t (ap (λ (l : List Entry). record { entries = l; saved = g .saved; numbers = n }) (set-getD (g .entries) i noEntry)))
 
 pub again-next : (kept : List ℕ) (l : Laying) (n : ℕ) → againAfter kept l (n + 1) ≡ againAt kept n (againAfter kept l n)

@@ -11,6 +11,7 @@ use Rattle.queue.specs.declared.Tail.{Tail}
 use Rattle.queue.specs.Queue.{isReady, tailOf, placeOf, grown, placed, Tailed, InRange, Ready, ready}
 use Rattle.queue.specs.Laid.{recordLen}
 use Rattle.send_keys.specs.declared.SendKeys.{SendKeys}
+use Rattle.send_keys.specs.Answer.{isDone}
 use Rattle.send_keys.specs.Keys.{isUsable, isKeyed, nextOf}
 use Rattle.outgoing.specs.declared.Sending.{Sending}
 use Rattle.outgoing.specs.State.{isAllowed, allowed-short}
@@ -20,29 +21,8 @@ use Rattle.flight.specs.declared.Flight.{Flight}
 use Rattle.flight.specs.Flight.{isKept, entryAt}
 use Rattle.resend.specs.declared.Passed.{Passed}
 use Rattle.resend.specs.declared.Survey.{Survey}
-use Rattle.resend.specs.declared.ResendAnswer.{ResendAnswer}
-use Rattle.resend.specs.declared.ResendAnswer.the-variants.{Done, OutOfRange, BadEpoch, BadRecord, KeysAbsent, HistoryFull, QueueFull, NumbersSpent}
-
--- the paper's number of each answer; 0 where it is done
-abbrev pub refusal : ResendAnswer → ℕ
-refusal Done = 0
-refusal OutOfRange = 12
-refusal BadEpoch = 13
-refusal BadRecord = 14
-refusal KeysAbsent = 17
-refusal HistoryFull = 22
-refusal QueueFull = 19
-refusal NumbersSpent = 20
-
-abbrev pub isDone : ResendAnswer → Bool
-isDone Done = true
-isDone OutOfRange = false
-isDone BadEpoch = false
-isDone BadRecord = false
-isDone KeysAbsent = false
-isDone HistoryFull = false
-isDone QueueFull = false
-isDone NumbersSpent = false
+use Rattle.send_keys.specs.declared.SendAnswer.{SendAnswer}
+use Rattle.send_keys.specs.declared.SendAnswer.the-variants.{Done, OutOfRange, BadEpoch, BadRecord, KeysAbsent, HistoryFull, QueueFull, NumbersSpent}
 
 -- "the old number is remembered for handshake records of epoch 2 and above"
 unfoldable pub remembers : Entry → Bool
@@ -127,13 +107,13 @@ closedState s = record {
 }
 
 -- 19, 20
-unfoldable pub fitAnswer : Sending → Flight → ResendAnswer
+unfoldable pub fitAnswer : Sending → Flight → SendAnswer
 fitAnswer s f =
     choose (ltb (s .queue .limit) (tailAfter (s .queue .mtu) (tailOf (s .queue)) f (f .saved) .count)) QueueFull
     (choose (anySpent (s .keys) f) NumbersSpent Done)
 
 -- 12, 13, 14, 17, 22, 19, 20
-unfoldable pub resendAnswer : Sending → Flight → ℕ → ℕ → ResendAnswer
+unfoldable pub resendAnswer : Sending → Flight → ℕ → ℕ → SendAnswer
 resendAnswer s f room kept =
     choose (isReady (s .queue) room)
     (choose (isKept f (s .queue .mtu) kept)
@@ -207,8 +187,8 @@ joined-tail {mtu} {t} {e} m h j =
 pub resend-safe : (s : Sending) (f : Flight) (room kept : ℕ) → isDone (resendAnswer s f room kept) ≡ true → Ready (s .queue) room × (isKept f (s .queue .mtu) kept ≡ true)
 unfolding resendAnswer
 resend-safe s f room kept =
-    by-test (λ (a : ResendAnswer). isDone a ≡ true → Ready (s .queue) room × (isKept f (s .queue .mtu) kept ≡ true))
-    (λ r. by-test (λ (a : ResendAnswer). isDone a ≡ true → Ready (s .queue) room × (isKept f (s .queue .mtu) kept ≡ true))
+    by-test (λ (a : SendAnswer). isDone a ≡ true → Ready (s .queue) room × (isKept f (s .queue .mtu) kept ≡ true))
+    (λ r. by-test (λ (a : SendAnswer). isDone a ≡ true → Ready (s .queue) room × (isKept f (s .queue .mtu) kept ≡ true))
     (λ k d. (ready r, k))
     (λ k d. absurd (false≢true d)))
     (λ r d. absurd (false≢true d))

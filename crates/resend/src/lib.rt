@@ -6,31 +6,16 @@ ghost use lib.Dec as tests;
 ghost use lib.ListN.{length};
 ghost use Rattle.base.specs.Choose.{choose};
 ghost use Rattle.queue.specs.Queue.{Tailed};
-ghost use Rattle.resend.specs.Tests.{refusal, isDone, remembers, hasRoom, joined, surveyedWith, isOver, Joins};
+ghost use Rattle.resend.specs.Tests.{remembers, hasRoom, joined, surveyedWith, isOver, Joins};
 ghost use Rattle.resend.specs.Resend.{canRemember, newEntry, newTable, sentEntry, sentTable};
 use flight::Entry;
 use flight::Flight;
-use outgoing::SendAnswer;
+use send_keys::SendAnswer;
 use outgoing::Sending;
 use queue::Tail;
 
-pub enum ResendAnswer {
-    Done,
-    // A setting or a field out of its range, or a lent buffer too short.
-    OutOfRange,
-    // A record of an epoch that can no longer be sent in.
-    BadEpoch,
-    // A record that could not be sent.
-    BadRecord,
-    KeysAbsent,
-    // A handshake record of epoch 2 or above remembers 32 numbers.
-    HistoryFull,
-    QueueFull,
-    NumbersSpent,
-}
-
 pub struct Resent {
-    pub answer: ResendAnswer,
+    pub answer: SendAnswer,
     pub state: Sending,
     pub flight: Flight,
 }
@@ -49,37 +34,6 @@ pub struct Survey {
     pub plaintext: usize,
     pub handshake: usize,
     pub application: usize,
-}
-
-// The number of an answer; 0 where the flight is sent again.
-pub fn refusal(a: ResendAnswer) -> u8
-    ensures { λ r. ⌜ r ≡ refusal a ⌝ }
-{
-    match a {
-        ResendAnswer::Done => 0,
-        ResendAnswer::OutOfRange => 12,
-        ResendAnswer::BadEpoch => 13,
-        ResendAnswer::BadRecord => 14,
-        ResendAnswer::KeysAbsent => 17,
-        ResendAnswer::HistoryFull => 22,
-        ResendAnswer::QueueFull => 19,
-        ResendAnswer::NumbersSpent => 20,
-    }
-}
-
-pub fn is_done(a: ResendAnswer) -> bool
-    ensures { λ r. ⌜ r ≡ isDone a ⌝ }
-{
-    match a {
-        ResendAnswer::Done => true,
-        ResendAnswer::OutOfRange => false,
-        ResendAnswer::BadEpoch => false,
-        ResendAnswer::BadRecord => false,
-        ResendAnswer::KeysAbsent => false,
-        ResendAnswer::HistoryFull => false,
-        ResendAnswer::QueueFull => false,
-        ResendAnswer::NumbersSpent => false,
-    }
 }
 
 // Whether a record's earlier numbers are remembered: a handshake record of epoch 2 or above.
@@ -199,7 +153,7 @@ pub fn renew_if(a: SendAnswer, e: Entry, numbers: &mut [u64; 384], i: usize, num
     requires { ⌜ i < 12 ⌝ }
     ensures { λ r. ⌜ (r ≡ sentEntry a e number) × (now (numbers .exit) ≡ sentTable a e i (now (numbers .entry))) ⌝ }
 {
-    if outgoing::is_done(a) {
+    if send_keys::is_done(a) {
         return renew(e, numbers, i, number);
     }
     e

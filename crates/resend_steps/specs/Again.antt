@@ -2,14 +2,13 @@
 use mathlib.Core.Bool.{true, false}
 use mathlib.Core.List.{List}
 use mathlib.Core.Path.{_≡_, refl, sym, ap, subst, _∙_}
-use Prim.Native.Nat.{ℕ, _+_, _*_, _≤_, _<_}
+use Prim.Native.Nat.{ℕ, _+_, _*_}
 use lib.ListN.{length, set}
 use Rattle.base.specs.Choose.{choose, if-true, both-right, both-true, test-cases}
 use Rattle.base.specs.Parts.{part}
 use Rattle.queue.specs.Queue.{InRange}
 use Rattle.send_keys.specs.Keys.{nextOf}
-use Rattle.outgoing.specs.declared.SendAnswer.{SendAnswer}
-use Rattle.outgoing.specs.State.{isDone}
+use Rattle.send_keys.specs.declared.SendAnswer.{SendAnswer}
 use Rattle.flight.specs.declared.Entry.{Entry}
 use Rattle.flight.specs.declared.Flight.{Flight}
 use Rattle.flight.specs.Flight.{entryAt}
@@ -21,6 +20,7 @@ use Rattle.flight_words.specs.Words.{recordsOf, flightOf, flatTo}
 use Rattle.flight_words.specs.Entries.{Entered, withNumbers}
 use Rattle.resend.specs.Tests.{closedState}
 use Rattle.resend.specs.Resend.{Laying, canRemember, withNumber, newEntry, sentEntry, sentTable, sentAgain, againAt, againAfter, again-next, again-range, sent-again}
+use Rattle.send_keys.specs.Answer.{isDone}
 
 -- state, flight and queue that the words stand for
 abbrev pub layingOf : List ℕ → List ℕ → List ℕ → List ℕ → Laying

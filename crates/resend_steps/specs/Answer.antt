@@ -6,7 +6,6 @@ use Prim.Native.Nat.{ℕ, _+_, _≤_, _<_}
 use borrow.Author.Tests.{lt-ltb, le-ltb}
 use Rattle.base.specs.Choose.{choose, if-true, if-false, test-cases}
 use Rattle.queue.specs.declared.Tail.{Tail}
-use Rattle.queue.specs.declared.Queue.{Queue}
 use Rattle.queue.specs.Queue.{lastLen, tailOf, isReady}
 use Rattle.send_keys.specs.declared.SendKeys.{SendKeys}
 use Rattle.send_keys.specs.Keys.{isUsable, isKeyed, nextOf}
@@ -19,18 +18,19 @@ use Rattle.flight_words.specs.Words.{entryAt as rowAt, flightOf}
 use Rattle.flight_words.specs.Entries.{entry-at}
 use Rattle.resend.specs.declared.Passed.{Passed}
 use Rattle.resend.specs.declared.Survey.{Survey}
-use Rattle.resend.specs.declared.ResendAnswer.{ResendAnswer}
-use Rattle.resend.specs.declared.ResendAnswer.the-variants.{Done, OutOfRange, BadEpoch, BadRecord, KeysAbsent, HistoryFull, QueueFull, NumbersSpent}
-use Rattle.resend.specs.Tests.{isDone, remembers, hasRoom, passes, allPass, passedWith, passedAfter, surveyedWith, surveyedAfter, isOver, isSpent, anySpent, closedState, fitAnswer, resendAnswer, passed-next, surveyed-next}
+use Rattle.send_keys.specs.declared.SendAnswer.{SendAnswer}
+use Rattle.send_keys.specs.declared.SendAnswer.the-variants.{Done, OutOfRange, BadEpoch, BadRecord, KeysAbsent, HistoryFull, QueueFull, NumbersSpent}
+use Rattle.resend.specs.Tests.{remembers, hasRoom, passes, passedWith, passedAfter, surveyedWith, surveyedAfter, isOver, isSpent, anySpent, closedState, fitAnswer, resendAnswer, passed-next, surveyed-next}
+use Rattle.send_keys.specs.Answer.{isDone}
 
 -- the first test that is not passed, else a
-abbrev pub refusedBy : Passed → ResendAnswer → ResendAnswer
+abbrev pub refusedBy : Passed → SendAnswer → SendAnswer
 refusedBy p a = choose (p .usable) (choose (p .allowed) (choose (p .keyed) (choose (p .room) a HistoryFull) KeysAbsent) BadRecord) BadEpoch
 
 -- all are passed, or what refuses does not depend on a
 pub record Cleared (p : Passed) : Type 0 where
   pub allowed : p .allowed ≡ true
-  pub same : (a : ResendAnswer) → refusedBy p a ≡ a
+  pub same : (a : SendAnswer) → refusedBy p a ≡ a
 
 pub cleared : (p : Passed) → isDone (refusedBy p Done) ≡ true → Cleared p
 unfolding choose
@@ -43,7 +43,7 @@ cleared p =
     (λ b e. absurd (false≢true (rw (a, b) at e))))
     (λ a e. absurd (false≢true (rw a at e)))
 
-pub refused : (p : Passed) (x : ResendAnswer) → isDone (refusedBy p Done) ≡ false → refusedBy p Done ≡ refusedBy p x
+pub refused : (p : Passed) (x : SendAnswer) → isDone (refusedBy p Done) ≡ false → refusedBy p Done ≡ refusedBy p x
 unfolding choose
 refused p x =
     test-cases (p .usable)

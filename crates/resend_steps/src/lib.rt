@@ -8,7 +8,7 @@ ghost use Rattle.base.specs.Choose.{choose};
 ghost use Rattle.queue.specs.Queue.{InRange, Tailed, tailOf};
 ghost use Rattle.send_keys.specs.Keys.{nextOf};
 ghost use Rattle.flight.specs.Flight.{isKept};
-ghost use Rattle.resend.specs.declared.ResendAnswer.the-variants as answers;
+ghost use Rattle.send_keys.specs.declared.SendAnswer.the-variants as answers;
 ghost use Rattle.resend.specs.Tests.{passedWith, passedAfter, surveyedAfter, isOver, closedState, fitAnswer, resendAnswer, Fitting};
 ghost use Rattle.resend.specs.Resend.{againAt, againAfter};
 ghost use Rattle.send_words.specs.Words.{mtu-at, queueOf, stateOf};
@@ -20,7 +20,7 @@ use flight::Entry;
 use flight_words::SAVED;
 use queue::Tail;
 use resend::Passed;
-use resend::ResendAnswer;
+use send_keys::SendAnswer;
 use resend::Survey;
 use send_words::APPLICATION;
 use send_words::CLOSED;
@@ -70,22 +70,22 @@ fn all_passed(w: &[u64; WORDS], f: &[u64; flight_words::WORDS]) -> Passed
 }
 
 // The first test that some record does not pass.
-fn refused_by(p: Passed) -> ResendAnswer
+fn refused_by(p: Passed) -> SendAnswer
     ensures { λ r. ⌜ r ≡ refusedBy p answers.Done ⌝ }
 {
     if !p.usable {
-        return ResendAnswer::BadEpoch;
+        return SendAnswer::BadEpoch;
     }
     if !p.allowed {
-        return ResendAnswer::BadRecord;
+        return SendAnswer::BadRecord;
     }
     if !p.keyed {
-        return ResendAnswer::KeysAbsent;
+        return SendAnswer::KeysAbsent;
     }
     if !p.room {
-        return ResendAnswer::HistoryFull;
+        return SendAnswer::HistoryFull;
     }
-    ResendAnswer::Done
+    SendAnswer::Done
 }
 
 // A dry run: all of them sent again from the queue's end on, with this application epoch.
@@ -136,7 +136,7 @@ fn closed_tail(w: &[u64; WORDS]) -> Tail
 }
 
 // Whether a new datagram beyond the limit is needed, or a number that is spent.
-fn fit_answer(w: &[u64; WORDS], f: &[u64; flight_words::WORDS]) -> ResendAnswer
+fn fit_answer(w: &[u64; WORDS], f: &[u64; flight_words::WORDS]) -> SendAnswer
     requires { ⌜ InRange (queueOf (now w)) × (getD (now f) saved-at 0 ≤ 12) × ((n : List ℕ) → Fitting (getD (now w) mtu-at 0) (flightOf (now f) n)) ⌝ }
     ensures { λ r. ⌜ ((n : List ℕ) → r ≡ fitAnswer (closedState (stateOf (now (w .entry)))) (flightOf (now (f .entry)) n)) ⌝ }
 {
@@ -144,12 +144,12 @@ fn fit_answer(w: &[u64; WORDS], f: &[u64; flight_words::WORDS]) -> ResendAnswer
     let d = survey_all(w[MTU] as usize, epoch, closed_tail(w), f);
     let t = d.tail;
     if (w[LIMIT] as usize) < t.count {
-        return ResendAnswer::QueueFull;
+        return SendAnswer::QueueFull;
     }
     if any_spent(w, epoch, d) {
-        return ResendAnswer::NumbersSpent;
+        return SendAnswer::NumbersSpent;
     }
-    ResendAnswer::Done
+    SendAnswer::Done
 }
 
 // Whether the saved records are in range and the buffer of their contents is long enough.
@@ -169,17 +169,17 @@ pub fn resend_answer(
     f: &[u64; flight_words::WORDS],
     room: usize,
     kept: usize,
-) -> ResendAnswer
+) -> SendAnswer
     ensures { λ r. ⌜ ((n : List ℕ) → r ≡ resendAnswer (stateOf (now (w .entry))) (flightOf (now (f .entry)) n) room kept) ⌝ }
 {
     if !send_steps::is_ready(w, room) {
-        return ResendAnswer::OutOfRange;
+        return SendAnswer::OutOfRange;
     }
     if !is_kept(f, w[MTU] as usize, kept) {
-        return ResendAnswer::OutOfRange;
+        return SendAnswer::OutOfRange;
     }
     let a = refused_by(all_passed(w, f));
-    if resend::is_done(a) {
+    if send_keys::is_done(a) {
         return fit_answer(w, f);
     }
     a

@@ -18,8 +18,9 @@ use Rattle.outgoing.specs.State.{isAllowed}
 use Rattle.flight.specs.declared.Entry.{Entry}
 use Rattle.flight.specs.declared.Flight.{Flight}
 use Rattle.flight.specs.Flight.{isKept, entryAt}
-use Rattle.resend.specs.declared.ResendAnswer.{ResendAnswer}
-use Rattle.resend.specs.Tests.{isDone, hasRoom, passes, joined, tailAfter, countAfter, isOver, isSpent, anySpent, closedState, fitAnswer, resendAnswer, pass-at, tail-next, count-next}
+use Rattle.send_keys.specs.declared.SendAnswer.{SendAnswer}
+use Rattle.resend.specs.Tests.{hasRoom, passes, joined, tailAfter, countAfter, isOver, isSpent, anySpent, closedState, fitAnswer, resendAnswer, pass-at, tail-next, count-next}
+use Rattle.send_keys.specs.Answer.{isDone}
 
 -- ---- what the tests found
 
@@ -55,7 +56,7 @@ module _ (k : SendKeys) (mtu : ℕ) (e : Entry) (m : e .marked ≡ false) where
 pub able : (s : Sending) (f : Flight) (kept q : List ℕ) → isDone (resendAnswer s f (length q) (length kept)) ≡ true → Able s f kept q
 unfolding resendAnswer fitAnswer isKept closedState
 able s f kept q =
-    let P : ResendAnswer → Type 0 = λ a. isDone a ≡ true → Able s f kept q in
+    let P : SendAnswer → Type 0 = λ a. isDone a ≡ true → Able s f kept q in
     let k : SendKeys = s .keys in
     let mtu : ℕ = s .queue .mtu in
     by-test P

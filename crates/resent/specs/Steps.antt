@@ -6,7 +6,7 @@ use Prim.Native.Nat.{ℕ, zero, suc, _+_, _*_, _≤_, _<_}
 use native.Mathlib.Nat.{mul-le-mul-right}
 use native.Mathlib.Omega.{arith}
 use lib.Dec.{eqb}
-use lib.ListN.{length, set, length-set}
+use lib.ListN.{length, length-set}
 use lib.Seq.{getD-set-other}
 use borrow.Author.Tests.{lt-leb}
 use Rattle.base.specs.Choose.{choose, by-test, test-cases, if-true, if-false}
@@ -15,10 +15,10 @@ use Rattle.queue.specs.declared.Tail.{Tail}
 use Rattle.queue.specs.declared.Place.{Place}
 use Rattle.queue.specs.Queue.{tailOf, placeOf, grown, laid, startOf, Ready, Fits, ready-again, laid-range, tail-laid, placed, spot}
 use Rattle.queue.specs.Laid.{recordLen, recordBytes, length-record, len-over}
-use Rattle.send_keys.specs.Keys.{isUsable, isKeyed, nextOf, used}
+use Rattle.send_keys.specs.Keys.{isUsable, isKeyed, nextOf}
 use Rattle.outgoing.specs.declared.Sending.{Sending}
-use Rattle.outgoing.specs.declared.SendAnswer.{SendAnswer}
-use Rattle.outgoing.specs.declared.SendAnswer.the-variants.{Done}
+use Rattle.send_keys.specs.declared.SendAnswer.{SendAnswer}
+use Rattle.send_keys.specs.declared.SendAnswer.the-variants.{Done}
 use Rattle.outgoing.specs.State.{isAllowed}
 use Rattle.outgoing.specs.Send.{spotOf, laidState, laidMemory, sendAnswer, sendState, sendMemory, allowed-fits}
 use Rattle.flight.specs.declared.Entry.{Entry}

@@ -13,21 +13,22 @@ use Rattle.base.specs.Choose.{choose, by-test, test-cases, if-true, if-false, b
 use Rattle.queue.specs.Queue.{tailOf, laid}
 use Rattle.send_keys.specs.Keys.{isUsable, nextOf}
 use Rattle.outgoing.specs.declared.Sending.{Sending}
-use Rattle.outgoing.specs.declared.SendAnswer.the-variants as send
+use Rattle.send_keys.specs.declared.SendAnswer.the-variants as send
 use Rattle.outgoing.specs.Send.{laidState, laidMemory}
 use Rattle.flight.specs.declared.Entry.{Entry}
 use Rattle.flight.specs.declared.Flight.{Flight}
 use Rattle.flight.specs.Flight.{entryAt, noEntry}
 use Rattle.resend.specs.declared.Resent.{Resent}
-use Rattle.resend.specs.declared.ResendAnswer.{ResendAnswer}
-use Rattle.resend.specs.Tests.{isDone, remembers, hasRoom, tailAfter, countAfter, closedState, resendAnswer, count-next}
+use Rattle.send_keys.specs.declared.SendAnswer.{SendAnswer}
+use Rattle.resend.specs.Tests.{remembers, hasRoom, tailAfter, countAfter, closedState, resendAnswer, count-next}
 use Rattle.resend.specs.Resend.{withNumber, canRemember, renewed, Laying, contentAt, againAnswer, againAfter, resendState, resendQueue, again-next}
+use Rattle.send_keys.specs.Answer.{isDone}
 use Rattle.resent.specs.Plan.{Able, able, count-grows, one-own}
 use Rattle.resent.specs.Steps.{Tables, Reached, beginning, reached, keptContent, numberAgain, again-skips, content-kept, again-done, again-behind, kept-long, under-top, renewed-other, reaches}
 
 -- ---- the call
 
-abbrev pub answerTo : Sending → Flight → List ℕ → List ℕ → ResendAnswer
+abbrev pub answerTo : Sending → Flight → List ℕ → List ℕ → SendAnswer
 answerTo s f kept q = resendAnswer s f (length q) (length kept)
 
 abbrev pub leftState : Sending → Flight → List ℕ → List ℕ → Resent

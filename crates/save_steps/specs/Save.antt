@@ -14,9 +14,9 @@ use Rattle.base.specs.Parts.{splice}
 use Rattle.queue.specs.Queue.{isReady}
 use Rattle.send_keys.specs.Keys.{isUsable, isKeyed, nextOf}
 use Rattle.outgoing.specs.declared.Sending.{Sending}
-use Rattle.outgoing.specs.declared.SendAnswer.{SendAnswer}
-use Rattle.outgoing.specs.declared.SendAnswer.the-variants.{Done, OutOfRange, BadEpoch, BadRecord, KeysAbsent, MessagesSpent, FlightFull, QueueFull, NumbersSpent}
-use Rattle.outgoing.specs.State.{isDone, isAllowed}
+use Rattle.send_keys.specs.declared.SendAnswer.{SendAnswer}
+use Rattle.send_keys.specs.declared.SendAnswer.the-variants.{Done, OutOfRange, BadEpoch, BadRecord, KeysAbsent, MessagesSpent, FlightFull, QueueFull, NumbersSpent, HistoryFull, SealingWaits}
+use Rattle.outgoing.specs.State.{isAllowed}
 use Rattle.outgoing.specs.Send.{spotOf, isFull, isSpent, sendAnswer, laidState, laidMemory}
 use Rattle.flight.specs.declared.Entry.{Entry}
 use Rattle.flight.specs.declared.Flight.{Flight}
@@ -27,6 +27,7 @@ use Rattle.send_words.specs.Words.{stateOf, isFlat}
 use Rattle.send_words.specs.Partly.{Partly}
 use Rattle.send_steps.specs.declared.Verdict.{Verdict}
 use Rattle.flight_words.specs.Words.{words, type-at, epoch-at, number-at, length-at, marked-at, remembered-at, saved-at, entriesOf, flightOf, flatTo, putEntry, LowEntry}
+use Rattle.send_keys.specs.Answer.{isDone}
 
 -- ---- the answer
 
@@ -46,6 +47,8 @@ fullAnswer MessagesSpent = MessagesSpent
 fullAnswer FlightFull = FlightFull
 fullAnswer QueueFull = FlightFull
 fullAnswer NumbersSpent = FlightFull
+fullAnswer HistoryFull = HistoryFull
+fullAnswer SealingWaits = SealingWaits
 
 not-full : (a : SendAnswer) → isDone (fullAnswer a) ≡ false
 not-full Done = refl
@@ -57,6 +60,8 @@ not-full MessagesSpent = refl
 not-full FlightFull = refl
 not-full QueueFull = refl
 not-full NumbersSpent = refl
+not-full HistoryFull = refl
+not-full SealingWaits = refl
 
 -- the tests of a send, and of a saved one with those of the flight between them
 abbrev sends : Bool → Bool → Bool → Bool → Bool → Bool → SendAnswer

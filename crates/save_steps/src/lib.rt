@@ -12,7 +12,7 @@ ghost use Rattle.flight_words.specs.Words as flights;
 ghost use Rattle.save_steps.specs.Save.{fullAnswer, Judged, Adds, Saves};
 use flight::Entry;
 use flight_words::SAVED;
-use outgoing::SendAnswer;
+use send_keys::SendAnswer;
 use queue::Place;
 use send_steps::Verdict;
 use send_words::MTU;
@@ -31,6 +31,8 @@ fn full_answer(a: SendAnswer) -> SendAnswer
         SendAnswer::FlightFull => SendAnswer::FlightFull,
         SendAnswer::QueueFull => SendAnswer::FlightFull,
         SendAnswer::NumbersSpent => SendAnswer::FlightFull,
+        SendAnswer::HistoryFull => SendAnswer::HistoryFull,
+        SendAnswer::SealingWaits => SendAnswer::SealingWaits,
     }
 }
 
@@ -117,7 +119,7 @@ pub fn send_saved(
     let v = save_answer(w, saved, memory.len(), kept.len(), epoch, t, n);
     let a = v.answer;
     let p = v.place;
-    if outgoing::is_done(a) {
+    if send_keys::is_done(a) {
         let at = saved * (w[MTU] as usize);
         let end = at + n;
         queue::copy_short(content, &mut kept[at..end]);

@@ -9,15 +9,8 @@ use lib.ListN.{replicate}
 use Rattle.base.specs.Choose.{choose, both, either, if-true, if-false, test-cases}
 use Rattle.send_keys.specs.declared.SendEpoch.{SendEpoch}
 use Rattle.send_keys.specs.declared.SendKeys.{SendKeys}
-use Rattle.send_keys.specs.declared.KeyAnswer.{KeyAnswer}
-use Rattle.send_keys.specs.declared.KeyAnswer.the-variants.{Keyed, OutOfRange, BadEpoch, SealingWaits}
-
--- the paper's number of each answer; 0 where it is done
-abbrev pub refusal : KeyAnswer → ℕ
-refusal Keyed = 0
-refusal OutOfRange = 12
-refusal BadEpoch = 13
-refusal SealingWaits = 23
+use Rattle.send_keys.specs.declared.SendAnswer.{SendAnswer}
+use Rattle.send_keys.specs.declared.SendAnswer.the-variants.{Done, OutOfRange, BadEpoch, SealingWaits}
 
 unfoldable pub noEpoch : SendEpoch
 noEpoch = record { epoch = 0; iv = replicate 12 0; next = 0; sealed = 0 }
@@ -63,14 +56,14 @@ sealedUpTo k e n =
 
 -- 12; 13: "keying 0, 1 or one not above every earlier one of its direction"; 23: "a sending application epoch replaced while a
 -- sealing under it waits". An epoch above epoch 2 and every earlier one is an application epoch, and so is the one that it replaces.
-unfoldable pub keyAnswer : SendKeys → Bool → ℕ → KeyAnswer
+unfoldable pub keyAnswer : SendKeys → Bool → ℕ → SendAnswer
 keyAnswer k sound e =
     choose sound
     (choose (ltb e 2) BadEpoch
     (choose (leb e (k .handshake .epoch)) BadEpoch
     (choose (leb e (k .application .epoch)) BadEpoch
-    (choose (eqb (k .application .epoch) 0) Keyed
-    (choose (ltb (k .application .sealed) (k .application .next)) SealingWaits Keyed)))))
+    (choose (eqb (k .application .epoch) 0) Done
+    (choose (ltb (k .application .sealed) (k .application .next)) SealingWaits Done)))))
     OutOfRange
 
 -- its IV, and numbers from 0

@@ -5,11 +5,11 @@ use mathlib.Core.Path.{_≡_, sym, _∙_}
 use Prim.Native.Nat.{ℕ}
 use lib.ListN.{length}
 use Rattle.base.specs.Choose.{if-true, if-false}
-use Rattle.outgoing.specs.declared.SendAnswer.{SendAnswer}
-use Rattle.outgoing.specs.State.{isDone}
+use Rattle.send_keys.specs.declared.SendAnswer.{SendAnswer}
 use Rattle.outgoing.specs.Send.{sendAnswer, sendState, sendMemory, laidState, laidMemory}
 use Rattle.send_words.specs.Words.{stateOf, isFlat}
 use Rattle.send_words.specs.Partly.{Partly}
+use Rattle.send_keys.specs.Answer.{isDone}
 
 -- a record of epoch e and type t with this content: w and queue q before; v and p behind
 pub record Sends (a : SendAnswer) (e t : ℕ) (x w v q p : List ℕ) : Type 0 where

@@ -13,14 +13,15 @@ use Rattle.queue.specs.Queue.{slotOf, laid, slot-lt, Fits, spot}
 use Rattle.queue.specs.Laid.{recordLen}
 use Rattle.send_keys.specs.declared.SendKeys.{SendKeys}
 use Rattle.send_keys.specs.Keys.{nextOf, used, withNext, next-plaintext, next-handshake, next-application}
-use Rattle.outgoing.specs.declared.SendAnswer.{SendAnswer}
+use Rattle.send_keys.specs.declared.SendAnswer.{SendAnswer}
 use Rattle.outgoing.specs.declared.Sending.{Sending}
 use Rattle.outgoing.specs.declared.Waiting.{Waiting}
-use Rattle.outgoing.specs.State.{isDone, withKeys}
+use Rattle.outgoing.specs.State.{withKeys}
 use Rattle.outgoing.specs.Send.{spotOf, sendAnswer, waitsBehind, laidState, Clear, clear-short, clear-fits}
 use Rattle.words.specs.Fields.{firstOf, by-words, low-bit, low-back}
 use Rattle.send_words.specs.Words.{words, count-at, closed-at, sealing-at, plaintext-next-at, handshake-next-at, application-next-at, length-at, lowsFrom, stateOf, isFlat, putWaiting}
 use Rattle.send_words.specs.Partly.{Partly, withWaiting, low-waiting, waiting-back}
+use Rattle.send_keys.specs.Answer.{isDone}
 use Rattle.send_steps.specs.declared.Verdict.{Verdict}
 
 -- the answer, and the place if it is done

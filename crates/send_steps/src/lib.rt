@@ -10,7 +10,7 @@ ghost use Rattle.send_words.specs.Words.{queueOf, stateOf};
 ghost use Rattle.send_words.specs.Partly.{Partly, withWaiting};
 ghost use Rattle.send_steps.specs.Steps.{endAt, waits, Judged, Lays};
 ghost use Rattle.send_steps.specs.Sends.{Sends};
-use outgoing::SendAnswer;
+use send_keys::SendAnswer;
 use outgoing::Waiting;
 use queue::Place;
 use queue::Tail;
@@ -282,7 +282,7 @@ pub fn send(w: &mut [u64; WORDS], epoch: u16, t: u8, content: &[u8], d: &mut [u8
     let v = send_answer(w, d.len(), epoch, t, content.len());
     let a = v.answer;
     let p = v.place;
-    if outgoing::is_done(a) {
+    if send_keys::is_done(a) {
         lay(w, p, epoch, t, content, d);
         return a;
     }

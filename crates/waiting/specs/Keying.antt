@@ -13,11 +13,12 @@ use Rattle.base.specs.Choose.{choose, by-test, test-cases, if-true, if-false}
 use Rattle.queue.specs.declared.Queue.{Queue}
 use Rattle.queue.specs.Queue.{slotOf, isSound, sound-again}
 use Rattle.send_keys.specs.declared.SendKeys.{SendKeys}
-use Rattle.send_keys.specs.declared.KeyAnswer.{KeyAnswer}
-use Rattle.send_keys.specs.declared.KeyAnswer.the-variants as key
+use Rattle.send_keys.specs.declared.SendAnswer.{SendAnswer}
+use Rattle.send_keys.specs.declared.SendAnswer.the-variants as key
 use Rattle.send_keys.specs.Keys.{keyAnswer, keyed}
 use Rattle.outgoing.specs.declared.Sending.{Sending}
-use Rattle.outgoing.specs.State.{isKeyedNow, keyingState}
+use Rattle.outgoing.specs.State.{keyingState}
+use Rattle.send_keys.specs.Answer.{isDone}
 use Rattle.waiting.specs.Queued.{Queued, plain, waits, sealed, bytesOf, flat, numbersOf, Lies, Rows, Runs, Under, Agrees, Holds}
 use Rattle.waiting.specs.Lists.{numbers-append, runs-length}
 
@@ -112,14 +113,14 @@ module _ (s : Sending) (mem : List ℕ) (ds : List (List Queued)) (h : Holds s m
       ≡ choose (ltb e 2) key.BadEpoch
       (choose (leb e (k .handshake .epoch)) key.BadEpoch
       (choose (leb e (k .application .epoch)) key.BadEpoch
-      (choose (ltb 0 (length (numbersOf (k .application .epoch) (flat ds)))) key.SealingWaits key.Keyed)))
+      (choose (ltb 0 (length (numbersOf (k .application .epoch) (flat ds)))) key.SealingWaits key.Done)))
   unfolding keyAnswer
   keying-told e =
       if-true _ _ (sound-again (h .range))
-      ∙ ap (λ (a : KeyAnswer). choose (ltb e 2) key.BadEpoch (choose (leb e (k .handshake .epoch)) key.BadEpoch (choose (leb e (k .application .epoch)) key.BadEpoch a))) last
+      ∙ ap (λ (a : SendAnswer). choose (ltb e 2) key.BadEpoch (choose (leb e (k .handshake .epoch)) key.BadEpoch (choose (leb e (k .application .epoch)) key.BadEpoch a))) last
     where
-      last : choose (eqb (k .application .epoch) 0) key.Keyed (choose (ltb (k .application .sealed) (k .application .next)) key.SealingWaits key.Keyed)
-          ≡ choose (ltb 0 waitingUnder) key.SealingWaits key.Keyed
+      last : choose (eqb (k .application .epoch) 0) key.Done (choose (ltb (k .application .sealed) (k .application .next)) key.SealingWaits key.Done)
+          ≡ choose (ltb 0 waitingUnder) key.SealingWaits key.Done
       last =
           test-cases (eqb (k .application .epoch) 0)
           (λ z. if-true _ _ z ∙ sym (if-false _ _ (le-ltb 0 waitingUnder (omega (arith, none-zero (eqb-true (k .application .epoch) 0 z))))))
@@ -127,17 +128,17 @@ module _ (s : Sending) (mem : List ℕ) (ds : List (List Queued)) (h : Holds s m
           (λ y. if-true _ _ (lt-ltb (k .application .sealed) (k .application .next) (omega (arith, counted, ltb-true 0 waitingUnder y))) ∙ sym (if-true _ _ y))
           (λ y. if-false _ _ (le-ltb (k .application .sealed) (k .application .next) (omega (arith, counted, ltb-false 0 waitingUnder y))) ∙ sym (if-false _ _ y)))
 
-  keyed-tests : (e : ℕ) → isKeyedNow (keyAnswer k (isSound (s .queue)) e) ≡ true
+  keyed-tests : (e : ℕ) → isDone (keyAnswer k (isSound (s .queue)) e) ≡ true
       → (2 ≤ e) × (k .handshake .epoch < e) × (k .application .epoch < e) × (waitingUnder ≡ 0)
   keyed-tests e y =
-      let P : KeyAnswer → Type 0 = λ a. isKeyedNow a ≡ true → (2 ≤ e) × (k .handshake .epoch < e) × (k .application .epoch < e) × (waitingUnder ≡ 0) in
+      let P : SendAnswer → Type 0 = λ a. isDone a ≡ true → (2 ≤ e) × (k .handshake .epoch < e) × (k .application .epoch < e) × (waitingUnder ≡ 0) in
       by-test P (λ a z. absurd (false≢true z))
       (λ a. by-test P (λ b z. absurd (false≢true z))
       (λ b. by-test P (λ c z. absurd (false≢true z))
       (λ c. by-test P (λ w z. absurd (false≢true z))
       (λ w z.
       (ltb-false e 2 a, leb-false e (k .handshake .epoch) b, leb-false e (k .application .epoch) c, omega (arith, ltb-false 0 waitingUnder w))))))
-      (subst (λ (a : KeyAnswer). isKeyedNow a ≡ true) (keying-told e) y)
+      (subst (λ (a : SendAnswer). isDone a ≡ true) (keying-told e) y)
 
   -- the queue means the same, keyed or refused; an epoch is one of 16 bits
   pub keying-holds : (e : ℕ) (iv : List ℕ) → e < 65536 → Holds (keyingState s e iv .state) mem ds

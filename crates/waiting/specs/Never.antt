@@ -9,13 +9,10 @@ use borrow.Author.Tests.{le-leb, le-ltb, ltb-true}
 use Rattle.base.specs.Choose.{choose, by-test, test-cases, if-true, if-false, both-true}
 use Rattle.base.specs.Parts.{length-splice}
 use Rattle.queue.specs.Queue.{isSetting, isReady, lastLen, laid}
-use Rattle.send_keys.specs.declared.KeyAnswer.{KeyAnswer}
-use Rattle.send_keys.specs.Keys as keys
+use Rattle.send_keys.specs.declared.SendAnswer.{SendAnswer}
 use Rattle.outgoing.specs.declared.Sending.{Sending}
-use Rattle.outgoing.specs.declared.SendAnswer.{SendAnswer}
-use Rattle.outgoing.specs.declared.SendAnswer.the-variants.{Done}
-use Rattle.outgoing.specs.State as sends
-use Rattle.outgoing.specs.State.{isDone, freshSending, keyingState}
+use Rattle.send_keys.specs.declared.SendAnswer.the-variants.{Done}
+use Rattle.outgoing.specs.State.{freshSending, keyingState}
 use Rattle.outgoing.specs.Send.{laidState, sendAnswer, sendState}
 use Rattle.flight.specs.declared.Flight.{Flight}
 use Rattle.flight.specs.declared.Begun.{Begun}
@@ -36,11 +33,10 @@ use Rattle.acks.specs.declared.Noting.{Noting}
 use Rattle.acks.specs.declared.AckSent.{AckSent}
 use Rattle.acks.specs.Acks.{freshNotes, noted, forgotten, ackEpoch, ackLen, noticeState, ackAnswer, ackSent, sentAck}
 use Rattle.resend.specs.declared.Resent.{Resent}
-use Rattle.resend.specs.declared.ResendAnswer.{ResendAnswer}
-use Rattle.resend.specs.Tests as resends
 use Rattle.resend.specs.Tests.{closedState, fitAnswer, resendAnswer}
 use Rattle.resend.specs.Resend.{renewed, renewedIf, Laying, againAt, sentAgain, againAfter, resendState}
 use Rattle.resent.specs.Steps as again
+use Rattle.send_keys.specs.Answer.{isDone, refusal}
 use Rattle.waiting.specs.Calls.{Stores, SendCall, keySend·, send·, save·, message·, beginFlight·, resend·, note·, sendAck·, ack·, fill·, sealed·, take·, stored, fresh}
 use Rattle.waiting.specs.Answers.{noteReply, takeReply, answered}
 use Rattle.waiting.specs.Queued.{Queued, Holds}
@@ -126,7 +122,7 @@ again-all-same kept l (suc n) =
     let all = again-all-same kept l n in
     (one .0 ∙ all .0, one .1 ∙ all .1)
 
-resend-keeps : (a : ResendAnswer) (s : Sending) (f : Flight) (q m : List ℕ) → Saves f (s .queue .mtu) (length m)
+resend-keeps : (a : SendAnswer) (s : Sending) (f : Flight) (q m : List ℕ) → Saves f (s .queue .mtu) (length m)
     → Saves (resendState a s f m q .flight) (resendState a s f m q .state .queue .mtu) (length m)
 unfolding resendState closedState
 resend-keeps a s f q m h =
@@ -207,41 +203,41 @@ call-keeps w (take· buffer) h = (same-mtu (by-test (λ (u : Sending). u .queue 
 
 -- ---- no call is refused by 12
 
-send-not : (s : Sending) (room e t n : ℕ) → isReady (s .queue) room ≡ true → sends.refusal (sendAnswer s room e t n) ≡ 12 → ⊥
+send-not : (s : Sending) (room e t n : ℕ) → isReady (s .queue) room ≡ true → refusal (sendAnswer s room e t n) ≡ 12 → ⊥
 unfolding sendAnswer
 send-not s room e t n r =
-    let P : SendAnswer → Type 0 = λ a. sends.refusal a ≡ 12 → ⊥ in
+    let P : SendAnswer → Type 0 = λ a. refusal a ≡ 12 → ⊥ in
     subst P (sym (if-true _ _ r))
     (by-test P (λ u. by-test P (λ l. by-test P (λ k. by-test P (λ f z. omega arith) (λ f. by-test P (λ p z. omega arith) (λ p z. omega arith))) (λ k z. omega arith)) (λ l z. omega arith))
     (λ u z. omega arith))
 
-save-not : (s : Sending) (f : Flight) (room kept e t n : ℕ) → isReady (s .queue) room ≡ true → isKept f (s .queue .mtu) kept ≡ true → sends.refusal (saveAnswer s f room kept e t n) ≡ 12 → ⊥
+save-not : (s : Sending) (f : Flight) (room kept e t n : ℕ) → isReady (s .queue) room ≡ true → isKept f (s .queue .mtu) kept ≡ true → refusal (saveAnswer s f room kept e t n) ≡ 12 → ⊥
 unfolding saveAnswer
 save-not s f room kept e t n r k =
-    let P : SendAnswer → Type 0 = λ a. sends.refusal a ≡ 12 → ⊥ in
+    let P : SendAnswer → Type 0 = λ a. refusal a ≡ 12 → ⊥ in
     subst P (sym (if-true _ _ r ∙ if-true _ _ k))
     (by-test P (λ u. by-test P (λ l. by-test P (λ i. by-test P (λ v z. omega arith) (λ v. by-test P (λ g z. omega arith) (λ g. by-test P (λ p z. omega arith) (λ p z. omega arith)))) (λ i z. omega arith))
     (λ l z. omega arith))
     (λ u z. omega arith))
 
-message-not : (s : Sending) (f : Flight) (room kept kind n : ℕ) → isReady (s .queue) room ≡ true → isKept f (s .queue .mtu) kept ≡ true → sends.refusal (messageAnswer s f room kept kind n) ≡ 12 → ⊥
+message-not : (s : Sending) (f : Flight) (room kept kind n : ℕ) → isReady (s .queue) room ≡ true → isKept f (s .queue .mtu) kept ≡ true → refusal (messageAnswer s f room kept kind n) ≡ 12 → ⊥
 unfolding messageAnswer
 message-not s f room kept kind n r k =
-    let P : SendAnswer → Type 0 = λ a. sends.refusal a ≡ 12 → ⊥ in
+    let P : SendAnswer → Type 0 = λ a. refusal a ≡ 12 → ⊥ in
     subst P (sym (if-true _ _ r ∙ if-true _ _ k))
     (by-test P (λ l z. omega arith)
     (λ l. by-test P
     (λ i. by-test P (λ v z. omega arith) (λ v. by-test P (λ g z. omega arith) (λ g. by-test P (λ p z. omega arith) (λ p. by-test P (λ j z. omega arith) (λ j z. omega arith)))))
     (λ i z. omega arith)))
 
-begin-not : (f : Flight) → f .saved ≤ 12 → sends.refusal (begun f .answer) ≡ 12 → ⊥
+begin-not : (f : Flight) → f .saved ≤ 12 → refusal (begun f .answer) ≡ 12 → ⊥
 unfolding begun
-begin-not f h = subst (λ (b : Begun). sends.refusal (b .answer) ≡ 12 → ⊥) (sym (if-true _ _ (le-leb (f .saved) 12 h))) (λ z. omega arith)
+begin-not f h = subst (λ (b : Begun). refusal (b .answer) ≡ 12 → ⊥) (sym (if-true _ _ (le-leb (f .saved) 12 h))) (λ z. omega arith)
 
-key-not : (s : Sending) (mem : List ℕ) (ds : List (List Queued)) → Holds s mem ds → (e : ℕ) (iv : List ℕ) → keys.refusal (keyingState s e iv .answer) ≡ 12 → ⊥
+key-not : (s : Sending) (mem : List ℕ) (ds : List (List Queued)) → Holds s mem ds → (e : ℕ) (iv : List ℕ) → refusal (keyingState s e iv .answer) ≡ 12 → ⊥
 unfolding keyingState
 key-not s mem ds h e iv =
-    let P : KeyAnswer → Type 0 = λ a. keys.refusal a ≡ 12 → ⊥ in
+    let P : SendAnswer → Type 0 = λ a. refusal a ≡ 12 → ⊥ in
     subst P (sym (keying-told s mem ds h e))
     (by-test P (λ a z. omega arith) (λ a. by-test P (λ b z. omega arith) (λ b. by-test P (λ c z. omega arith) (λ c. by-test P (λ d z. omega arith) (λ d z. omega arith)))))
 
@@ -256,32 +252,32 @@ told-not (d ∷ ds) have =
     let P : TakeAnswer → Type 0 = λ a. takeReply a .number ≡ 12 → ⊥ in
     by-test P (λ a z. omega arith) (λ a. by-test P (λ b z. omega arith) (λ b z. omega arith))
 
-fit-not : (s : Sending) (f : Flight) → resends.refusal (fitAnswer s f) ≡ 12 → ⊥
+fit-not : (s : Sending) (f : Flight) → refusal (fitAnswer s f) ≡ 12 → ⊥
 unfolding fitAnswer
 fit-not s f =
-    let P : ResendAnswer → Type 0 = λ a. resends.refusal a ≡ 12 → ⊥ in by-test P (λ u z. omega arith) (λ u. by-test P (λ v z. omega arith) (λ v z. omega arith))
+    let P : SendAnswer → Type 0 = λ a. refusal a ≡ 12 → ⊥ in by-test P (λ u z. omega arith) (λ u. by-test P (λ v z. omega arith) (λ v z. omega arith))
 
-resend-not : (s : Sending) (f : Flight) (room kept : ℕ) → isReady (s .queue) room ≡ true → isKept f (s .queue .mtu) kept ≡ true → resends.refusal (resendAnswer s f room kept) ≡ 12 → ⊥
+resend-not : (s : Sending) (f : Flight) (room kept : ℕ) → isReady (s .queue) room ≡ true → isKept f (s .queue .mtu) kept ≡ true → refusal (resendAnswer s f room kept) ≡ 12 → ⊥
 unfolding resendAnswer
 resend-not s f room kept r k =
-    let P : ResendAnswer → Type 0 = λ a. resends.refusal a ≡ 12 → ⊥ in
+    let P : SendAnswer → Type 0 = λ a. refusal a ≡ 12 → ⊥ in
     subst P (sym (if-true _ _ r ∙ if-true _ _ k))
     (by-test P (λ a. by-test P (λ b. by-test P (λ c. by-test P (λ d. fit-not (closedState s) f) (λ d z. omega arith)) (λ c z. omega arith)) (λ b z. omega arith)) (λ a z. omega arith))
 
-act-not : (f : Flight) (d : List ℕ) → f .saved ≤ 12 → sends.refusal (acked f d .answer) ≡ 12 → ⊥
+act-not : (f : Flight) (d : List ℕ) → f .saved ≤ 12 → refusal (acked f d .answer) ≡ 12 → ⊥
 unfolding acked
-act-not f d h = subst (λ (a : Acked). sends.refusal (a .answer) ≡ 12 → ⊥) (sym (if-false _ _ (le-ltb 12 (f .saved) h))) (λ z. omega arith)
+act-not f d h = subst (λ (a : Acked). refusal (a .answer) ≡ 12 → ⊥) (sym (if-false _ _ (le-ltb 12 (f .saved) h))) (λ z. omega arith)
 
 ack-done : (s : Sending) (n : Notes) (room : ℕ) → isReady (s .queue) room ≡ true → n .count ≤ 32 → ackAnswer s n room ≡ Done
 unfolding ackAnswer
 ack-done s n room r h = if-false _ _ (le-ltb 32 (n .count) h) ∙ if-true _ _ r
 
-ack-not : (s : Sending) (n : Notes) (room : ℕ) → isReady (s .queue) room ≡ true → n .count ≤ 32 → sends.refusal (sentAck s n room .answer) ≡ 12 → ⊥
+ack-not : (s : Sending) (n : Notes) (room : ℕ) → isReady (s .queue) room ≡ true → n .count ≤ 32 → refusal (sentAck s n room .answer) ≡ 12 → ⊥
 unfolding sentAck ackSent noticeState sendState
 ack-not s n room r h =
-    let P : AckSent → Type 0 = λ a. sends.refusal (a .answer) ≡ 12 → ⊥ in
+    let P : AckSent → Type 0 = λ a. refusal (a .answer) ≡ 12 → ⊥ in
     let done : ackAnswer s n room ≡ Done = ack-done s n room r h in
-    let none : sends.refusal (ackAnswer s n room) ≡ 12 → ⊥ = subst (λ (a : SendAnswer). sends.refusal a ≡ 12 → ⊥) (sym done) (λ z. omega arith) in
+    let none : refusal (ackAnswer s n room) ≡ 12 → ⊥ = subst (λ (a : SendAnswer). refusal a ≡ 12 → ⊥) (sym done) (λ z. omega arith) in
     by-test P (λ d. by-test P (λ z. none) (λ z. send-not s room (ackEpoch (s .keys)) 26 (ackLen n) r)) (λ d. none)
 
 note-not : (n : Notes) (e k : ℕ) → n .count ≤ 32 → noteReply (noted n e k .answer) .number ≡ 12 → ⊥

@@ -9,13 +9,13 @@ use lib.ListN.{length}
 use Rattle.base.specs.Choose.{choose, by-test, test-cases, if-true, if-false}
 use Rattle.queue.specs.Queue.{lastLen}
 use Rattle.outgoing.specs.declared.Sending.{Sending}
-use Rattle.outgoing.specs.declared.SendAnswer.{SendAnswer}
-use Rattle.outgoing.specs.State.{isDone}
+use Rattle.send_keys.specs.declared.SendAnswer.{SendAnswer}
 use Rattle.flight.specs.declared.Flight.{Flight}
 use Rattle.flight.specs.declared.Saved.{Saved}
 use Rattle.flight.specs.Save.{saveAnswer, saveState, saveQueue}
 use Rattle.messages.specs.Cut.{epochOf, overhead, size-rest}
 use Rattle.messages.specs.Message.{contentOf, Laid, pieceOf, sizeNow, sendAll, numbered, beginning, sentAll, messageState, messageQueue, length-content}
+use Rattle.send_keys.specs.Answer.{isDone}
 use Rattle.waiting.specs.Queued.{Queued, flat, AsLaid, Holds}
 use Rattle.waiting.specs.Lists.{laid-append}
 use Rattle.waiting.specs.Sends.{recordOf, afterSend, save-holds, sent-last, record-as-laid}

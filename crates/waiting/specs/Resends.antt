@@ -11,8 +11,7 @@ use Rattle.base.specs.Choose.{choose, by-test, test-cases, if-true, if-false}
 use Rattle.queue.specs.declared.Queue.{Queue}
 use Rattle.send_keys.specs.Keys.{nextOf}
 use Rattle.outgoing.specs.declared.Sending.{Sending}
-use Rattle.outgoing.specs.declared.SendAnswer.{SendAnswer}
-use Rattle.outgoing.specs.State.{isDone}
+use Rattle.send_keys.specs.declared.SendAnswer.{SendAnswer}
 use Rattle.outgoing.specs.Send.{sendAnswer, sendState, sendMemory}
 use Rattle.flight.specs.declared.Entry.{Entry}
 use Rattle.flight.specs.declared.Flight.{Flight}
@@ -21,11 +20,11 @@ use Rattle.acks.specs.declared.Notes.{Notes}
 use Rattle.acks.specs.declared.AckSent.{AckSent}
 use Rattle.acks.specs.Acks.{ackEpoch, ackContent, ackLen, noticeState, noticeMemory, ackAnswer, ackSent, nothingSent, sentAck, ackMemory, length-content}
 use Rattle.resend.specs.declared.Resent.{Resent}
-use Rattle.resend.specs.declared.ResendAnswer.{ResendAnswer}
-use Rattle.resend.specs.Tests.{closedState, closed-range, isDone as isResent}
+use Rattle.resend.specs.Tests.{closedState, closed-range}
 use Rattle.resend.specs.Resend.{Laying, contentAt, sentAgain, againAnswer, againAt, againAfter, resendState, resendQueue}
 use Rattle.resent.specs.Steps.{Tables, beginning, reached, keptContent, numberAgain}
 use Rattle.resent.specs.Whole.{Whole, answerTo, resent-whole}
+use Rattle.send_keys.specs.Answer.{isDone}
 use Rattle.waiting.specs.Queued.{Queued, laidAs, flat, Rows, Holds}
 use Rattle.waiting.specs.Sends.{recordOf, sentTo, afterSend, send-holds, sent-last}
 use Rattle.waiting.specs.Pieces.{Behind, behind-same, behind-twice, behind-send}
@@ -95,10 +94,10 @@ behind-again-all kept l (suc n) ds =
 
 -- ---- the call
 
-abbrev pub afterResend : ResendAnswer → Sending → Flight → List ℕ → List ℕ → List (List Queued) → List (List Queued)
-afterResend a s f kept q ds = choose (isResent a) (againSent kept (beginning s f q) (f .saved) ds) ds
+abbrev pub afterResend : SendAnswer → Sending → Flight → List ℕ → List ℕ → List (List Queued) → List (List Queued)
+afterResend a s f kept q ds = choose (isDone a) (againSent kept (beginning s f q) (f .saved) ds) ds
 
-pub resend-holds : (a : ResendAnswer) (s : Sending) (f : Flight) (kept q : List ℕ) (ds : List (List Queued)) → Holds s q ds
+pub resend-holds : (a : SendAnswer) (s : Sending) (f : Flight) (kept q : List ℕ) (ds : List (List Queued)) → Holds s q ds
     → Holds (resendState a s f kept q .state) (resendQueue a s f kept q) (afterResend a s f kept q ds)
 unfolding resendState resendQueue
 resend-holds a s f kept q ds h =
@@ -107,11 +106,11 @@ resend-holds a s f kept q ds h =
     let all : Holds (l .state) (l .queue) us = again-all-holds kept (beginning s f q) (f .saved) ds (closed-holds s q ds h) in
     let yes : Resent = record { answer = a; state = l .state; flight = l .flight } in
     let not : Resent = record { answer = a; state = s; flight = f } in
-    test-cases (isResent a)
+    test-cases (isDone a)
     (λ d. rw (if-true (l .queue) q d, if-true us ds d) (subst (λ (r : Resent). Holds (r .state) (l .queue) us) (sym (if-true yes not d)) all))
     (λ d. rw (if-false (l .queue) q d, if-false us ds d) (subst (λ (r : Resent). Holds (r .state) q ds) (sym (if-false yes not d)) h))
 
-pub behind-resend : (a : ResendAnswer) (s : Sending) (f : Flight) (kept q : List ℕ) (ds : List (List Queued)) → Behind (flat ds) (flat (afterResend a s f kept q ds))
+pub behind-resend : (a : SendAnswer) (s : Sending) (f : Flight) (kept q : List ℕ) (ds : List (List Queued)) → Behind (flat ds) (flat (afterResend a s f kept q ds))
 behind-resend a s f kept q ds =
     by-test (λ (us : List (List Queued)). Behind (flat ds) (flat us)) (λ d. behind-again-all kept (beginning s f q) (f .saved) ds) (λ d. behind-same (flat ds))
 
@@ -165,7 +164,7 @@ module _ (s : Sending) (f : Flight) (kept q : List ℕ) (ds : List (List Queued)
       ∙ ap (λ (r : List Queued). flat ds ++ (recordsAgain s f kept n ++ r)) (sym (if-false _ _ m)))
 
 -- an accepted resend adds exactly these records, behind all others
-pub resend-adds : (s : Sending) (f : Flight) (kept q : List ℕ) (ds : List (List Queued)) → Tables s f → isResent (answerTo s f kept q) ≡ true
+pub resend-adds : (s : Sending) (f : Flight) (kept q : List ℕ) (ds : List (List Queued)) → Tables s f → isDone (answerTo s f kept q) ≡ true
     → flat (afterResend (answerTo s f kept q) s f kept q ds) ≡ flat ds ++ recordsAgain s f kept (f .saved)
 resend-adds s f kept q ds t d = ap flat (if-true _ _ d) ∙ sent-exactly s f kept q ds (resent-whole s f kept q t d) (f .saved) (omega arith)
 

@@ -15,11 +15,12 @@ use Rattle.queue.specs.Laid.{recordBytes, recordLen, trailerOf, length-record, 
 use Rattle.send_keys.specs.Keys.{isUsable, isKeyed, nextOf, used}
 use Rattle.outgoing.specs.declared.Waiting.{Waiting}
 use Rattle.outgoing.specs.declared.Sending.{Sending}
-use Rattle.outgoing.specs.declared.SendAnswer.{SendAnswer}
-use Rattle.outgoing.specs.State.{noWaiting, isDone, isAllowed, isContentType}
+use Rattle.send_keys.specs.declared.SendAnswer.{SendAnswer}
+use Rattle.outgoing.specs.State.{noWaiting, isAllowed, isContentType}
 use Rattle.outgoing.specs.Send.{spotOf, waitsBehind, laidState, laidMemory, sendAnswer, sendState, sendMemory, Clear, send-clear, clear-short}
 use Rattle.flight.specs.declared.Flight.{Flight}
 use Rattle.flight.specs.Save.{saveAnswer, saveState, saveQueue, save-safe}
+use Rattle.send_keys.specs.Answer.{isDone}
 use Rattle.waiting.specs.Queued.{Queued, bytesOf, laidAs, flat, waitsIn, Sound, Rows, AsLaid, InOrder, oldestIn, oldestOf, Agrees, Holds}
 use Rattle.waiting.specs.Lists.{laid-bytes, order-append, none-of, some-of, any-waits, flat-snoc}
 use Rattle.waiting.specs.Growing.{joined, grown, flat-joined, flat-grown, length-joined, oldest-new, rows-new, rows-joined, oldest-joined}

@@ -9,7 +9,7 @@ use Rattle.queue.specs.Queue.{isSetting, isSound, isReady, slotOf, lastLen, tai
 use Rattle.queue.specs.Laid.{recordLen}
 use Rattle.send_keys.specs.Keys.{noEpoch, noKeys, isKeyed, nextOf, keyed}
 use Rattle.outgoing.specs.declared.Sending.{Sending}
-use Rattle.outgoing.specs.declared.SendAnswer.the-variants.{Done, FlightFull, QueueFull, KeysAbsent}
+use Rattle.send_keys.specs.declared.SendAnswer.the-variants.{Done, FlightFull, QueueFull, KeysAbsent}
 use Rattle.outgoing.specs.State.{noWaiting, freshSending, withKeys}
 use Rattle.flight.specs.declared.Flight.{Flight}
 use Rattle.flight.specs.Flight.{freshFlight, isKept, withSaved}

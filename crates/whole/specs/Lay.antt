@@ -15,8 +15,8 @@ use Rattle.queue.specs.Laid.{recordLen, recordBytes, length-record, len-over, l
 use Rattle.send_keys.specs.declared.SendKeys.{SendKeys}
 use Rattle.send_keys.specs.Keys.{isUsable, isKeyed, nextOf, used, used-next}
 use Rattle.outgoing.specs.declared.Sending.{Sending}
-use Rattle.outgoing.specs.declared.SendAnswer.the-variants.{Done}
-use Rattle.outgoing.specs.State.{isDone, isContentType, isAllowed}
+use Rattle.send_keys.specs.declared.SendAnswer.the-variants.{Done}
+use Rattle.outgoing.specs.State.{isContentType, isAllowed}
 use Rattle.outgoing.specs.Send.{spotOf, laidState, laidMemory}
 use Rattle.flight.specs.declared.Flight.{Flight}
 use Rattle.flight.specs.Flight.{isKept, savedWith, savedMemory}
@@ -24,6 +24,7 @@ use Rattle.flight.specs.Save.{saveAnswer, saveState, saveQueue, saveKept, kept-
 use Rattle.messages.specs.declared.Cut.{Cut}
 use Rattle.messages.specs.Cut.{epochOf, overhead, sizeIn, cutNext, pieces, planReach, size-rest, size-mtu, pieces-more, pieces-last, reach-more}
 use Rattle.messages.specs.Message.{contentOf, Laid, pieceOf, sizeNow, sendAll, firstCut, length-content, all-more, all-last}
+use Rattle.send_keys.specs.Answer.{isDone}
 
 -- a piece of n bytes from an offset on: its record in the queue, its number used, its content saved
 unfoldable pub layOne : ℕ → List ℕ → ℕ → ℕ → Laid → Laid

@@ -1,7 +1,7 @@
 -- A handshake message is sent wholly or not at all (01, "Datagrams to send" and refusals 18, 19). Assumes nothing.
 use mathlib.Core.Bool.{true, false, false≢true}
 use mathlib.Core.List.{List}
-use mathlib.Core.Path.{_≡_, refl, sym, ap, subst, _∙_}
+use mathlib.Core.Path.{_≡_, sym, ap, subst, _∙_}
 use Prim.Native.Nat.{ℕ, zero, suc, _+_, _-_, _*_, _<_, _≤_, max}
 use native.Mathlib.Nat.{zero-add, max-zero}
 use native.Mathlib.Omega.{arith}
@@ -16,9 +16,8 @@ use Rattle.queue.specs.Queue.{tailOf, placeOf, grown, startOf, InRange, ready}
 use Rattle.queue.specs.Laid.{recordLen, recordBytes}
 use Rattle.send_keys.specs.Keys.{nextOf}
 use Rattle.outgoing.specs.declared.Sending.{Sending}
-use Rattle.outgoing.specs.declared.SendAnswer.{SendAnswer}
-use Rattle.outgoing.specs.declared.SendAnswer.the-variants.{Done, OutOfRange, BadEpoch, BadRecord, KeysAbsent, MessagesSpent, FlightFull, QueueFull, NumbersSpent}
-use Rattle.outgoing.specs.State.{isDone, refusal}
+use Rattle.send_keys.specs.declared.SendAnswer.{SendAnswer}
+use Rattle.send_keys.specs.declared.SendAnswer.the-variants.{Done, FlightFull, QueueFull}
 use Rattle.flight.specs.declared.Entry.{Entry}
 use Rattle.flight.specs.declared.Flight.{Flight}
 use Rattle.flight.specs.declared.Saved.{Saved}
@@ -27,6 +26,7 @@ use Rattle.messages.specs.declared.Cut.{Cut}
 use Rattle.messages.specs.Cut.{epochOf, overhead, sizeIn, cutNext, pieces, planReach, total, pieces-more, pieces-last, reach-more, reach-last}
 use Rattle.messages.specs.Message.{contentOf, Laid, firstCut, countOf, reachOf, messageAnswer, numbered, beginning, sentAll, messageState, messageQueue, messageKept}
 use Rattle.messages.specs.Laws as laws
+use Rattle.send_keys.specs.Answer.{isDone, refusal, is-done}
 use Rattle.whole.specs.Lay.{layAll, EachDone, Able, AllPlaced, all-laid, each-done, all-placed}
 use Rattle.whole.specs.Queued.{placesOf, Settled, lay-settled, lay-record}
 use Rattle.whole.specs.Leaves.{tailBehind, lay-next, lay-other, lay-saved, lay-still, lay-range, lay-tail, lay-older, lay-entry, lay-before, lay-content}
@@ -87,17 +87,6 @@ done-able s f q m kind body slots =
     (λ k z. absurd (false≢true z))))
     (λ h z. absurd (false≢true z)))
     (λ r z. absurd (false≢true z))
-
-pub is-done : (a : SendAnswer) → isDone a ≡ true → a ≡ Done
-is-done Done h = refl
-is-done OutOfRange h = absurd (false≢true h)
-is-done BadEpoch h = absurd (false≢true h)
-is-done BadRecord h = absurd (false≢true h)
-is-done KeysAbsent h = absurd (false≢true h)
-is-done MessagesSpent h = absurd (false≢true h)
-is-done FlightFull h = absurd (false≢true h)
-is-done QueueFull h = absurd (false≢true h)
-is-done NumbersSpent h = absurd (false≢true h)
 
 -- a message sent whole
 pub record Whole (s : Sending) (f : Flight) (q m : List ℕ) (kind : ℕ) (body : List ℕ) : Type 0 where

@@ -1,9 +1,10 @@
 -- `link_acks::resend` meets its contract. Assumes nothing.
+use Rattle.send_keys.specs.Answer.{isDone}
 use Rattle.link_acks.specs.Calls.{resends-all, resends-nothing}
 use Rattle.flight_words.specs.Words.{flightOf}
 use Rattle.send_words.specs.Words.{stateOf}
 use Rattle.resend.specs.Resend.{againAfter}
-use Rattle.resend.specs.Tests.{isDone, resend-safe, kept-few, closed-range}
+use Rattle.resend.specs.Tests.{resend-safe, kept-few, closed-range}
 use Rattle.outgoing.specs.declared.Sending.{Sending}
 use Rattle.queue.specs.Queue.{InRange}
 use Rattle.base.specs.Choose.{if-false, both-true, both-false}

@@ -2,7 +2,7 @@
 use borrow.Author.Needs.{needs}
 use mathlib.Core.Path.{refl, sym, ap, _∙_}
 use Rattle.base.specs.Choose.{if-true, if-false}
-use Rattle.send_keys.specs.Keys.{refusal}
+use Rattle.send_keys.specs.Answer.{refusal}
 use Rattle.link_sending.proofs.key_send.Statement.{statement}
 use Rattle.link_sending.proofs.key_send.Tie as tie
 

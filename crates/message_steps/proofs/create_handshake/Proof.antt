@@ -14,7 +14,7 @@ use Rattle.message_steps.proofs.create_handshake.Lts as lts
 use Rattle.message_steps.proofs.message_answer.Reads as message-answer-reads
 use Rattle.message_steps.proofs.put_message.Reads as put-message-reads
 use Rattle.message_steps.proofs.send_all.Reads as send-all-reads
-use Rattle.outgoing.proofs.is_done.Reads as is-done-reads
+use Rattle.send_keys.proofs.is_done.Reads as is-done-reads
 
 -- src/lib.rt:146:15
 element-copy-out-seq : tie.Need-element-copy-out-seq

@@ -21,7 +21,7 @@ use Rattle.message_steps.proofs.send_piece.Reads as reads
 use Rattle.message_steps.proofs.send_piece.Lts as lts
 use Rattle.messages.proofs.epoch_of.Reads as epoch-of-reads
 use Rattle.messages.proofs.write_content.Reads as write-content-reads
-use Rattle.outgoing.proofs.is_done.Reads as is-done-reads
+use Rattle.send_keys.proofs.is_done.Reads as is-done-reads
 use Rattle.save_steps.proofs.lay_saved.Reads as lay-saved-reads
 use Rattle.save_steps.proofs.save_answer.Reads as save-answer-reads
 use Rattle.words.proofs.low.Reads as low-reads

@@ -1,6 +1,7 @@
 -- `resend_steps::resend_answer` meets its contract. Assumes nothing.
+use Rattle.send_keys.specs.Answer.{isDone}
 use Rattle.resend_steps.specs.Answer.{cleared, refused, answer-unready, answer-unkept, answer-tested}
-use Rattle.resend.specs.Tests.{isDone, passedAfter, kept-few, fitting}
+use Rattle.resend.specs.Tests.{passedAfter, kept-few, fitting}
 use Rattle.resend.specs.declared.Passed.{Passed}
 use Rattle.flight_words.specs.Words.{flightOf}
 use Rattle.send_words.specs.Words.{stateOf}

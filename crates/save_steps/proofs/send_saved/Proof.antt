@@ -16,7 +16,7 @@ use Rattle.save_steps.proofs.send_saved.Statement.{statement}
 use Rattle.save_steps.proofs.send_saved.Tie as tie
 use Rattle.save_steps.proofs.send_saved.Reads as reads
 use Rattle.save_steps.proofs.send_saved.Lts as lts
-use Rattle.outgoing.proofs.is_done.Reads as is-done-reads
+use Rattle.send_keys.proofs.is_done.Reads as is-done-reads
 use Rattle.queue.proofs.copy_short.Reads as copy-short-reads
 use Rattle.save_steps.proofs.lay_saved.Reads as lay-saved-reads
 use Rattle.save_steps.proofs.save_answer.Reads as save-answer-reads
