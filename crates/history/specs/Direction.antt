@@ -42,7 +42,6 @@ use Rattle.recv_keys.specs.Laws.{found-keyed}
 use Rattle.recv_keys.specs.declared.Found.the-variants as found
 use Rattle.recv_keys.specs.declared.RecvKeys.{RecvKeys}
 use Rattle.window.specs.Used.{Agrees}
-use Rattle.window.specs.Window.{width}
 use Rattle.history.specs.Account.{upd, Shown, nothing, aMask, anOpening}
 use Rattle.history.specs.Calls.{Leaves, as-was, no-more}
 use Rattle.history.specs.Claim.{Masks, FairMask, Opens, FairOpen, asHanded, Due, SaysOpened}
@@ -408,8 +407,8 @@ module _ (masks : Masks) (sealed : ℕ → List Sealed) (shaped : Shaped masks s
           ap (λ (l : List ℕ). getD l 0 0 / 8 % 2) (rest-masked y i (askFor e x) q) ∙ flag-set masks e x shape k b d in-range (i .whole) same in
           let one = fair′ .0 ∙ ap (λ (l : List ℕ). getD l 0 0) sample in
           let two = fair′ .1 flag ∙ ap (λ (l : List ℕ). getD l 1 0) sample in
-          let agrees : Agrees width (entryAt k h .replay) (a .used e) =
-          subst (λ l. Agrees width (entryAt k h .replay) l) (ap (y .used) (found-epoch (k .entries) e (k .count) h f) ∙ z)
+          let agrees : Agrees (entryAt k h .replay) (a .used e) =
+          subst (λ l. Agrees (entryAt k h .replay) l) (ap (y .used) (found-epoch (k .entries) e (k .count) h f) ∙ z)
           (i .table .agrees h (found-keyed (k .entries) e (k .count) h f)) in
           inr
           (subst (λ p. Opening′ a e x (maskedOut k p))

@@ -43,7 +43,7 @@ use Rattle.recv_keys.specs.declared.Found.the-variants as found
 use Rattle.recv_keys.specs.declared.Found.{Found}
 use Rattle.recv_keys.specs.declared.RecvEpochEntry.{RecvEpochEntry}
 use Rattle.recv_keys.specs.declared.RecvKeys.{RecvKeys}
-use Rattle.window.specs.Window.{width, isFresh}
+use Rattle.window.specs.Window.{isFresh}
 use Rattle.history.specs.Account.{upd, Shown, nothing, aMask, anOpening, Account, resolvesTo, recordSize, goodPlain}
 use Rattle.history.specs.Claim.{Real, Shows, Proper, RightNonce, NumberByte, Spares}
 use Rattle.history.specs.Cut.{cut, nonce-own}
@@ -568,7 +568,7 @@ module _ (y : Receiver) (i : Sound y) where
       yes-sound e right =
           let long = i .made .long in
           let count = i .made .ready .keys .count in
-          let fresh = subst (λ (x : ℕ). isFresh width (entryAt k x .replay) n ≡ true) same-place (fresh-one .2) in
+          let fresh = subst (λ (x : ℕ). isFresh (entryAt k x .replay) n ≡ true) same-place (fresh-one .2) in
           let new = yes-new k (y .used) (y .account .ivs) (i .table) (a .epoch) j n long count f fresh in
           subst (λ x. Sound (openBy y (reply.Yes len) (opensTo x))) (sym e)
           (subst (λ v. Sound (after y o v used-by (questionIn (o .reading) (o .datagram)) (anOpenReply (reply.Yes len)))) (sym (z .1))

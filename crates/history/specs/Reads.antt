@@ -38,7 +38,6 @@ use Rattle.recv_keys.specs.Laws.{found-keyed}
 use Rattle.recv_keys.specs.declared.Found.the-variants as found
 use Rattle.recv_keys.specs.declared.Found.{Found}
 use Rattle.recv_keys.specs.declared.RecvKeys.{RecvKeys}
-use Rattle.window.specs.Window.{width, isFresh}
 use Rattle.history.specs.Account.{Shown, nothing, aMask, anOpening, Account, headSize, saidSize, recordSize, goodPlain}
 use Rattle.history.specs.Claim.{Real, SaysPlaintext, SaysUnopened, Shows, RightNonce}
 use Rattle.history.specs.Cut.{Cuts, head-same, plain-parsed, sealed-parsed, nonce-own}

@@ -29,7 +29,6 @@ use Rattle.recv_keys.specs.declared.Found.{Found}
 use Rattle.recv_keys.specs.declared.RecvKeys.{RecvKeys}
 use Rattle.sealing.specs.Sealing.{maskedHeader}
 use Rattle.window.specs.Used.{above, Agrees, unused-fresh, expects}
-use Rattle.window.specs.Window.{width, isFresh}
 use Rattle.history.specs.Claim.{Masks}
 use Rattle.history.specs.Half.{Shape}
 use Rattle.history.specs.Lists.{some-inj, some≢none}
@@ -157,10 +156,10 @@ module _ (masks : Masks) (e : ℕ) (x : Sealed) (shape : Shape masks e x) where
 
       -- the sender's mask brings its number back, and its opening is asked
       pub mask-is : (i : ℕ) → b .question ≡ question.Mask (askFor e x) → find (k .entries) e (k .count) ≡ found.At i
-          → (used : List ℕ) → Agrees width (entryAt k i .replay) used → (Mem (x .num) used → ⊥) → above used ≤ x .num + 64
+          → (used : List ℕ) → Agrees (entryAt k i .replay) used → (Mem (x .num) used → ⊥) → above used ≤ x .num + 64
           → x .num < above used + 32768
           → maskStep k b m d ≡ (openingAsked (entryAt k i) b (askFor e x) (x .num), unmasked d (b .at) true m)
       mask-is i q f used a new near reach =
-          let up = expects width (omega arith) used a in
+          let up = expects used a in
           mask-opens k b (askFor e x) i (x .num) m d sound whole q f refl (omega (arith, lies-in d (b .at) same)) (number-byte 1 (omega arith))
-          (number-byte 2 (omega arith)) (shape .number) (omega arith) (omega arith) (unused-fresh width (omega arith) a (x .num) new near)
+          (number-byte 2 (omega arith)) (shape .number) (omega arith) (omega arith) (unused-fresh a (x .num) new near)

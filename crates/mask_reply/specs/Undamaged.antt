@@ -29,7 +29,7 @@ use Rattle.recv_keys.specs.declared.RecvEpochEntry.{RecvEpochEntry}
 use Rattle.recv_keys.specs.declared.RecvKeys.{RecvKeys}
 use Rattle.sequence.specs.Laws.{near}
 use Rattle.sequence.specs.Sequence.{blockOf}
-use Rattle.window.specs.Window.{width, isFresh}
+use Rattle.window.specs.Window.{isFresh}
 use Rattle.window.specs.declared.ReplayWindow.{ReplayWindow}
 use Rattle.mask_reply.specs.Leads.{mask-asks}
 use Rattle.mask_reply.specs.Mask.{maskBytes, unmasked, rebuilt, judged, maskedAt, maskedBy, masking, maskStep}
@@ -131,7 +131,7 @@ pub rebuilt-near : (w : ReplayWindow) (s : Bool) (p n : ℕ) → p ≡ n % block
 unfolding rebuilt
 rebuilt-near w s p n e small above below = near s p (expected w) n (omega arith) (same-bits s p n e) above below
 
-judged-opens : (e : RecvEpochEntry) (b : Datagram) (a : Ask) (n : ℕ) → n ≤ 0xFFFF_FFFF_FFFF → isFresh width (e .replay) n ≡ true
+judged-opens : (e : RecvEpochEntry) (b : Datagram) (a : Ask) (n : ℕ) → n ≤ 0xFFFF_FFFF_FFFF → isFresh (e .replay) n ≡ true
     → judged e b a n ≡ openingAsked e b a n
 unfolding judged
 judged-opens e b a n small fresh = if-false _ _ (le-ltb 0xFFFF_FFFF_FFFF n small) ∙ if-true _ _ fresh
@@ -141,7 +141,7 @@ module _ (k : RecvKeys) (b : Datagram) (a : Ask) (i n : ℕ) (m d : List ℕ) wh
   opens : (s : Bool) → isSound k b ≡ true → length d ≡ b .size → b .question ≡ question.Mask a → find (k .entries) (a .epoch) (k .count) ≡ found.At i
       → a .«s_flag» ≡ s → partialOf (drop (b .at) (unmasked d (b .at) s m)) s ≡ n % blockOf s → n ≤ 0xFFFF_FFFF_FFFF
       → n < expected (entryAt k i .replay) + blockOf s / 2 → expected (entryAt k i .replay) < n + blockOf s / 2
-      → isFresh width (entryAt k i .replay) n ≡ true
+      → isFresh (entryAt k i .replay) n ≡ true
       → maskStep k b m d ≡ (openingAsked (entryAt k i) b a n, unmasked d (b .at) s m)
   unfolding masking maskedBy maskedAt
   opens s t l q f flag bits small above below fresh =
@@ -160,7 +160,7 @@ module _ (k : RecvKeys) (b : Datagram) (a : Ask) (i n : ℕ) (m d : List ℕ) wh
       → a .«s_flag» ≡ true → b .at + 2 < length d
       → getD d (b .at + 1) 0 ≡ bitXor (n / 256 % 256) (getD m 0 0) → getD d (b .at + 2) 0 ≡ bitXor (n % 256) (getD m 1 0)
       → n ≤ 0xFFFF_FFFF_FFFF → n < expected (entryAt k i .replay) + 32768 → expected (entryAt k i .replay) < n + 32768
-      → isFresh width (entryAt k i .replay) n ≡ true
+      → isFresh (entryAt k i .replay) n ≡ true
       → maskStep k b m d ≡ (openingAsked (entryAt k i) b a n, unmasked d (b .at) true m)
   mask-opens t l q f s room high low = opens true t l q f s (number-bytes d m (b .at) n room high low)
 
@@ -168,6 +168,6 @@ module _ (k : RecvKeys) (b : Datagram) (a : Ask) (i n : ℕ) (m d : List ℕ) wh
   pub mask-opens-short : isSound k b ≡ true → length d ≡ b .size → b .question ≡ question.Mask a → find (k .entries) (a .epoch) (k .count) ≡ found.At i
       → a .«s_flag» ≡ false → b .at + 1 < length d → getD d (b .at + 1) 0 ≡ bitXor (n % 256) (getD m 0 0)
       → n ≤ 0xFFFF_FFFF_FFFF → n < expected (entryAt k i .replay) + 128 → expected (entryAt k i .replay) < n + 128
-      → isFresh width (entryAt k i .replay) n ≡ true
+      → isFresh (entryAt k i .replay) n ≡ true
       → maskStep k b m d ≡ (openingAsked (entryAt k i) b a n, unmasked d (b .at) false m)
   mask-opens-short t l q f s room low = opens false t l q f s (number-byte d m (b .at) n room low)

@@ -16,7 +16,7 @@ use Rattle.outgoing.specs.State.{freshSending}
 use Rattle.messages.specs.Cut.{epochOf, overhead, pieceSize, cutBehind, cutNext, pieces}
 use Rattle.sequence.specs.Sequence.{blockOf, own, below, above, nearest}
 use Rattle.window.specs.declared.ReplayWindow.{ReplayWindow}
-use Rattle.window.specs.Window.{width, unmarked, isFresh, marking}
+use Rattle.window.specs.Window.{unmarked, isFresh, marking}
 
 pub data Row : Type 0 where
   -- whether 16 bits were received (else 8), e, the bits; the number rebuilt
@@ -85,7 +85,7 @@ same-list (a ∷ k) (b ∷ l) = eqb a b && same-list k l
 
 pub marked : List ℕ → ReplayWindow → ReplayWindow
 marked [] w = w
-marked (n ∷ ns) w = marked ns (marking width w n)
+marked (n ∷ ns) w = marked ns (marking w n)
 
 -- the pieces of a body of n bytes, cut by the queue as it is
 pub cutAt : ℕ → Queue → ℕ → List ℕ
@@ -107,7 +107,7 @@ behind mtu kind ns = sent kind ns (freshSending mtu 16 .queue)
 
 pub right : Row → Bool
 right (rebuilt s e p n) = eqb (nearest (blockOf s) p e) n
-right (window ns n t) = same (isFresh width (marked ns unmarked) n) t
+right (window ns n t) = same (isFresh (marked ns unmarked) n) t
 right (header e n len bytes) = same-list (unifiedHeader e n len) bytes
 right (over kind n) = eqb (overhead (epochOf kind)) n
 right (cut mtu kind before n sizes) = same-list (cutAt kind (behind mtu kind before) n) sizes
