@@ -12,7 +12,7 @@ use native.Mathlib.Omega.{arith}
 use Rattle.base.specs.Choose.{choose, if-true, if-false, by-test, test-cases, both-left, both-right, both-true, both-false}
 use Rattle.base.specs.Parts.{part, splice}
 use Rattle.dtls_aead.specs.Nonce.{nonceOf}
-use Rattle.record.specs.Record.{unifiedHeader}
+use Rattle.record.specs.Record.{sealedTail, unifiedHeader}
 use Rattle.queue.specs.Laid.{trailerOf}
 use Rattle.send_keys.specs.Keys.{ivOf}
 use Rattle.outgoing.specs.declared.Sending.{Sending}
@@ -34,9 +34,9 @@ lentFor s e t n x = record {
   epoch = e;
   num = n;
   nonce = nonceOf (ivOf (s .keys) e) n;
-  header = unifiedHeader e n (length x + 17);
+  header = unifiedHeader e n (length x + sealedTail);
   place = partStart s;
-  size = length x + 17;
+  size = length x + sealedTail;
   bytes = x ++ trailerOf t e n;
 }
 
@@ -108,7 +108,7 @@ first-alone (sealed a b c f g h ∷ rs) o e t n x p us q t′ x′ p′ m = firs
 
 module _ (s : Sending) (q : List ℕ) (ds : List (List Queued)) (h : Holds s q ds) where
   -- the part lent is the oldest's
-  pub part-is : (e t n : ℕ) (x p : List ℕ) (us : List Queued) → waitingOf (flat ds) ≡ waits e t n x p ∷ us → part (partStart s) (length x + 17) q ≡ p
+  pub part-is : (e t n : ℕ) (x p : List ℕ) (us : List Queued) → waitingOf (flat ds) ≡ waits e t n x p ∷ us → part (partStart s) (length x + sealedTail) q ≡ p
   unfolding partOf isAsked
   part-is e t n x p us y =
       let f = names-first s q ds h e t n x p us y in
@@ -122,7 +122,7 @@ module _ (s : Sending) (q : List ℕ) (ds : List (List Queued)) (h : Holds s q d
       let none-waits : s .waiting .any ≡ false = any-same s q ds h ∙ test-cases (waitsIn (flat ds)) (λ y. let f = first-of (flat ds) y in let g = f .is in absurd (let w : _≡_ {A = ℕ} 0 1 = cc in omega arith)) (λ y. y) in
       both-false _ (both-true (ready-always s q ds h) ∙ both-true (held-again s q ds h) ∙ none-waits)
 
-  pub put-test : (e t n : ℕ) (x p : List ℕ) (us : List Queued) → waitingOf (flat ds) ≡ waits e t n x p ∷ us → (v : List ℕ) → isPut s (length v) (length q) ≡ eqb (length v) (length x + 17)
+  pub put-test : (e t n : ℕ) (x p : List ℕ) (us : List Queued) → waitingOf (flat ds) ≡ waits e t n x p ∷ us → (v : List ℕ) → isPut s (length v) (length q) ≡ eqb (length v) (length x + sealedTail)
   unfolding isPut isAsked
   put-test e t n x p us y v =
       let f = names-first s q ds h e t n x p us y in
@@ -146,7 +146,7 @@ module _ (s : Sending) (q : List ℕ) (ds : List (List Queued)) (h : Holds s q d
       subst (LentIs s (lentBy (questionOf s .question) (questionOf s .nonce) (questionOf s .header) old q)) (sym z)
       (ap (λ (r : Question). lentBy (r .question) (r .nonce) (r .header) old q) (question-none s q ds h z)))
       (λ e t n x p us y z.
-      let b : firstBytes old e n (part (partStart s) (length x + 17) q) ≡ x ++ trailerOf t e n =
+      let b : firstBytes old e n (part (partStart s) (length x + sealedTail) q) ≡ x ++ trailerOf t e n =
       ap (firstBytes old e n) (part-is e t n x p us y) ∙ subst (Shows old) z k in
       subst (LentIs s (lentBy (questionOf s .question) (questionOf s .nonce) (questionOf s .header) old q)) (sym z)
       (ap (λ (r : Question). lentBy (r .question) (r .nonce) (r .header) old q) (question-shows s q ds h e t n x p us y)
@@ -154,9 +154,9 @@ module _ (s : Sending) (q : List ℕ) (ds : List (List Queued)) (h : Holds s q d
         epoch = e;
         num = n;
         nonce = nonceOf (ivOf (s .keys) e) n;
-        header = unifiedHeader e n (length x + 17);
+        header = unifiedHeader e n (length x + sealedTail);
         place = partStart s;
-        size = length x + 17;
+        size = length x + sealedTail;
         bytes = l;
       })) b))
 

@@ -19,7 +19,7 @@ use Rattle.datagram.specs.declared.Ask.{Ask}
 use Rattle.datagram.specs.declared.Datagram.{Datagram}
 use Rattle.datagram.specs.declared.Question.the-variants as question
 use Rattle.datagram.specs.declared.Step.{Step}
-use Rattle.record.specs.Record.{partialOf, unifiedHeader}
+use Rattle.record.specs.Record.{sealedHead, partialOf, unifiedHeader}
 use Rattle.records.specs.Records.{openingAsked}
 use Rattle.recv_keys.specs.Keys.{entryAt, find}
 use Rattle.window.specs.Used.{expected}
@@ -76,11 +76,11 @@ number-byte d m at n room low =
     ∙ ap (λ (x : ℕ). bitXor x (getD m 0 0)) low ∙ xor-twice (n % 256) (getD m 0 0)
 
 -- the header, unmasked, is the one that was sealed: the number in it is not masked
-module _ (d m : List ℕ) (at e n len : ℕ) (room : at + 5 ≤ length d)
-    (laid : part at 5 d ≡ (0x2C + e % 4) ∷ bitXor (n / 256 % 256) (getD m 0 0) ∷ bitXor (n % 256) (getD m 1 0) ∷ be 2 len) where
-  laid-at : (i : ℕ) → i < 5
+module _ (d m : List ℕ) (at e n len : ℕ) (room : at + sealedHead ≤ length d)
+    (laid : part at sealedHead d ≡ (0x2C + e % 4) ∷ bitXor (n / 256 % 256) (getD m 0 0) ∷ bitXor (n % 256) (getD m 1 0) ∷ be 2 len) where
+  laid-at : (i : ℕ) → i < sealedHead
       → getD d (at + i) 0 ≡ getD ((0x2C + e % 4) ∷ bitXor (n / 256 % 256) (getD m 0 0) ∷ bitXor (n % 256) (getD m 1 0) ∷ be 2 len) i 0
-  laid-at i h = sym (part-at at 5 d i h) ∙ ap (λ (l : List ℕ). getD l i 0) laid
+  laid-at i h = sym (part-at at sealedHead d i h) ∙ ap (λ (l : List ℕ). getD l i 0) laid
 
   -- a byte outside the number stays
   kept-at : (i : ℕ) → (i < 1) ⊎ (3 ≤ i) → getD (unmasked d at true m) (at + i) 0 ≡ getD d (at + i) 0
@@ -98,7 +98,7 @@ module _ (d m : List ℕ) (at e n len : ℕ) (room : at + 5 ≤ length d)
   unmasked-long = length-splice (at + 1) (xors d (at + 1) (maskBytes true m)) d (omega arith)
 
   -- byte by byte
-  header-byte : (i : ℕ) → i < 5 → getD (unmasked d at true m) (at + i) 0 ≡ getD ((0x2C + e % 4) ∷ be 2 n ++ be 2 len) i 0
+  header-byte : (i : ℕ) → i < sealedHead → getD (unmasked d at true m) (at + i) 0 ≡ getD ((0x2C + e % 4) ∷ be 2 n ++ be 2 len) i 0
   header-byte zero h = kept-at 0 (inl (omega arith)) ∙ laid-at 0 (omega arith)
   header-byte (suc zero) h =
       sym (getD-drop at (unmasked d at true m) 1 0) ∙ first-byte d m at n (omega arith) (laid-at 1 (omega arith)) (laid-at 2 (omega arith))
@@ -109,12 +109,12 @@ module _ (d m : List ℕ) (at e n len : ℕ) (room : at + 5 ≤ length d)
   header-byte (suc (suc (suc (suc zero)))) h = kept-at 4 (inr (omega arith)) ∙ laid-at 4 (omega arith)
   header-byte (suc (suc (suc (suc (suc i))))) h = absurd (omega arith)
 
-  pub header-unmasked : part at 5 (unmasked d at true m) ≡ unifiedHeader e n len
+  pub header-unmasked : part at sealedHead (unmasked d at true m) ≡ unifiedHeader e n len
   unfolding unifiedHeader
   header-unmasked =
-      let long : length (part at 5 (unmasked d at true m)) ≡ 5 = length-part at 5 (unmasked d at true m) (omega (arith, unmasked-long)) in
-      ext-getD 0 (part at 5 (unmasked d at true m)) ((0x2C + e % 4) ∷ be 2 n ++ be 2 len) long
-      (λ i h. part-at at 5 (unmasked d at true m) i (omega arith) ∙ header-byte i (omega arith))
+      let long : length (part at sealedHead (unmasked d at true m)) ≡ 5 = length-part at sealedHead (unmasked d at true m) (omega (arith, unmasked-long)) in
+      ext-getD 0 (part at sealedHead (unmasked d at true m)) ((0x2C + e % 4) ∷ be 2 n ++ be 2 len) long
+      (λ i h. part-at at sealedHead (unmasked d at true m) i (omega arith) ∙ header-byte i (omega arith))
 
 -- ---- the mask that was put on
 
