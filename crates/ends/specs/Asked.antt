@@ -10,7 +10,7 @@ use native.Mathlib.Omega.{arith}
 use Rattle.base.specs.Choose.{if-true, by-test, both-left, both-right, both-true}
 use Rattle.base.specs.Parts.{part}
 use Rattle.dtls_aead.specs.Nonce.{nonceOf}
-use Rattle.record.specs.Record.{unifiedHeader}
+use Rattle.record.specs.Record.{sealedTail, unifiedHeader}
 use Rattle.queue.specs.Laid.{trailerOf}
 use Rattle.send_keys.specs.Keys.{ivOf}
 use Rattle.outgoing.specs.declared.Sending.{Sending}
@@ -31,9 +31,9 @@ lentFor s e t n x = record {
   epoch = e;
   num = n;
   nonce = nonceOf (ivOf (s .keys) e) n;
-  header = unifiedHeader e n (length x + 17);
+  header = unifiedHeader e n (length x + sealedTail);
   place = partStart s;
-  size = length x + 17;
+  size = length x + sealedTail;
   bytes = x ++ trailerOf t e n;
 }
 
@@ -97,7 +97,7 @@ first-alone (sealed a b c f g h ∷ rs) o e t n x p us q t′ x′ p′ m = firs
 
 module _ (s : Sending) (q : List ℕ) (ds : List (List Queued)) (h : Holds s q ds) where
   -- the part lent is the oldest's
-  pub part-is : (e t n : ℕ) (x p : List ℕ) (us : List Queued) → waitingOf (flat ds) ≡ waits e t n x p ∷ us → part (partStart s) (length x + 17) q ≡ p
+  pub part-is : (e t n : ℕ) (x p : List ℕ) (us : List Queued) → waitingOf (flat ds) ≡ waits e t n x p ∷ us → part (partStart s) (length x + sealedTail) q ≡ p
   unfolding partOf isAsked
   part-is e t n x p us y =
       let f = names-first s q ds h e t n x p us y in
@@ -112,7 +112,7 @@ module _ (s : Sending) (q : List ℕ) (ds : List (List Queued)) (h : Holds s q d
       subst (LentIs s (lentBy (questionOf s .question) (questionOf s .nonce) (questionOf s .header) old q)) (sym z)
       (ap (λ (r : Question). lentBy (r .question) (r .nonce) (r .header) old q) (question-none s q ds h z)))
       (λ e t n x p us y z.
-      let b : firstBytes old e n (part (partStart s) (length x + 17) q) ≡ x ++ trailerOf t e n =
+      let b : firstBytes old e n (part (partStart s) (length x + sealedTail) q) ≡ x ++ trailerOf t e n =
       ap (firstBytes old e n) (part-is e t n x p us y) ∙ subst (Shows old) z k in
       subst (LentIs s (lentBy (questionOf s .question) (questionOf s .nonce) (questionOf s .header) old q)) (sym z)
       (ap (λ (r : Question). lentBy (r .question) (r .nonce) (r .header) old q) (question-shows s q ds h e t n x p us y)
@@ -120,9 +120,9 @@ module _ (s : Sending) (q : List ℕ) (ds : List (List Queued)) (h : Holds s q d
         epoch = e;
         num = n;
         nonce = nonceOf (ivOf (s .keys) e) n;
-        header = unifiedHeader e n (length x + 17);
+        header = unifiedHeader e n (length x + sealedTail);
         place = partStart s;
-        size = length x + 17;
+        size = length x + sealedTail;
         bytes = l;
       })) b))
 

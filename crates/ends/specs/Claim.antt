@@ -10,6 +10,7 @@ use Rattle.base.specs.Parts.{part}
 use Rattle.send_keys.specs.Keys.{nextOf}
 use Rattle.history.specs.Claim.{Masks, Once, asHanded, nonceFor, Received}
 use Rattle.history.specs.Receiver.{Sealed}
+use Rattle.history.specs.Account.{sealedTail}
 use Rattle.ends.specs.Flights.{handedAs, Arrived, Apart, Held}
 use Rattle.ends.specs.Ledger.{Kept, items, oldest}
 use Rattle.ends.specs.Sender.{Lent, AskedFor, sealedHeader, Taken}
@@ -29,7 +30,7 @@ pub record TookOnly (t : Took) : Type 0 where
 -- goes on once, shows in what the far end reads (`due-opened`)
 pub record Wired (e : ℕ) (r : Sealed) : Type 0 where
   -- "Length: content + 17"
-  pub size : length (r .cipher) ≡ length (r .content) + 17
+  pub size : length (r .cipher) ≡ length (r .content) + sealedTail
   pub header : r .header ≡ sealedHeader e (r .num) (length (r .cipher))
   pub masked : (m : List ℕ) × (r .wire ≡ ((0x2C + e % 4) ∷ xors m 0 (be 2 (r .num)) ++ be 2 (length (r .cipher))) ++ r .cipher)
 

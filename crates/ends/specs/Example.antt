@@ -49,6 +49,7 @@ use Rattle.history.specs.Claim.{Masks}
 use Rattle.history.specs.Example.{yes-fair}
 use Rattle.history.specs.Lists.{mem-by}
 use Rattle.history.specs.Receiver.{Sealed, Handed, Call, key·, encrypt·, begin·, read·, mask·, write·, open·}
+use Rattle.history.specs.Account.{tagSize, sealedTail}
 use Rattle.ends.specs.Claim.{Holds, Startable}
 use Rattle.ends.specs.Flights.{FairAck}
 use Rattle.ends.specs.Ledger as ends-ledger
@@ -74,11 +75,11 @@ hears s c = record { side = s; deed = receiving c }
 -- the oldest record is sealed under a cipher that appends sixteen sevens, and its datagram taken
 abbrev leaves : Side → List ℕ → List Event → List Event
 leaves s x rest =
-    says s (fill· (x ++ replicate 16 7)) ∷ says s (sealed· (length x + 16) (1 ∷ 2 ∷ [])) ∷ says s (take· (replicate 576 0)) ∷ rest
+    says s (fill· (x ++ replicate tagSize 7)) ∷ says s (sealed· (length x + tagSize) (1 ∷ 2 ∷ [])) ∷ says s (take· (replicate 576 0)) ∷ rest
 
 -- its wire, by epoch 2 and number
 abbrev wire : ℕ → List ℕ → List ℕ
-wire n x = maskedHeader 2 n (length x + 16) (1 ∷ 2 ∷ []) ++ (x ++ replicate 16 7)
+wire n x = maskedHeader 2 n (length x + tagSize) (1 ∷ 2 ∷ []) ++ (x ++ replicate tagSize 7)
 
 -- it arrives, is unmasked and opened
 abbrev arrives : Side → ℕ → List ℕ → List Event → List Event
@@ -120,8 +121,8 @@ sealedAt n t c = record {
   num = n;
   type = t;
   content = c;
-  header = unifiedHeader 2 n (length c + 17);
-  cipher = c ++ (t ∷ replicate 16 7);
+  header = unifiedHeader 2 n (length c + sealedTail);
+  cipher = c ++ (t ∷ replicate tagSize 7);
   wire = wire n (c ++ (t ∷ []));
 }
 
@@ -249,7 +250,7 @@ calls =
     -- done: a message of two bytes; 23: it waits to be sealed; 14: a body over 16,384 bytes; 19: a second piece needs a second datagram
     ∷ message· 11 (7 ∷ 8 ∷ []) ∷ take· (replicate 36 0) ∷ message· 11 (replicate 16385 0) ∷ message· 1 (replicate 545 0)
     -- the host seals; 15: another length; done
-    ∷ fill· (twoBytes ++ (22 ∷ replicate 16 7)) ∷ sealed· 30 (1 ∷ 2 ∷ []) ∷ sealed· 31 (1 ∷ 2 ∷ [])
+    ∷ fill· (twoBytes ++ (22 ∷ replicate tagSize 7)) ∷ sealed· 30 (1 ∷ 2 ∷ []) ∷ sealed· 31 (1 ∷ 2 ∷ [])
     -- 16: 36 bytes are needed; done: 36 bytes; done: none is left; done: noted
     ∷ take· (replicate 35 0) ∷ take· (replicate 36 0) ∷ take· (replicate 36 0) ∷ note· 2 0 ∷ []
 

@@ -9,7 +9,7 @@ use mathlib.Core.Option.{Option, none, some}
 use Rattle.base.specs.Bytes.{be, beAt}
 use Rattle.base.specs.Choose.{choose, both, either}
 use Rattle.waiting.specs.Calls.{SendCall, keySend·, send·, save·, message·, beginFlight·, resend·, note·, sendAck·, ack·, fill·, sealed·, take·, Reply, only}
-use Rattle.history.specs.Account.{upd, isIn}
+use Rattle.history.specs.Account.{plainHead, sealedHead, sealedOver, upd, isIn}
 
 -- ---- 01's numbers
 
@@ -25,19 +25,6 @@ applicationData = 23
 
 abbrev pub ackType : ℕ
 ackType = 26
-
--- what a record has beside its content: a header of 13 bytes in plaintext; sealed, a header of 5, the content type and a tag of 16
-abbrev pub plainOver : ℕ
-plainOver = 13
-
-abbrev pub sealedHead : ℕ
-sealedHead = 5
-
-abbrev pub sealedTail : ℕ
-sealedTail = 17
-
-abbrev pub sealedOver : ℕ
-sealedOver = sealedHead + sealedTail
 
 -- the limits: a body's bytes, records saved, numbers that a saved record remembers, records noted; the first number of a record and of a message that
 -- is not sent
@@ -201,7 +188,7 @@ withNoted l noted = record {
 
 -- header and content; a sealed record has content type and tag besides
 abbrev pub sizeOf : ℕ → ℕ → ℕ
-sizeOf e n = choose (eqb e 0) (n + plainOver) (n + sealedOver)
+sizeOf e n = choose (eqb e 0) (n + plainHead) (n + sealedOver)
 
 abbrev pub total : List Item → ℕ
 total [] = 0
@@ -516,7 +503,7 @@ acking l =
 
 -- ---- a sealing reply: 15; taking: none from an empty queue, 23, 16
 
--- the part lent is the record behind its header of 5 bytes
+-- the part lent is the record behind its header
 abbrev pub sealReply : Option Item → ℕ → ℕ
 sealReply none n = 15
 sealReply (some i) n = choose (eqb n (i .size - sealedHead)) 0 15

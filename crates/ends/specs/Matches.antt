@@ -17,6 +17,7 @@ use Rattle.acks.specs.Acks.{pairsOf}
 use Rattle.waiting.specs.Answers.{answered}
 use Rattle.waiting.specs.Calls.{Stores, SendCall, stored}
 use Rattle.waiting.specs.Queued.{Queued, plain, waits, sealed, Holds}
+use Rattle.history.specs.Account.{plainHead, sealedOver}
 use Rattle.ends.specs.Books.{booksBy}
 use Rattle.ends.specs.Ledger.{Item, Kept, Name, Ledger, lastSize, isSome, known, namesBytes, owed, after, sentBy}
 use Rattle.ends.specs.Sender.{Books, entersAll}
@@ -25,9 +26,9 @@ use Rattle.ends.specs.Sender.{Books, entersAll}
 
 -- a record that the queue's memory means, in the account
 abbrev pub itemOf : Queued → Item
-itemOf (plain t n x) = record { epoch = 0; num = n; size = length x + 13; waits = false }
-itemOf (waits e t n x p) = record { epoch = e; num = n; size = length x + 22; waits = true }
-itemOf (sealed e t n x m p) = record { epoch = e; num = n; size = length x + 22; waits = false }
+itemOf (plain t n x) = record { epoch = 0; num = n; size = length x + plainHead; waits = false }
+itemOf (waits e t n x p) = record { epoch = e; num = n; size = length x + sealedOver; waits = true }
+itemOf (sealed e t n x m p) = record { epoch = e; num = n; size = length x + sealedOver; waits = false }
 
 abbrev pub itemsIn : List Queued → List Item
 itemsIn [] = []

@@ -37,7 +37,7 @@ use Rattle.waiting.specs.Lists.{length-plain, length-waits, length-sealed}
 use Rattle.waiting.specs.Queued.{Queued, plain, waits, sealed, bytesOf, bytes, laidAs, flat, Sound, Lies, Rows}
 use Rattle.waiting.specs.Seals.{ready-always}
 use Rattle.waiting.specs.Sends.{Sent, recordOf, sentTo, laid-holds}
-use Rattle.history.specs.Account.{upd}
+use Rattle.history.specs.Account.{plainHead, sealedOver, upd}
 use Rattle.history.specs.Lists.{upd-same, upd-by, by-both}
 use Rattle.send_keys.specs.Answer.{refusal}
 use Rattle.ends.specs.Books.{booksBy}
@@ -254,8 +254,8 @@ item-is e t n x =
     test-cases (eqb e 0)
     (λ z.
     ap itemOf (if-true _ _ z)
-    ∙ λ i. record { epoch = sym (eqb-true e 0 z) i; num = n; size = sym (if-true (length x + 13) (length x + 22) z) i; waits = not (sym z i) })
-    (λ z. ap itemOf (if-false _ _ z) ∙ λ i. record { epoch = e; num = n; size = sym (if-false (length x + 13) (length x + 22) z) i; waits = not (sym z i) })
+    ∙ λ i. record { epoch = sym (eqb-true e 0 z) i; num = n; size = sym (if-true (length x + plainHead) (length x + sealedOver) z) i; waits = not (sym z i) })
+    (λ z. ap itemOf (if-false _ _ z) ∙ λ i. record { epoch = e; num = n; size = sym (if-false (length x + plainHead) (length x + sealedOver) z) i; waits = not (sym z i) })
 
 items-joined : (ds : List (List Queued)) (r : Queued) → itemsOf (joined ds r) ≡ onLast (itemsOf ds) (itemOf r)
 items-joined [] r = refl

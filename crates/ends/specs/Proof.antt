@@ -11,6 +11,7 @@ use Rattle.waiting.specs.Answers.{answered}
 use Rattle.waiting.specs.Calls.{Stores, SendCall, keySend·, send·, save·, message·, beginFlight·, resend·, note·, sendAck·, ack·, fill·, sealed·, take·, stored, lending, Short, only}
 use Rattle.waiting.specs.Fresh.{fresh-holds}
 use Rattle.queue.specs.Queue.{isSetting}
+use Rattle.history.specs.Account.{sealedOver}
 use Rattle.ends.specs.Starting.{ranges-setting}
 use Rattle.ends.specs.Given.{Given, given-keeps, given-lies, took-all}
 use Rattle.base.specs.Choose.{by-test}
@@ -61,7 +62,7 @@ use Rattle.ends.specs.Claim.{SameNumbers, Holds, Startable, EveryList, T
 use Rattle.ends.specs.Every.{every-does, sends-same, sends-stores, sends-sent}
 use Rattle.ends.specs.Flights.{Arrived, Held, FairNames}
 use Rattle.ends.specs.Heard.{Grows, Heard, heard-keeps, heard-grows, cleared-handed, none-heard}
-use Rattle.ends.specs.Ledger.{applicationData, sealedOver, lastNumber, Sent, Item, Kept, Ledger, items, oldest, after, sentBy, shortReply, clears, isUsable, owed}
+use Rattle.ends.specs.Ledger.{applicationData, lastNumber, Sent, Item, Kept, Ledger, items, oldest, after, sentBy, shortReply, clears, isUsable, owed}
 use Rattle.ends.specs.Matches.{Entries, FlightIs, Matches, Does}
 use Rattle.ends.specs.Matching.{usable-is, items-flat}
 use Rattle.ends.specs.Rules.{stop-order}

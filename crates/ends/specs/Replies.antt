@@ -12,7 +12,7 @@ use mathlib.Core.Path.{_≡_, refl, sym, ap, subst, _∙_}
 use native.Mathlib.Omega.{arith}
 use Rattle.base.specs.Choose.{choose, either, if-true, by-test, test-cases, both-true}
 use Rattle.base.specs.Parts.{part, part-behind, splice, splice-here}
-use Rattle.record.specs.Record.{isType, unifiedHeader}
+use Rattle.record.specs.Record.{sealedHead, sealedTail, isType, unifiedHeader}
 use Rattle.queue.specs.Laid.{trailerOf}
 use Rattle.send_keys.specs.declared.SendKeys.{SendKeys}
 use Rattle.send_keys.specs.Keys.{nextOf, sealedUpTo}
@@ -42,9 +42,9 @@ logged e t n x m p = record {
   num = n;
   type = t;
   content = x;
-  header = unifiedHeader e n (length x + 17);
+  header = unifiedHeader e n (length x + sealedTail);
   cipher = p;
-  wire = maskedHeader e n (length x + 17) m ++ p;
+  wire = maskedHeader e n (length x + sealedTail) m ++ p;
 }
 
 -- an accepted reply answers something that waits, with its length
@@ -73,47 +73,47 @@ module _ (s : Sending) (q : List ℕ) (ds : List (List Queued)) (h : Holds s q d
   abbrev header : List ℕ
   header = maskedHeader (s .waiting .epoch) (s .waiting .number) (s .waiting .length) m
 
-  header-same : maskedHeader (s .waiting .epoch) (s .waiting .number) (s .waiting .length) m ≡ maskedHeader e n (length x + 17) m
+  header-same : maskedHeader (s .waiting .epoch) (s .waiting .number) (s .waiting .length) m ≡ maskedHeader e n (length x + sealedTail) m
   header-same = rw (names .epoch, names .number, names .size)
 
-  written-so : sealedMemory (sealAnswer s (length q) k) s m q ≡ splice (partStart s - 5) header q
+  written-so : sealedMemory (sealAnswer s (length q) k) s m q ≡ splice (partStart s - sealedHead) header q
   unfolding sealedMemory
   written-so = if-true _ _ d
 
-  behind-header : partStart s - 5 + 5 ≡ partStart s
+  behind-header : partStart s - sealedHead + sealedHead ≡ partStart s
   unfolding partStart
   behind-header = omega arith
 
-  fits : partStart s - 5 + length header ≤ length q
+  fits : partStart s - sealedHead + length header ≤ length q
   fits =
       let a = sealed-held s (length q) k d in
       omega (arith, part-fits (a .0) (a .1), length-masked (s .waiting .epoch) (s .waiting .number) (s .waiting .length) m, behind-header)
 
-  wire-is : part (partStart s - 5) (5 + (length x + 17)) q′ ≡ maskedHeader e n (length x + 17) m ++ p
+  wire-is : part (partStart s - sealedHead) (sealedHead + (length x + sealedTail)) q′ ≡ maskedHeader e n (length x + sealedTail) m ++ p
   wire-is =
-      take-add 5 (length x + 17) (drop (partStart s - 5) q′)
-      ∙ ap (λ (l : List ℕ). take 5 (drop (partStart s - 5) q′) ++ l)
-      (part-behind (partStart s - 5) 5 (length x + 17) q′ ∙ ap (λ (a : ℕ). part a (length x + 17) q′) behind-header
-      ∙ sealed-after s k m q d (partStart s) (length x + 17) (omega arith) ∙ part-is s q ds h e t n x p us y)
+      take-add sealedHead (length x + sealedTail) (drop (partStart s - sealedHead) q′)
+      ∙ ap (λ (l : List ℕ). take sealedHead (drop (partStart s - sealedHead) q′) ++ l)
+      (part-behind (partStart s - sealedHead) sealedHead (length x + sealedTail) q′ ∙ ap (λ (a : ℕ). part a (length x + sealedTail) q′) behind-header
+      ∙ sealed-after s k m q d (partStart s) (length x + sealedTail) (omega arith) ∙ part-is s q ds h e t n x p us y)
       ∙ ap (λ (l : List ℕ). l ++ p)
-      (ap (λ (v : List ℕ). part (partStart s - 5) 5 v) written-so
-      ∙ ap (λ (a : ℕ). part (partStart s - 5) a (splice (partStart s - 5) header q)) (sym (length-masked (s .waiting .epoch) (s .waiting .number) (s .waiting .length) m))
-      ∙ splice-here (partStart s - 5) header q fits ∙ header-same)
+      (ap (λ (v : List ℕ). part (partStart s - sealedHead) sealedHead v) written-so
+      ∙ ap (λ (a : ℕ). part (partStart s - sealedHead) a (splice (partStart s - sealedHead) header q)) (sym (length-masked (s .waiting .epoch) (s .waiting .number) (s .waiting .length) m))
+      ∙ splice-here (partStart s - sealedHead) header q fits ∙ header-same)
 
-  content-is : take (length x + 17 - 17) (x ++ trailerOf t e n) ≡ x
+  content-is : take (length x + sealedTail - sealedTail) (x ++ trailerOf t e n) ≡ x
   content-is =
-      let z : length x + 17 - 17 ≡ length x = omega arith in
+      let z : length x + sealedTail - sealedTail ≡ length x = omega arith in
       ap (λ (a : ℕ). take a (x ++ trailerOf t e n)) z ∙ take-append-seam x (trailerOf t e n)
 
-  type-is : getD (x ++ trailerOf t e n) (length x + 17 - 17) 0 ≡ t
+  type-is : getD (x ++ trailerOf t e n) (length x + sealedTail - sealedTail) 0 ≡ t
   unfolding trailerOf
   type-is =
-      let z : length x + 17 - 17 ≡ length x + 0 = omega arith in
+      let z : length x + sealedTail - sealedTail ≡ length x + 0 = omega arith in
       ap (λ (a : ℕ). getD (x ++ trailerOf t e n) a 0) z ∙ getD-append-add x (trailerOf t e n) 0 0
 
   same-log : {a b : ℕ} {c f u v w g : List ℕ} → a ≡ b → c ≡ f → u ≡ v → w ≡ g
-      → _≡_ {A = Sealed} (record { num = n; type = a; content = c; header = unifiedHeader e n (length x + 17); cipher = u; wire = w })
-      (record { num = n; type = b; content = f; header = unifiedHeader e n (length x + 17); cipher = v; wire = g })
+      → _≡_ {A = Sealed} (record { num = n; type = a; content = c; header = unifiedHeader e n (length x + sealedTail); cipher = u; wire = w })
+      (record { num = n; type = b; content = f; header = unifiedHeader e n (length x + sealedTail); cipher = v; wire = g })
   same-log i j k l = cc
 
   -- what is logged
@@ -134,7 +134,7 @@ module _ (s : Sending) (q : List ℕ) (ds : List (List Queued)) (h : Holds s q d
         short = omega (arith, r .part, r .short);
         number = omega (arith, r .number);
         header = ap (unifiedHeader e n) (sym (r .part));
-        wire = ap (λ (l : List ℕ). l ++ p) (mask-same (masks e (take 16 p)) one two (length x + 17) ∙ ap (λ (a : ℕ). maskedHeader e n a (masks e (take 16 p))) (sym (r .part)));
+        wire = ap (λ (l : List ℕ). l ++ p) (mask-same (masks e (take 16 p)) one two (length x + sealedTail) ∙ ap (λ (a : ℕ). maskedHeader e n a (masks e (take 16 p))) (sym (r .part)));
       }
 
 -- ---- the records behind it
@@ -149,7 +149,7 @@ still-waits m e t n x p (sealed a b c d f g ∷ rs) o = mem-by o (λ (q : waits 
 
 -- the line of the first that waits is finished
 lines-sealed : (m : List ℕ) (e t n : ℕ) (x p : List ℕ) (us rs : List Queued) → waitingOf rs ≡ waits e t n x p ∷ us
-    → finish e n (maskedHeader e n (length x + 17) m ++ p) (linesIn rs) ≡ linesIn (firstIn (sealWith m) rs)
+    → finish e n (maskedHeader e n (length x + sealedTail) m ++ p) (linesIn rs) ≡ linesIn (firstIn (sealWith m) rs)
 lines-sealed m e t n x p us [] y = absurd (let z : _≡_ {A = ℕ} 0 1 = cc in omega arith)
 lines-sealed m e t n x p us (plain a b c ∷ rs) y = ap (λ (l : List Line). lineIn (plain a b c) ∷ l) (lines-sealed m e t n x p us rs y)
 lines-sealed m e t n x p us (waits a b c d f ∷ rs) y =
@@ -227,7 +227,7 @@ module _ (log : ℕ → List Sealed) (gone : List Line) (ivs : ℕ → List ℕ)
 
   pub reply-lays : Laying log′ gone ivs (sealedState (sealAnswer s (length q) k) s q .state) (sealedMemory (sealAnswer s (length q) k) s m q)
       (afterReply (sealAnswer s (length q) k) m ds)
-      (record { sent = b .sent; lines = finish e n (maskedHeader e n (length x + 17) m ++ p) (b .lines) })
+      (record { sent = b .sent; lines = finish e n (maskedHeader e n (length x + sealedTail) m ++ p) (b .lines) })
   reply-lays = record {
     holds = seal-holds s q ds (i .holds) k m;
     numbers = keys-then;
@@ -246,7 +246,7 @@ module _ (log : ℕ → List Sealed) (gone : List Line) (ivs : ℕ → List ℕ)
         mem-by w (λ (v : r ≡ new). none-with e′ t′ n′ x′ p′ g same (sym z ∙ ap (λ (u : Sealed). u .num) v))
         (λ w′. i .apart e′ t′ n′ x′ p′ (still-waits m e′ t′ n′ x′ p′ (flat ds) g) r (subst (λ (v : ℕ). Mem r (log v)) (sym same) w′) z))
         (λ other g w z. i .apart e′ t′ n′ x′ p′ (still-waits m e′ t′ n′ x′ p′ (flat ds) g) r w z) f;
-    lines = ap (finish e n (maskedHeader e n (length x + 17) m ++ p)) (i .lines)
-        ∙ finish-behind e n (maskedHeader e n (length x + 17) m ++ p) gone (linesIn (flat ds)) over
+    lines = ap (finish e n (maskedHeader e n (length x + sealedTail) m ++ p)) (i .lines)
+        ∙ finish-behind e n (maskedHeader e n (length x + sealedTail) m ++ p) gone (linesIn (flat ds)) over
         ∙ ap (λ (l : List Line). gone ++ l) (lines-sealed m e t n x p us (flat ds) y ∙ ap linesIn (sym flat-is));
   }

@@ -10,10 +10,10 @@ use mathlib.Core.Logic.{_↔_, _⊎_, inl, inr, ⊎-elim}
 use mathlib.Core.Path.{_≡_, refl, sym, subst, _∙_}
 use native.Mathlib.Omega.{arith}
 use Rattle.base.specs.Choose.{choose, either, if-true, if-false, by-test, test-cases, both-true, either-false}
-use Rattle.history.specs.Account.{isIn}
+use Rattle.history.specs.Account.{sealedOver, isIn}
 use Rattle.history.specs.Lists.{upd-same, either-left, either-right}
 use Rattle.ends.specs.Laws.{off-parts}
-use Rattle.ends.specs.Ledger.{applicationData, sealedOver, longestBody, mostSaved, mostRemembered, lastNumber, lastMessage, Item, Ledger, Going, sizeOf, waitsUnder, items, onLast, lays, isOld, keyNumber, isUsable, isType, isAllowed, hasKeys, hasRoom, queueNumber, flightNumber, sendNumber, saves, saveNumber, epochFor, savesOn, pieces, posted, messageNumber, known, resent, all, isSpent, resendNumber}
+use Rattle.ends.specs.Ledger.{applicationData, longestBody, mostSaved, mostRemembered, lastNumber, lastMessage, Item, Ledger, Going, sizeOf, waitsUnder, items, onLast, lays, isOld, keyNumber, isUsable, isType, isAllowed, hasKeys, hasRoom, queueNumber, flightNumber, sendNumber, saves, saveNumber, epochFor, savesOn, pieces, posted, messageNumber, known, resent, all, isSpent, resendNumber}
 
 -- ---- tests one after the other
 

@@ -20,11 +20,11 @@ use Rattle.taking.specs.declared.TakeAnswer.{TakeAnswer}
 use Rattle.taking.specs.declared.TakeAnswer.the-variants as took
 use Rattle.taking.specs.Take.{takeAnswer, takeBuffer}
 use Rattle.waiting.specs.Calls.{Stores, SendCall, keySend·, send·, save·, message·, beginFlight·, resend·, note·, sendAck·, ack·, fill·, sealed·, take·, stored, fresh, lending}
-use Rattle.history.specs.Account.{upd}
+use Rattle.history.specs.Account.{sealedHead, sealedTail, upd}
 use Rattle.history.specs.Claim.{Masks}
 use Rattle.history.specs.Receiver.{Sealed, Handed}
 use Rattle.send_keys.specs.Answer.{isDone}
-use Rattle.ends.specs.Ledger.{sealedHead, sealedTail, Sent, Item}
+use Rattle.ends.specs.Ledger.{Sent, Item}
 
 -- ---- what the history holds
 

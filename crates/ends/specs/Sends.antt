@@ -44,6 +44,7 @@ use Rattle.history.specs.Direction.{Shaped}
 use Rattle.history.specs.Half.{Shape}
 use Rattle.history.specs.Lists.{by-both, upd-by, some-inj, some≢none, mem-by}
 use Rattle.history.specs.Receiver.{Sealed}
+use Rattle.record.specs.Record.{sealedTail}
 use Rattle.ends.specs.Asked.{lentFor, LentIs, first-mem, part-is, lends-is, shows-after}
 use Rattle.ends.specs.Books.{sendsBy}
 use Rattle.ends.specs.Laws.{upd-grows}
@@ -339,13 +340,13 @@ module _ (masks : Masks) (x : Sender) (i : Sends masks x) where
         ap (λ (o : Option Lent). sealedBy answer o (w .queue) behind (x .sealed)) shown ∙ if-true _ _ d ∙ ap (λ (r : Sealed). upd (x .sealed) e (r ∷ x .sealed e)) is
 
     books-then : finishedBy answer (x .lent) (w .queue) behind (x .books)
-        ≡ record { sent = x .books .sent; lines = finish e n (maskedHeader e n (length c + 17) m ++ p) (x .books .lines) }
+        ≡ record { sent = x .books .sent; lines = finish e n (maskedHeader e n (length c + sealedTail) m ++ p) (x .books .lines) }
     books-then =
         ap (λ (o : Option Lent). finishedBy answer o (w .queue) behind (x .books)) shown ∙ if-true _ _ d
         ∙ ap (λ (r : Sealed). record { sent = x .books .sent; lines = finish e n (r .wire) (x .books .lines) }) is
 
     -- the sender's mask
-    right-length : k ≡ length c + 17
+    right-length : k ≡ length c + sealedTail
     right-length = sealed-tests (w .state) (w .queue) (i .ds) (i .laying .holds) k d .1 ∙ names-first (w .state) (w .queue) (i .ds) (i .laying .holds) e t n c p us y .size
 
     mine : (getD m 0 0 ≡ getD (masks e (part (partStart (w .state)) 16 (w .queue))) 0 0) × (getD m 1 0 ≡ getD (masks e (part (partStart (w .state)) 16 (w .queue))) 1 0)
@@ -353,7 +354,7 @@ module _ (masks : Masks) (x : Sender) (i : Sends masks x) where
 
     sample : part (partStart (w .state)) 16 (w .queue) ≡ take 16 p
     sample =
-        sym (part-first (partStart (w .state)) 16 (length c + 17) (w .queue) (omega arith))
+        sym (part-first (partStart (w .state)) 16 (length c + sealedTail) (w .queue) (omega arith))
         ∙ ap (take 16) (part-is (w .state) (w .queue) (i .ds) (i .laying .holds) e t n c p us y)
 
     shape : Shape masks e (logged e t n c m p)
@@ -365,7 +366,7 @@ module _ (masks : Masks) (x : Sender) (i : Sends masks x) where
     accepted-reply =
         subst (λ (b : Books). Sends masks (turns x (stored w (sealed· k m)) b (x .ivs) (sealedBy answer (x .lent) (w .queue) behind (x .sealed)) (x .taken))) (sym books-then)
         (subst (λ (log : ℕ → List Sealed). Sends masks (turns x (stored w (sealed· k m))
-        (record { sent = x .books .sent; lines = finish e n (maskedHeader e n (length c + 17) m ++ p) (x .books .lines) }) (x .ivs) log (x .taken))) (sym log-then)
+        (record { sent = x .books .sent; lines = finish e n (maskedHeader e n (length c + sealedTail) m ++ p) (x .books .lines) }) (x .ivs) log (x .taken))) (sym log-then)
         (sealing k m _ _
         (reply-lays (x .sealed) (i .gone) (x .ivs) (i .over) (w .state) (w .queue) (i .ds) (x .books) (i .laying) k m d e t n c p us y)
         (more-once (x .sealed) (i .once) e (logged e t n c m p)

@@ -35,7 +35,7 @@ use Rattle.waiting.specs.Oldest.{first-of, names-first, fill-holds}
 use Rattle.waiting.specs.Queued.{Queued, plain, waits, sealed, bytes, flat, waitingOf, numbersOf, waitsIn, Holds}
 use Rattle.waiting.specs.Seals.{seal-holds, seal-told}
 use Rattle.waiting.specs.Takes.{takeTold, take-told, afterTaken, take-holds}
-use Rattle.history.specs.Account.{upd}
+use Rattle.history.specs.Account.{sealedHead, sealedOver, upd}
 use Rattle.history.specs.Lists.{upd-same, upd-other, by-both}
 use Rattle.send_keys.specs.Answer.{isDone, refusal, done-number}
 use Rattle.ends.specs.Ledger.{
@@ -204,10 +204,10 @@ seal-number s mem ds h n =
     ∙ test-cases (waitsIn (flat ds))
     (λ z.
     let f = first-of (flat ds) z in
-    let size : s .waiting .length ≡ length (f .content) + 22 - 5 = names-first s mem ds h _ _ _ _ _ _ (f .is) .size ∙ omega arith in
+    let size : s .waiting .length ≡ length (f .content) + sealedOver - sealedHead = names-first s mem ds h _ _ _ _ _ _ (f .is) .size ∙ omega arith in
     ap sealing.refusal (if-true _ _ z)
     ∙ ap (λ (k : ℕ). sealing.refusal (choose (eqb n k) seal.Done seal.NoQuestion)) size
-    ∙ through sealing.refusal (eqb n (length (f .content) + 22 - 5)) _ _
+    ∙ through sealing.refusal (eqb n (length (f .content) + sealedOver - sealedHead)) _ _
     ∙ sym (ap (λ (o : Option Item). sealReply o n) (oldest-some (flat ds) _ _ (f .is))))
     (λ z. ap sealing.refusal (if-false _ _ z) ∙ sym (ap (λ (o : Option Item). sealReply o n) (oldest-none (flat ds) z)))
 

@@ -13,6 +13,23 @@ use Rattle.base.specs.Choose.{choose, both, either}
 unfoldable pub upd : {A : Type 0} → (ℕ → A) → ℕ → A → ℕ → A
 upd f e a k = choose (eqb k e) a (f k)
 
+-- 01's lengths of the parts of a record: "Plaintext header, 13 bytes"; a sealed one's flags, two number bytes and length, as they are sent; "Tag
+-- length is 16"; behind the content of a sealed record its type and the tag; what it has beside its content in all
+abbrev pub plainHead : ℕ
+plainHead = 13
+
+abbrev pub sealedHead : ℕ
+sealedHead = 5
+
+abbrev pub tagSize : ℕ
+tagSize = 16
+
+abbrev pub sealedTail : ℕ
+sealedTail = 1 + tagSize
+
+abbrev pub sealedOver : ℕ
+sealedOver = sealedHead + sealedTail
+
 -- the reading question last shown to the host and not yet answered: a mask question by its epoch and the place of the 16 bytes; an opening
 -- question by epoch, number and the header's place, with the header's and the protected part's bytes as they lay when it was first shown
 pub data Shown : Type 0 where
@@ -124,8 +141,8 @@ sealedSize rest flags =
 
 unfoldable pub plainSize : List ℕ → ℕ
 plainSize rest =
-    choose (ltb (length rest) 13) (length rest)
-    (choose (ltb (length rest) (13 + beAt 2 rest 11)) (length rest) (13 + beAt 2 rest 11))
+    choose (ltb (length rest) plainHead) (length rest)
+    (choose (ltb (length rest) (plainHead + beAt 2 rest 11)) (length rest) (plainHead + beAt 2 rest 11))
 
 -- a first byte 0x20 to 0x3F is a sealed record
 unfoldable pub recordSize : List ℕ → ℕ

@@ -36,7 +36,7 @@ use Rattle.recv_keys.specs.declared.Found.the-variants as found
 use Rattle.recv_keys.specs.declared.Found.{Found}
 use Rattle.recv_keys.specs.declared.RecvEpochEntry.{RecvEpochEntry}
 use Rattle.recv_keys.specs.declared.RecvKeys.{RecvKeys}
-use Rattle.window.specs.Window.{width, isFresh}
+use Rattle.window.specs.Window.{isFresh}
 use Rattle.history.specs.Account.{upd, Shown, nothing, aMask, anOpening, Account, isIn, without, owedBy, keyOwed, withKey, keys}
 use Rattle.history.specs.Lists.{by-both, some≢none, mem-by, drops-on, splice-behind}
 use Rattle.history.specs.Reading.{is-found}
@@ -79,7 +79,7 @@ fresh-keeps k l f question.Nothing a = tt
 fresh-keeps k l f (question.Mask x) a = tt
 fresh-keeps k l f (question.Opening x n) a =
     let g = f (x .epoch) (a .0) (a .1) in
-    (g .0, g .1, subst (λ (e : RecvEpochEntry). isFresh width (e .replay) n ≡ true) (sym (g .2)) (a .2))
+    (g .0, g .1, subst (λ (e : RecvEpochEntry). isFresh (e .replay) n ≡ true) (sym (g .2)) (a .2))
 
 -- ---- keying
 
@@ -376,7 +376,7 @@ module _ (y : Receiver) (i : Sound y) where
     fresh-left (question.Mask x) a ne = tt
     fresh-left (question.Opening x n) a ne =
         let g = find-left (x .epoch) (a .0) (ne x n refl) (a .1) in
-        (g .0, g .1, subst (λ (r : RecvEpochEntry). isFresh width (r .replay) n ≡ true) (sym (g .2)) (a .2))
+        (g .0, g .1, subst (λ (r : RecvEpochEntry). isFresh (r .replay) n ≡ true) (sym (g .2)) (a .2))
 
     -- another epoch's removal: the question stays
     stays : (s : Receiving) → s ≡ record { keys = left k j; datagram = b } → Made s → FreshAsked (left k j) (b .question)

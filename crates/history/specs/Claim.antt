@@ -17,7 +17,7 @@ use Rattle.datagram.specs.declared.Reading.{Reading}
 use Rattle.opening_reply.specs.declared.Opening.the-variants as reply
 use Rattle.opening_reply.specs.declared.Opening.{Opening}
 use Rattle.window.specs.Used.{above}
-use Rattle.history.specs.Account.{Shown, nothing, aMask, anOpening, headSize, saidSize, recordSize}
+use Rattle.history.specs.Account.{plainHead, tagSize, Shown, nothing, aMask, anOpening, headSize, saidSize, recordSize}
 use Rattle.history.specs.Receiver.{
   Sealed,
   Handed,
@@ -89,7 +89,7 @@ plaintextBy (reply.Yes l) at d = some (part at l d)
 -- a yes of another length is refused, and not bound
 abbrev pub Answers : Opening → ℕ → Type 0
 Answers reply.No n = Unit {0}
-Answers (reply.Yes l) n = l + 16 ≡ n
+Answers (reply.Yes l) n = l + tagSize ≡ n
 
 -- epoch, number, header and protected part are those that the question first showed
 abbrev pub FairOpen : (ℕ → List Sealed) → Shown → List ℕ → Opening → Type 0
@@ -128,6 +128,14 @@ Once (h ∷ hs) = ((k : Handed) → Mem k hs → k .num ≡ h .num → ⊥) × O
 abbrev pub asHanded : Sealed → Handed
 asHanded r = record { num = r .num; type = r .type; content = r .content }
 
+-- how many numbers are not too old, the highest used with them: "at most 63 below the highest used"
+abbrev pub windowMarks : ℕ
+windowMarks = 64
+
+-- the first number out of reach: "under 32,768 above that highest plus one (above 0 if none)"
+abbrev pub reachOf : List ℕ → ℕ
+reachOf used = above used + 32768
+
 -- the record r may not be left out in epoch e, by the moment at which the cut came to it
 pub record Due (t : Trial) (e : ℕ) (r : Sealed) : Type 0 where
   -- "the one it was sealed in"
@@ -143,9 +151,9 @@ pub record Due (t : Trial) (e : ℕ) (r : Sealed) : Type 0 where
   -- "whose number was then unused"
   pub not-used : Mem (r .num) (t .used e) → ⊥
   -- "at most 63 below the highest used"
-  pub not-old : above (t .used e) ≤ r .num + 64
+  pub not-old : above (t .used e) ≤ r .num + windowMarks
   -- "under 32,768 above that highest plus one (above 0 if none)"
-  pub in-reach : r .num < above (t .used e) + 32768
+  pub in-reach : r .num < reachOf (t .used e)
 
 -- a reading says opened in epoch e and shows the record h
 abbrev pub SaysOpened : Reading → List ℕ → ℕ → Handed → Type 0
@@ -179,7 +187,7 @@ Real (says.Opening e n s h l) good on = Unit {0}
 -- in order, the bytes of its length all there
 pub record PlainDue (t : Trial) : Type 0 where
   pub in-order : t .plain ≡ true
-  pub whole : 13 + beAt 2 (t .rest) 11 ≤ length (t .rest)
+  pub whole : plainHead + beAt 2 (t .rest) 11 ≤ length (t .rest)
   pub among-16 : t .count ≤ 15
 
 -- a sealed record without 0x10, header and length within its bytes: "While peer encryption is off, epoch bits 2 and 3 give the reading"
@@ -225,7 +233,7 @@ numberBytes rest flags = choose (eqb (flags / 8 % 2) 1) (beAt 2 rest 1) (getD re
 -- of a record as it arrived, plaintext shows type, number and content, unopened the epoch's bits, the number bytes and the protected part
 abbrev pub Shows : Reading → List ℕ → List ℕ → Type 0
 Shows (says.Plaintext t n s l) rest shown =
-    (t ≡ getD rest 0 0) × (n ≡ beAt 6 rest 5) × (l ≡ beAt 2 rest 11) × (shown ≡ part 13 (beAt 2 rest 11) rest)
+    (t ≡ getD rest 0 0) × (n ≡ beAt 6 rest 5) × (l ≡ beAt 2 rest 11) × (shown ≡ part plainHead (beAt 2 rest 11) rest)
 Shows (says.Unopened b n s l) rest shown =
     (b ≡ getD rest 0 0 % 4) × (n ≡ numberBytes rest (getD rest 0 0)) × (l ≡ recordSize rest - headSize (getD rest 0 0))
     × (shown ≡ part (headSize (getD rest 0 0)) (recordSize rest - headSize (getD rest 0 0)) rest)
@@ -255,7 +263,7 @@ Proper (anOpenReply o) nothing r = r ≡ says.Reply
 Proper (anOpenReply o) (aMask e p) r = r ≡ says.Reply
 Proper (anOpenReply reply.No) (anOpening e n at head body) r = fateOf r ≡ settled
 Proper (anOpenReply (reply.Yes l)) (anOpening e n at head body) r =
-    (l + 16 ≡ length body → fateOf r ≡ settled) × ((l + 16 ≡ length body → ⊥) → r ≡ says.Reply)
+    (l + tagSize ≡ length body → fateOf r ≡ settled) × ((l + tagSize ≡ length body → ⊥) → r ≡ says.Reply)
 
 -- byte i of a nonce behind the fourth: the IV's XOR the number's, of which k bytes follow
 abbrev pub nonceByte : List ℕ → ℕ → ℕ → ℕ → ℕ

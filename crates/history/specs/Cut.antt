@@ -14,7 +14,7 @@ use Rattle.dtls_aead.specs.Nonce.{nonceOf}
 use Rattle.record.specs.Record.{cFlag, lFlag, headerLen, fragmentLen, ciphertextOf, parseCiphertext, isType, isVersion, isPlaintext, plaintextOf, parsePlaintext, parsed}
 use Rattle.record.specs.declared.Parsed.the-variants as parse
 use Rattle.record.specs.declared.Parsed.{Parsed}
-use Rattle.history.specs.Account.{headSize, saidSize, sealedSize, plainSize, recordSize, goodPlain}
+use Rattle.history.specs.Account.{plainHead, headSize, saidSize, sealedSize, plainSize, recordSize, goodPlain}
 use Rattle.history.specs.Claim.{nonceFor}
 use Rattle.history.specs.Lists.{by-both, either-cases, both-cases}
 
@@ -22,8 +22,8 @@ use Rattle.history.specs.Lists.{by-both, either-cases, both-cases}
 abbrev pub Cuts : List ℕ → ℕ → Parsed → Type 0
 Cuts rest size parse.End = size ≡ length rest
 Cuts rest size parse.Incomplete = size ≡ length rest
-Cuts rest size (parse.Invalid k) = size ≡ 13 + k
-Cuts rest size (parse.Plaintext p) = (size ≡ 13 + p .length) × (goodPlain rest ≡ true) × (p ≡ plaintextOf rest)
+Cuts rest size (parse.Invalid k) = size ≡ plainHead + k
+Cuts rest size (parse.Plaintext p) = (size ≡ plainHead + p .length) × (goodPlain rest ≡ true) × (p ≡ plaintextOf rest)
 Cuts rest size (parse.Ciphertext c) = (size ≡ c .«header_len» + c .length) × (c ≡ ciphertextOf rest (getD rest 0 0))
 
 -- one test for two ways to say it
@@ -67,8 +67,8 @@ module _ (rest : List ℕ) where
   plain-cut =
       by-both (Cuts rest) refl (λ t. refl)
       (λ t.
-      by-both (Cuts rest) (less-same (length rest) 13 (beAt 2 rest 11) (13 + beAt 2 rest 11) (ltb-false (length rest) 13 t) refl) (λ u. refl)
-      (λ u. by-test (Cuts rest (13 + beAt 2 rest 11)) {x = parse.Plaintext (plaintextOf rest)} {y = parse.Invalid (beAt 2 rest 11)}
+      by-both (Cuts rest) (less-same (length rest) plainHead (beAt 2 rest 11) (plainHead + beAt 2 rest 11) (ltb-false (length rest) plainHead t) refl) (λ u. refl)
+      (λ u. by-test (Cuts rest (plainHead + beAt 2 rest 11)) {x = parse.Plaintext (plaintextOf rest)} {y = parse.Invalid (beAt 2 rest 11)}
       (λ v. (refl, good v, refl)) (λ v. refl)))
 
   front : (length rest ≡ 0 → ⊥) → Cuts rest (recordSize rest) (parsed rest)
@@ -90,11 +90,11 @@ good-first rest g e =
     (λ n o. either-cases _ _ o (λ t. let x : getD rest 0 0 ≡ 22 = eqb-true _ _ t in omega arith)
     (λ m t. let x : getD rest 0 0 ≡ 26 = eqb-true _ _ t in omega arith))
 
-pub plain-parsed : (rest : List ℕ) → goodPlain rest ≡ true → 13 + beAt 2 rest 11 ≤ length rest → parsed rest ≡ parse.Plaintext (plaintextOf rest)
+pub plain-parsed : (rest : List ℕ) → goodPlain rest ≡ true → plainHead + beAt 2 rest 11 ≤ length rest → parsed rest ≡ parse.Plaintext (plaintextOf rest)
 unfolding parsed parsePlaintext
 plain-parsed rest g whole =
     if-false _ _ (any-bytes rest (omega arith)) ∙ if-false _ _ (ne-eqb (getD rest 0 0 / 32) 1 (good-first rest g))
-    ∙ if-false _ _ (le-ltb (length rest) 13 (omega arith)) ∙ if-false _ _ (le-ltb (length rest - 13) (beAt 2 rest 11) (omega arith))
+    ∙ if-false _ _ (le-ltb (length rest) plainHead (omega arith)) ∙ if-false _ _ (le-ltb (length rest - plainHead) (beAt 2 rest 11) (omega arith))
     ∙ if-true _ _ (unfold isPlaintext isType isVersion goodPlain in g)
 
 pub sealed-parsed : (rest : List ℕ) → getD rest 0 0 / 32 ≡ 1 → getD rest 0 0 / 16 % 2 ≡ 0 → headSize (getD rest 0 0) ≤ length rest

@@ -34,7 +34,7 @@ use Rattle.datagram.specs.Keeps.{refused}
 use Rattle.receiving.specs.Calls.Call.{masking as answering, opening}
 use Rattle.receiving.specs.Laws.{made-sound, refused-stays}
 use Rattle.receiving.specs.declared.Receiving.{Receiving}
-use Rattle.record.specs.Record.{unifiedHeader}
+use Rattle.record.specs.Record.{sealedHead, tagSize, unifiedHeader}
 use Rattle.records.specs.Records.{openingAsked, readStep}
 use Rattle.recv_keys.specs.Keeps.{found-epoch}
 use Rattle.recv_keys.specs.Keys.{entryAt, find, marked}
@@ -42,7 +42,6 @@ use Rattle.recv_keys.specs.Laws.{found-keyed}
 use Rattle.recv_keys.specs.declared.Found.the-variants as found
 use Rattle.recv_keys.specs.declared.RecvKeys.{RecvKeys}
 use Rattle.window.specs.Used.{Agrees}
-use Rattle.window.specs.Window.{width}
 use Rattle.history.specs.Account.{upd, Shown, nothing, aMask, anOpening}
 use Rattle.history.specs.Calls.{Leaves, as-was, no-more}
 use Rattle.history.specs.Claim.{Masks, FairMask, Opens, FairOpen, asHanded, Due, SaysOpened}
@@ -138,7 +137,7 @@ says-handed (says.Opened k n t s l) shown f e h z =
 -- ---- the record that the cut came to
 
 pub data Ongoing (t : Trial) (e : ℕ) (x : Sealed) (b : Datagram) (d : List ℕ) (used : ℕ → List ℕ) (w : Shown) : Type 0 where
-  at-mask : b .question ≡ question.Mask (askFor e x) → part (b .at) (length (x .wire)) d ≡ x .wire → used e ≡ t .used e → w ≡ aMask e (b .at + 5)
+  at-mask : b .question ≡ question.Mask (askFor e x) → part (b .at) (length (x .wire)) d ≡ x .wire → used e ≡ t .used e → w ≡ aMask e (b .at + sealedHead)
       → Ongoing t e x b d used w
   at-open : b .question ≡ question.Opening (askFor e x) (x .num) → w ≡ anOpening e (x .num) (b .at) (x .header) (x .cipher) → Ongoing t e x b d used w
 
@@ -320,7 +319,7 @@ module _ (masks : Masks) (sealed : ℕ → List Sealed) (shaped : Shaped masks s
   -- ---- a read
 
   abbrev asksMask : ℕ → Sealed → Out
-  asksMask e x = readsOut k (told (questioned b (question.Mask (askFor e x))) (says.Mask e (b .at + 5))) d
+  asksMask e x = readsOut k (told (questioned b (question.Mask (askFor e x))) (says.Mask e (b .at + sealedHead))) d
 
   -- the cut that comes to a record that is due asks for its mask
   due-asks : b .question ≡ question.Nothing → (e : ℕ) (x : Sealed) → Due (reached y sealed) e x
@@ -400,24 +399,24 @@ module _ (masks : Masks) (sealed : ℕ → List Sealed) (shaped : Shaped masks s
           inl (ap (λ (p : Step × List ℕ). fateOf (p .0 .reading)) (mask-opening y i m (askFor e x) (x .num) q))
       go (at-mask q same z w) =
           is-found k e _ refl (held-mask k b in-range (askFor e x) q .installed) λ h f.
-          let fair′ : FairMask masks (aMask e (b .at + 5)) d (getD (restOf y) 0 0) m =
+          let fair′ : FairMask masks (aMask e (b .at + sealedHead)) d (getD (restOf y) 0 0) m =
           subst (λ v. FairMask masks v d (getD (restOf y) 0 0) m) w fair in
-          let sample : masks e (part (b .at + 5) 16 d) ≡ masks e (take 16 (x .cipher)) =
+          let sample : masks e (part (b .at + sealedHead) 16 d) ≡ masks e (take 16 (x .cipher)) =
           ap (masks e) (sample-is masks e x shape k b d in-range (i .whole) same) in
           let flag : getD (restOf y) 0 0 / 8 % 2 ≡ 1 =
           ap (λ (l : List ℕ). getD l 0 0 / 8 % 2) (rest-masked y i (askFor e x) q) ∙ flag-set masks e x shape k b d in-range (i .whole) same in
           let one = fair′ .0 ∙ ap (λ (l : List ℕ). getD l 0 0) sample in
           let two = fair′ .1 flag ∙ ap (λ (l : List ℕ). getD l 1 0) sample in
-          let agrees : Agrees width (entryAt k h .replay) (a .used e) =
-          subst (λ l. Agrees width (entryAt k h .replay) l) (ap (y .used) (found-epoch (k .entries) e (k .count) h f) ∙ z)
+          let agrees : Agrees (entryAt k h .replay) (a .used e) =
+          subst (λ l. Agrees (entryAt k h .replay) l) (ap (y .used) (found-epoch (k .entries) e (k .count) h f) ∙ z)
           (i .table .agrees h (found-keyed (k .entries) e (k .count) h f)) in
           inr
           (subst (λ p. Opening′ a e x (maskedOut k p))
           (sym (mask-is masks e x shape k b d in-range (i .whole) same m one two h q f (a .used e) agrees (due .not-used) (due .not-old) (due .in-reach)))
           (opened h (header-is masks e x shape k b d in-range (i .whole) same m one two) (cipher-is masks e x shape k b d in-range (i .whole) same m one two)))
         where
-          opened : (h : ℕ) → part (b .at) 5 (unmasked d (b .at) true m) ≡ x .header
-              → part (b .at + 5) (length (x .cipher)) (unmasked d (b .at) true m) ≡ x .cipher
+          opened : (h : ℕ) → part (b .at) sealedHead (unmasked d (b .at) true m) ≡ x .header
+              → part (b .at + sealedHead) (length (x .cipher)) (unmasked d (b .at) true m) ≡ x .cipher
               → Opening′ a e x (maskedOut k (openingAsked (entryAt k h) b (askFor e x) (x .num), unmasked d (b .at) true m))
           opened h p r = unfold openingAsked in (
             refl,
@@ -425,7 +424,7 @@ module _ (masks : Masks) (sealed : ℕ → List Sealed) (shaped : Shaped masks s
               count = u .count;
               mem = u .mem;
               ongoing = at-open refl
-                  (ap (λ (l : List ℕ). anOpening e (x .num) (b .at) l (part (b .at + 5) (length (x .cipher)) (unmasked d (b .at) true m))) p
+                  (ap (λ (l : List ℕ). anOpening e (x .num) (b .at) l (part (b .at + sealedHead) (length (x .cipher)) (unmasked d (b .at) true m))) p
                   ∙ ap (anOpening e (x .num) (b .at) (x .header)) r);
             },
           )
@@ -451,20 +450,20 @@ module _ (masks : Masks) (sealed : ℕ → List Sealed) (shaped : Shaped masks s
 
   -- a yes of another length
   open-wrong : (a : Ask) (n len h : ℕ) → b .question ≡ question.Opening a n → find (k .entries) (a .epoch) (k .count) ≡ found.At h
-      → (len + 16 ≡ a .length → ⊥) → openedStep k b (reply.Yes len) d ≡ still k (told b says.Reply)
+      → (len + tagSize ≡ a .length → ⊥) → openedStep k b (reply.Yes len) d ≡ still k (told b says.Reply)
   unfolding openedAt
   open-wrong a n len h q f ne =
       opened-is y i a n q (subst (λ v. UnderWay v (b .at) (y .account .waits) (y .trial)) q (i .under)) (reply.Yes len) h f
-      ∙ if-false _ _ (ne-eqb len (a .length - 16) (λ z. ne (omega (arith, held-open k b in-range a n q .1 .tag))))
+      ∙ if-false _ _ (ne-eqb len (a .length - tagSize) (λ z. ne (omega (arith, held-open k b in-range a n q .1 .tag))))
 
   -- a yes of the right length, over a plaintext that was sealed
   open-right : (a : Ask) (n len h : ℕ) → b .question ≡ question.Opening a n → find (k .entries) (a .epoch) (k .count) ≡ found.At h
-      → len + 16 ≡ a .length → (c : List ℕ) (t : ℕ) → part (b .at + a .«header_len») len d ≡ c ++ (t ∷ []) → (t ≡ 0 → ⊥)
+      → len + tagSize ≡ a .length → (c : List ℕ) (t : ℕ) → part (b .at + a .«header_len») len d ≡ c ++ (t ∷ []) → (t ≡ 0 → ⊥)
       → openedStep k b (reply.Yes len) d ≡ still (marked k h n) (typed b a n (inner.Found t (length c)))
   unfolding openedAt
   open-right a n len h q f right c t plain typed-byte =
       opened-is y i a n q (subst (λ v. UnderWay v (b .at) (y .account .waits) (y .trial)) q (i .under)) (reply.Yes len) h f
-      ∙ if-true _ _ (eq-eqb len (a .length - 16) (omega arith))
+      ∙ if-true _ _ (eq-eqb len (a .length - tagSize) (omega arith))
       ∙ ap (λ (v : Inner). still (marked k h n) (typed b a n v)) (ap innerOf plain ∙ inner-type c t typed-byte)
 
   -- the content that is then shown
@@ -510,9 +509,9 @@ module _ (masks : Masks) (sealed : ℕ → List Sealed) (shaped : Shaped masks s
         subst (λ x. Kept (opensTo x)) (sym (opened-is y i a n q z reply.No h f)) (unfold openedAt in j)
     open-by (reply.Yes len) a n q z fair h f =
         let u = z .2 in
-        test-cases (eqb (len + 16) (a .length))
+        test-cases (eqb (len + tagSize) (a .length))
         (λ t.
-        let right : len + 16 ≡ a .length = eqb-true _ _ t in
+        let right : len + tagSize ≡ a .length = eqb-true _ _ t in
         let fair′ : FairOpen sealed (anOpening (a .epoch) n (b .at) (u .0) (u .1)) d (reply.Yes len) =
         subst (λ w. FairOpen sealed w d (reply.Yes len)) (u .2) fair in
         let g = fair′ (right ∙ sym (u .4)) (part (b .at + length (u .0)) len d) .0 refl in
@@ -554,7 +553,7 @@ module _ (masks : Masks) (sealed : ℕ → List Sealed) (shaped : Shaped masks s
       inside : List ℕ
       inside = x .content ++ (x .type ∷ [])
 
-      five : length (x .header) ≡ 5
+      five : length (x .header) ≡ sealedHead
       five = ap length (shaped e x (u .mem) .header) ∙ (unfold unifiedHeader in refl)
 
       by : (p : Opening) → b .question ≡ question.Opening (askFor e x) (x .num)
@@ -563,16 +562,16 @@ module _ (masks : Masks) (sealed : ℕ → List Sealed) (shaped : Shaped masks s
           some≢none (sym (fair tt inside .1 (x, u .mem, record { number = refl; header = refl; cipher = refl; plaintext = refl })))
       by (reply.Yes len) q fair =
           is-found k e _ refl (held-open k b in-range (askFor e x) (x .num) q .1 .installed) λ h f.
-          test-cases (eqb (len + 16) (length (x .cipher)))
+          test-cases (eqb (len + tagSize) (length (x .cipher)))
           (λ t.
-          let right : len + 16 ≡ length (x .cipher) = eqb-true _ _ t in
-          let plain : part (b .at + 5) len d ≡ inside =
+          let right : len + tagSize ≡ length (x .cipher) = eqb-true _ _ t in
+          let plain : part (b .at + sealedHead) len d ≡ inside =
           ap (λ (n : ℕ). part (b .at + n) len d) (sym five)
           ∙ some-inj (fair right inside .1 (x, u .mem, record { number = refl; header = refl; cipher = refl; plaintext = refl })) in
           inr
           (subst (λ m. SaysOpened (opensTo m .reading) (shownBy (opensTo m .reading) d) e (asHanded x))
           (sym (open-right (askFor e x) (x .num) len h q f right (x .content) (x .type) plain (shaped e x (u .mem) .typed)))
-          (typed-opened (marked k h (x .num)) (askFor e x) (x .num) (x .content) (x .type) (u .count) (content-is (b .at + 5) len (x .content) (x .type) plain))))
+          (typed-opened (marked k h (x .num)) (askFor e x) (x .num) (x .content) (x .type) (u .count) (content-is (b .at + sealedHead) len (x .content) (x .type) plain))))
           (λ t. inl (ap (λ (m : Marked). fateOf (m .step .reading)) (open-wrong (askFor e x) (x .num) len h q f (eqb-false _ _ t))))
 
       go : Ongoing a e x b d (y .used) (y .account .waits) → Ends e x (openOut (y .state) p d)

@@ -29,7 +29,7 @@ use Rattle.sealing.specs.Sealing.{maskedHeader}
 use Rattle.sequence.specs.Sequence.{own, below, above, nearest}
 use Rattle.window.specs.Used.{expected}
 use Rattle.window.specs.Window.{isFresh, marking}
-use Rattle.history.specs.Account.{upd, keyOwed, keys, resolvesTo, sealedSize, plainSize, recordSize, goodPlain}
+use Rattle.history.specs.Account.{tagSize, upd, keyOwed, keys, resolvesTo, sealedSize, plainSize, recordSize, goodPlain}
 use Rattle.history.specs.Claim.{Masks, Opens, Due, PlainDue, UnopenedDue}
 use Rattle.history.specs.Half.{Shape, Event, here·, far·, Half, fresh-half, run, Honest}
 use Rattle.history.specs.Lists.{some-inj, mem-by, some≢none}
@@ -65,8 +65,8 @@ sealedAs e n c = record {
   type = 23;
   content = c ∷ [];
   header = unifiedHeader e n 18;
-  cipher = c ∷ 23 ∷ replicate 16 7;
-  wire = maskedHeader e n 18 (1 ∷ 2 ∷ []) ++ (c ∷ 23 ∷ replicate 16 7);
+  cipher = c ∷ 23 ∷ replicate tagSize 7;
+  wire = maskedHeader e n 18 (1 ∷ 2 ∷ []) ++ (c ∷ 23 ∷ replicate tagSize 7);
 }
 
 -- one record in a datagram of its own, read, unmasked and opened

@@ -6,7 +6,7 @@ use mathlib.Core.List.{List, [], _∷_, _++_}
 use mathlib.Core.Path.{_≡_}
 use Rattle.record.specs.Record.{unifiedHeader}
 use Rattle.sealing.specs.Sealing.{maskedHeader}
-use Rattle.history.specs.Account.{upd}
+use Rattle.history.specs.Account.{sealedTail, upd}
 use Rattle.history.specs.Claim.{Masks, FairCall, Received}
 use Rattle.history.specs.Receiver.{Sealed, Inbound, newInbound, Call, does}
 
@@ -14,7 +14,7 @@ use Rattle.history.specs.Receiver.{Sealed, Inbound, newInbound, Call, do
 -- and the wire with the number masked under the sender's mask
 pub record Shape (masks : Masks) (e : ℕ) (r : Sealed) : Type 0 where
   pub typed : r .type ≡ 0 → ⊥
-  pub size : length (r .cipher) ≡ length (r .content) + 17
+  pub size : length (r .cipher) ≡ length (r .content) + sealedTail
   pub short : length (r .cipher) < 65536
   pub number : r .num ≤ 0xFFFF_FFFF_FFFF
   pub header : r .header ≡ unifiedHeader e (r .num) (length (r .cipher))

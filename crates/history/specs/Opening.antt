@@ -23,7 +23,7 @@ use Rattle.recv_keys.specs.Laws.{found-keyed}
 use Rattle.recv_keys.specs.declared.Found.the-variants as found
 use Rattle.recv_keys.specs.declared.RecvKeys.{RecvKeys}
 use Rattle.window.specs.Used.{fresh-unused}
-use Rattle.window.specs.Window.{width, isFresh}
+use Rattle.window.specs.Window.{isFresh}
 use Rattle.history.specs.Account.{upd}
 use Rattle.history.specs.Claim.{Real, Shows, RightNonce}
 use Rattle.history.specs.Reads.{outBy}
@@ -98,7 +98,7 @@ module _ (k : RecvKeys) (used ivs : ℕ → List ℕ) (tab : Table k used ivs) (
       subst (λ (x : ℕ). Table (marked k i n) (upd used x (n ∷ used x)) ivs) (found-epoch (k .entries) e (k .count) i f)
       (marked-table k used ivs tab i n long count within)
 
-  pub yes-new : isFresh width (entryAt k i .replay) n ≡ true → Mem n (used e) → ⊥
+  pub yes-new : isFresh (entryAt k i .replay) n ≡ true → Mem n (used e) → ⊥
   yes-new fresh m =
-      fresh-unused width (omega arith) (tab .agrees i within) n fresh
+      fresh-unused (tab .agrees i within) n fresh
       (subst (λ (x : ℕ). Mem n (used x)) (sym (found-epoch (k .entries) e (k .count) i f)) m)

@@ -33,7 +33,7 @@ use Rattle.opening_reply.specs.declared.Opening.{Opening}
 use Rattle.receiving.specs.Calls.Call.{reading, masking as answering, opening}
 use Rattle.receiving.specs.Laws.{Made, after-made, made-sound}
 use Rattle.receiving.specs.Receiving.{stepped}
-use Rattle.record.specs.Record.{parsed}
+use Rattle.record.specs.Record.{tagSize, parsed}
 use Rattle.records.specs.Leads.{read-asks}
 use Rattle.records.specs.Records.{stepOf, openingAsked, askedAgain, asking, readStep}
 use Rattle.recv_keys.specs.Keeps.{found-epoch}
@@ -43,7 +43,7 @@ use Rattle.recv_keys.specs.declared.Found.the-variants as found
 use Rattle.recv_keys.specs.declared.Found.{Found}
 use Rattle.recv_keys.specs.declared.RecvEpochEntry.{RecvEpochEntry}
 use Rattle.recv_keys.specs.declared.RecvKeys.{RecvKeys}
-use Rattle.window.specs.Window.{width, isFresh}
+use Rattle.window.specs.Window.{isFresh}
 use Rattle.history.specs.Account.{upd, Shown, nothing, aMask, anOpening, Account, resolvesTo, recordSize, goodPlain}
 use Rattle.history.specs.Claim.{Real, Shows, Proper, RightNonce, NumberByte, Spares}
 use Rattle.history.specs.Cut.{cut, nonce-own}
@@ -564,11 +564,11 @@ module _ (y : Receiver) (i : Sound y) where
       same-place : fresh-one .0 ≡ j
       same-place = let g = fresh-one .1 in let e : found.At (fresh-one .0) ≡ found.At j = sym g ∙ f in cc
 
-      yes-sound : openedStep k b (reply.Yes len) d ≡ m → len + 16 ≡ a .length → Sound (openBy y (reply.Yes len) (openOut (y .state) (reply.Yes len) d))
+      yes-sound : openedStep k b (reply.Yes len) d ≡ m → len + tagSize ≡ a .length → Sound (openBy y (reply.Yes len) (openOut (y .state) (reply.Yes len) d))
       yes-sound e right =
           let long = i .made .long in
           let count = i .made .ready .keys .count in
-          let fresh = subst (λ (x : ℕ). isFresh width (entryAt k x .replay) n ≡ true) same-place (fresh-one .2) in
+          let fresh = subst (λ (x : ℕ). isFresh (entryAt k x .replay) n ≡ true) same-place (fresh-one .2) in
           let new = yes-new k (y .used) (y .account .ivs) (i .table) (a .epoch) j n long count f fresh in
           subst (λ x. Sound (openBy y (reply.Yes len) (opensTo x))) (sym e)
           (subst (λ v. Sound (after y o v used-by (questionIn (o .reading) (o .datagram)) (anOpenReply (reply.Yes len)))) (sym (z .1))
@@ -588,10 +588,10 @@ module _ (y : Receiver) (i : Sound y) where
       unfolding openedAt
       open-yes =
           let e = opened-is (reply.Yes len) j f in
-          test-cases (eqb len (a .length - 16))
-          (λ u. let r : len ≡ a .length - 16 = eqb-true _ _ u in yes-sound (e ∙ if-true _ _ u) (omega (arith, held .tag)))
+          test-cases (eqb len (a .length - tagSize))
+          (λ u. let r : len ≡ a .length - tagSize = eqb-true _ _ u in yes-sound (e ∙ if-true _ _ u) (omega (arith, held .tag)))
           (λ u.
-          let ne = eqb-false len (a .length - 16) u in
+          let ne = eqb-false len (a .length - tagSize) u in
           open-down (reply.Yes len) (e ∙ if-false _ _ u)
           (subst (λ w. Proper (anOpenReply (reply.Yes len)) w says.Reply) (sym waits-is)
           (λ r. absurd (ne (omega (arith, z .2 .4))), λ w. refl)))

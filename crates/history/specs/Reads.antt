@@ -38,8 +38,7 @@ use Rattle.recv_keys.specs.Laws.{found-keyed}
 use Rattle.recv_keys.specs.declared.Found.the-variants as found
 use Rattle.recv_keys.specs.declared.Found.{Found}
 use Rattle.recv_keys.specs.declared.RecvKeys.{RecvKeys}
-use Rattle.window.specs.Window.{width, isFresh}
-use Rattle.history.specs.Account.{Shown, nothing, aMask, anOpening, Account, headSize, saidSize, recordSize, goodPlain}
+use Rattle.history.specs.Account.{plainHead, Shown, nothing, aMask, anOpening, Account, headSize, saidSize, recordSize, goodPlain}
 use Rattle.history.specs.Claim.{Real, SaysPlaintext, SaysUnopened, Shows, RightNonce}
 use Rattle.history.specs.Cut.{Cuts, head-same, plain-parsed, sealed-parsed, nonce-own}
 use Rattle.history.specs.Lists.{splice-behind, splice-other}
@@ -208,13 +207,13 @@ module _ (k : RecvKeys) (used ivs : ℕ → List ℕ) (tab : Table k used ivs) (
   shown-there rest q n m l e = sym (part-behind (b .at) n l d₀) ∙ ap (λ (x : List ℕ). part n l x) (sym q) ∙ ap (λ (x : ℕ). part x l rest) e
 
   plain-shows : (rest : List ℕ) → rest ≡ drop (b .at) d₀ → (p : Plaintext) → p ≡ plaintextOf rest
-      → Shows (says.Plaintext (p .«content_type») (p .«sequence_number») (b .at + 13) (p .length)) rest (part (b .at + 13) (p .length) d₀)
+      → Shows (says.Plaintext (p .«content_type») (p .«sequence_number») (b .at + plainHead) (p .length)) rest (part (b .at + plainHead) (p .length) d₀)
   plain-shows rest q p e =
       let len : p .length ≡ beAt 2 rest 11 = ap (λ (z : Plaintext). z .length) e in (
         ap (λ (z : Plaintext). z .«content_type») e,
         ap (λ (z : Plaintext). z .«sequence_number») e,
         len,
-        shown-there rest q 13 13 (p .length) refl ∙ ap (λ (l : ℕ). part 13 l rest) len,
+        shown-there rest q plainHead plainHead (p .length) refl ∙ ap (λ (l : ℕ). part plainHead l rest) len,
       )
 
   pub read-shows : (rest : List ℕ) → rest ≡ drop (b .at) d₀ → (p : Parsed) → Cuts rest (recordSize rest) p → Told rest (stepOf p k b)
@@ -240,7 +239,7 @@ module _ (k : RecvKeys) (used ivs : ℕ → List ℕ) (tab : Table k used ivs) (
   unfolding counted
   counted-says next x low = if-false _ _ (lt-leb 16 (b .readings) (omega arith))
 
-  pub plain-says : (rest : List ℕ) → goodPlain rest ≡ true → 13 + beAt 2 rest 11 ≤ length rest → b .readings ≤ 15
+  pub plain-says : (rest : List ℕ) → goodPlain rest ≡ true → plainHead + beAt 2 rest 11 ≤ length rest → b .readings ≤ 15
       → SaysPlaintext (readsOut k (stepOf (parsed rest) k b) d₀ .reading)
   unfolding stepOf
   plain-says rest good whole low =

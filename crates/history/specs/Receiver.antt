@@ -20,7 +20,7 @@ use Rattle.recv_keys.specs.declared.RecvKeys.{RecvKeys}
 use Rattle.receiving.specs.Receiving.{answerNumber, freshOf, keyOf, removeOf, encryptOf, releaseOf, beginOf, readOf, maskOf, openedOf}
 use Rattle.receiving.specs.declared.Read.{Read}
 use Rattle.receiving.specs.declared.Receiving.{Receiving}
-use Rattle.window.specs.Window.{width, isFresh}
+use Rattle.window.specs.Window.{isFresh}
 use Rattle.history.specs.Account.{upd, Shown, nothing, aMask, anOpening, Account, newAccount, isIn, without, keyOwed, keys, resolvesTo, recordSize, goodPlain}
 
 -- ---- what the history holds
@@ -476,7 +476,7 @@ useIn y p = useOf (y .account .waits) p (fateOf (openedOf (y .state) p (y .datag
 -- the verdict on a number in an epoch: none where it is not keyed, else whether it is fresh
 abbrev pub verdictBy : Found → RecvKeys → ℕ → Option Bool
 verdictBy found.Nothing k n = none
-verdictBy (found.At i) k n = some (isFresh width (entryAt k i .replay) n)
+verdictBy (found.At i) k n = some (isFresh (entryAt k i .replay) n)
 
 unfoldable pub verdictOf : RecvKeys → ℕ → ℕ → Option Bool
 verdictOf k e n = verdictBy (find (k .entries) e (k .count)) k n

@@ -21,7 +21,7 @@ use Rattle.receiving.specs.declared.Receiving.{Receiving}
 use Rattle.recv_keys.specs.Keys.{entryAt, find}
 use Rattle.recv_keys.specs.declared.Found.the-variants as found
 use Rattle.recv_keys.specs.declared.RecvKeys.{RecvKeys}
-use Rattle.window.specs.Window.{width, isFresh}
+use Rattle.window.specs.Window.{isFresh}
 use Rattle.history.specs.Account.{upd, Shown, nothing, aMask, anOpening, Account}
 use Rattle.history.specs.Claim.{Once, Real, PlainDue, UnopenedDue, SaysPlaintext, SaysUnopened, Shows, Proper, RightNonce, Spares}
 use Rattle.history.specs.Lists.{upd-same, upd-other, upd-by, some-inj, some≢none, mem-by, drops-on}
@@ -83,7 +83,7 @@ abbrev pub FreshAsked : RecvKeys → Question → Type 0
 FreshAsked k question.Nothing = Unit {0}
 FreshAsked k (question.Mask a) = Unit {0}
 FreshAsked k (question.Opening a n) =
-    (i : ℕ) × (find (k .entries) (a .epoch) (k .count) ≡ found.At i) × (isFresh width (entryAt k i .replay) n ≡ true)
+    (i : ℕ) × (find (k .entries) (a .epoch) (k .count) ≡ found.At i) × (isFresh (entryAt k i .replay) n ≡ true)
 
 -- what was handed over has a number that was used, and no two have one
 pub record Hands (used : ℕ → List ℕ) (handed : ℕ → List Handed) : Type 0 where

@@ -29,7 +29,7 @@ use Rattle.recv_keys.specs.declared.Found.{Found}
 use Rattle.recv_keys.specs.declared.RecvEpochEntry.{RecvEpochEntry}
 use Rattle.recv_keys.specs.declared.RecvKeys.{RecvKeys}
 use Rattle.window.specs.Used.{Agrees, agrees-new, agrees-marked}
-use Rattle.window.specs.Window.{width, unmarked}
+use Rattle.window.specs.Window.{unmarked}
 use Rattle.history.specs.Account.{upd, Account, isIn, without, applications, fifth, lastWith, orTwo, resolvesTo}
 use Rattle.history.specs.Lists.{upd-same, upd-other, upd-by, empty-list, mem-by}
 
@@ -148,7 +148,7 @@ module _ (k : RecvKeys) (bits : ℕ) where
 
 pub record Table (k : RecvKeys) (used ivs : ℕ → List ℕ) : Type 0 where
   -- each window holds the numbers used, each entry the IV that its epoch was keyed with
-  pub agrees : (i : ℕ) → i < k .count → Agrees width (entryAt k i .replay) (used (entryAt k i .epoch))
+  pub agrees : (i : ℕ) → i < k .count → Agrees (entryAt k i .replay) (used (entryAt k i .epoch))
   pub iv : (i : ℕ) → i < k .count → entryAt k i .iv ≡ ivs (entryAt k i .epoch)
   -- the epochs rise, from 2 to the highest ever keyed; no number was used above that
   pub rising : (i j : ℕ) → i < j → j < k .count → entryAt k i .epoch < entryAt k j .epoch
@@ -211,8 +211,8 @@ module _ (k : RecvKeys) (used ivs : ℕ → List ℕ) (t : Table k used ivs) whe
     pub installed-table : k .highest < e → 2 ≤ e → Table (installed k e iv) used (upd ivs e iv)
     unfolding installed
     installed-table new low = record {
-      agrees = at-place (λ i x. Agrees width (x .replay) (used (x .epoch))) (t .agrees)
-          (subst (λ (l : List ℕ). Agrees width unmarked l) (sym unused-yet) (agrees-new width (omega arith)));
+      agrees = at-place (λ i x. Agrees (x .replay) (used (x .epoch))) (t .agrees)
+          (subst (λ (l : List ℕ). Agrees unmarked l) (sym unused-yet) (agrees-new));
       iv = at-place (λ i x. x .iv ≡ upd ivs e iv (x .epoch))
           (λ i h. t .iv i h ∙ sym (upd-other ivs e iv (entryAt k i .epoch) (λ q. omega (arith, t .below i h)))) (sym (upd-same ivs e iv));
       rising = λ i j up h.
@@ -286,7 +286,7 @@ module _ (k : RecvKeys) (used ivs : ℕ → List ℕ) (t : Table k used ivs) (i 
   pub left-table : Table (left k i) used ivs
   unfolding left
   left-table = record {
-    agrees = λ j h. let w = stood j h in subst (λ (x : RecvEpochEntry). Agrees width (x .replay) (used (x .epoch))) (sym (w .1)) (t .agrees (was i j) (w .0));
+    agrees = λ j h. let w = stood j h in subst (λ (x : RecvEpochEntry). Agrees (x .replay) (used (x .epoch))) (sym (w .1)) (t .agrees (was i j) (w .0));
     iv = λ j h. let w = stood j h in subst (λ (x : RecvEpochEntry). x .iv ≡ ivs (x .epoch)) (sym (w .1)) (t .iv (was i j) (w .0));
     rising = λ j m up h.
         let v = stood j (omega arith) in
@@ -321,13 +321,13 @@ module _ (k : RecvKeys) (used ivs : ℕ → List ℕ) (t : Table k used ivs) (i 
     agrees = λ j h.
         ⊎-elim
         (λ (q : j ≡ i).
-        subst (λ (m : ℕ). Agrees width (entryAt (marked k i n) m .replay) (more (entryAt (marked k i n) m .epoch))) (sym q)
-        (subst (λ (x : RecvEpochEntry). Agrees width (x .replay) (more (x .epoch))) (sym (marked-here k i n long count within))
-        (subst (λ (l : List ℕ). Agrees width (markedEntry n (entryAt k i) .replay) l) (sym (upd-same used (entryAt k i .epoch) (n ∷ used (entryAt k i .epoch))))
-        (agrees-marked width (omega arith) (t .agrees i within) n))))
+        subst (λ (m : ℕ). Agrees (entryAt (marked k i n) m .replay) (more (entryAt (marked k i n) m .epoch))) (sym q)
+        (subst (λ (x : RecvEpochEntry). Agrees (x .replay) (more (x .epoch))) (sym (marked-here k i n long count within))
+        (subst (λ (l : List ℕ). Agrees (markedEntry n (entryAt k i) .replay) l) (sym (upd-same used (entryAt k i .epoch) (n ∷ used (entryAt k i .epoch))))
+        (agrees-marked (t .agrees i within) n))))
         (λ q.
-        subst (λ (x : RecvEpochEntry). Agrees width (x .replay) (more (x .epoch))) (sym (marked-other k i n long count within j q))
-        (subst (λ (l : List ℕ). Agrees width (entryAt k j .replay) l)
+        subst (λ (x : RecvEpochEntry). Agrees (x .replay) (more (x .epoch))) (sym (marked-other k i n long count within j q))
+        (subst (λ (l : List ℕ). Agrees (entryAt k j .replay) l)
         (sym (upd-other used (entryAt k i .epoch) (n ∷ used (entryAt k i .epoch)) (entryAt k j .epoch) (λ z. q (one-place j h z)))) (t .agrees j h)))
         (eq-or-ne j i);
     iv = λ j h. other-field (λ (x : RecvEpochEntry). x .iv ≡ ivs (x .epoch)) (λ x e. e) j (t .iv j h);

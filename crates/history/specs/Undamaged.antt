@@ -20,7 +20,7 @@ use Rattle.datagram.specs.declared.Question.the-variants as question
 use Rattle.datagram.specs.declared.Reading.the-variants as says
 use Rattle.mask_reply.specs.Mask.{maskBytes, unmasked, maskStep}
 use Rattle.mask_reply.specs.Undamaged.{header-unmasked, mask-opens}
-use Rattle.record.specs.Record.{unifiedHeader}
+use Rattle.record.specs.Record.{sealedHead, unifiedHeader}
 use Rattle.records.specs.Records.{openingAsked, readStep}
 use Rattle.records.specs.Undamaged.{sealed as laidSealed, sealed-asks}
 use Rattle.recv_keys.specs.Keys.{entryAt, find, resolve}
@@ -29,8 +29,7 @@ use Rattle.recv_keys.specs.declared.Found.{Found}
 use Rattle.recv_keys.specs.declared.RecvKeys.{RecvKeys}
 use Rattle.sealing.specs.Sealing.{maskedHeader}
 use Rattle.window.specs.Used.{above, Agrees, unused-fresh, expects}
-use Rattle.window.specs.Window.{width, isFresh}
-use Rattle.history.specs.Claim.{Masks}
+use Rattle.history.specs.Claim.{Masks, windowMarks, reachOf}
 use Rattle.history.specs.Half.{Shape}
 use Rattle.history.specs.Lists.{some-inj, some≢none}
 use Rattle.history.specs.Receiver.{Sealed}
@@ -54,7 +53,7 @@ part-rest d a b at n len e =
 
 -- what a question about the record asks
 abbrev pub askFor : ℕ → Sealed → Ask
-askFor e x = record { epoch = e; «s_flag» = true; «header_len» = 5; length = length (x .cipher) }
+askFor e x = record { epoch = e; «s_flag» = true; «header_len» = sealedHead; length = length (x .cipher) }
 
 module _ (masks : Masks) (e : ℕ) (x : Sealed) (shape : Shape masks e x) where
   abbrev mask : List ℕ
@@ -78,21 +77,21 @@ module _ (masks : Masks) (e : ℕ) (x : Sealed) (shape : Shape masks e x) where
       ∙ ap (λ (l : ℕ). ((0x2C + e % 4) ∷ high ∷ l ∷ be 2 (length (x .cipher))) ++ x .cipher)
       (xor-comm (getD mask 1 0) (x .num / 256 ^ 0 % 256) ∙ ap (λ (n : ℕ). bitXor (n % 256) (getD mask 1 0)) (div-one (x .num)))
 
-  pub wire-long : length (x .wire) ≡ 5 + length (x .cipher)
+  pub wire-long : length (x .wire) ≡ sealedHead + length (x .cipher)
   wire-long = ap length wire-is ∙ omega arith
 
   module _ (d : List ℕ) (at : ℕ) (same : part at (length (x .wire)) d ≡ x .wire) where
     same′ : part at (length (head ++ x .cipher)) d ≡ head ++ x .cipher
     same′ = subst (λ (w : List ℕ). part at (length w) d ≡ w) wire-is same
 
-    pub lies-in : at + 5 + length (x .cipher) ≤ length d
+    pub lies-in : at + sealedHead + length (x .cipher) ≤ length d
     lies-in = omega (arith, part-fits d (head ++ x .cipher) at same′ (omega arith))
 
-    laid : part at 5 d ≡ head
-    laid = sym (part-first at 5 (length (head ++ x .cipher)) d (omega arith)) ∙ ap (take 5) same′
+    laid : part at sealedHead d ≡ head
+    laid = sym (part-first at sealedHead (length (head ++ x .cipher)) d (omega arith)) ∙ ap (take sealedHead) same′
 
-    pub cipher-lies : part (at + 5) (length (x .cipher)) d ≡ x .cipher
-    cipher-lies = part-rest d head (x .cipher) at 5 refl same′
+    pub cipher-lies : part (at + sealedHead) (length (x .cipher)) d ≡ x .cipher
+    cipher-lies = part-rest d head (x .cipher) at sealedHead refl same′
 
     front : drop at d ≡ laidSealed e high low (x .cipher) ++ drop (length (head ++ x .cipher)) (drop at d)
     front = sym (take-append-drop (length (head ++ x .cipher)) (drop at d)) ∙ ap (λ (w : List ℕ). w ++ drop (length (head ++ x .cipher)) (drop at d)) same′
@@ -113,26 +112,26 @@ module _ (masks : Masks) (e : ℕ) (x : Sealed) (shape : Shape masks e x) where
     flag-set = ap (λ (f : ℕ). f / 8 % 2) (first-byte d (b .at) same) ∙ two-bytes
 
     asks-at : (f : Found) → resolve k (getD (drop (b .at) d) 0 0 % 4) ≡ f → epochAt (k .entries) f ≡ some e → b .question ≡ question.Nothing
-        → k .«peer_encryption» ≡ true → readStep k b d ≡ told (questioned b (question.Mask (askFor e x))) (says.Mask e (b .at + 5))
+        → k .«peer_encryption» ≡ true → readStep k b d ≡ told (questioned b (question.Mask (askFor e x))) (says.Mask e (b .at + sealedHead))
     asks-at found.Nothing r z q on = some≢none (sym z)
     asks-at (found.At i) r z q on =
         sealed-asks e high low (x .cipher) (drop (length (head ++ x .cipher)) (drop (b .at) d)) (shape .short) k b d i sound whole q
         (front d (b .at) same) on
         (ap (resolve k) (sym bits-are ∙ ap (λ (n : ℕ). n % 4) (sym (first-byte d (b .at) same))) ∙ r) (omega (arith, shape .size))
-        ∙ ap (λ (n : ℕ). told (questioned b (question.Mask (askFor n x))) (says.Mask n (b .at + 5))) (some-inj z)
+        ∙ ap (λ (n : ℕ). told (questioned b (question.Mask (askFor n x))) (says.Mask n (b .at + sealedHead))) (some-inj z)
 
     -- the cut that comes to it asks for its mask
     pub read-is : epochAt (k .entries) (resolve k (getD (drop (b .at) d) 0 0 % 4)) ≡ some e → b .question ≡ question.Nothing
-        → k .«peer_encryption» ≡ true → readStep k b d ≡ told (questioned b (question.Mask (askFor e x))) (says.Mask e (b .at + 5))
+        → k .«peer_encryption» ≡ true → readStep k b d ≡ told (questioned b (question.Mask (askFor e x))) (says.Mask e (b .at + sealedHead))
     read-is z q on = asks-at _ refl z q on
 
     -- the 16 bytes shown are its own
-    pub sample-is : part (b .at + 5) 16 d ≡ take 16 (x .cipher)
+    pub sample-is : part (b .at + sealedHead) 16 d ≡ take 16 (x .cipher)
     sample-is =
-        sym (part-first (b .at + 5) 16 (length (x .cipher)) d (omega (arith, shape .size))) ∙ ap (take 16) (cipher-lies d (b .at) same)
+        sym (part-first (b .at + sealedHead) 16 (length (x .cipher)) d (omega (arith, shape .size))) ∙ ap (take 16) (cipher-lies d (b .at) same)
 
     module _ (m : List ℕ) (one : getD m 0 0 ≡ getD mask 0 0) (two : getD m 1 0 ≡ getD mask 1 0) where
-      laid-so : part (b .at) 5 d
+      laid-so : part (b .at) sealedHead d
           ≡ (0x2C + e % 4) ∷ bitXor (x .num / 256 % 256) (getD m 0 0) ∷ bitXor (x .num % 256) (getD m 1 0) ∷ be 2 (length (x .cipher))
       laid-so =
           laid d (b .at) same
@@ -140,27 +139,27 @@ module _ (masks : Masks) (e : ℕ) (x : Sealed) (shape : Shape masks e x) where
           ∙ ap (λ (v : ℕ). (0x2C + e % 4) ∷ bitXor (x .num / 256 % 256) (getD m 0 0) ∷ bitXor (x .num % 256) v ∷ be 2 (length (x .cipher))) (sym two)
 
       -- the header shown with the opening is the one it was sealed with, and so is the protected part
-      pub header-is : part (b .at) 5 (unmasked d (b .at) true m) ≡ x .header
+      pub header-is : part (b .at) sealedHead (unmasked d (b .at) true m) ≡ x .header
       header-is =
           header-unmasked d m (b .at) e (x .num) (length (x .cipher)) (omega (arith, lies-in d (b .at) same)) laid-so ∙ sym (shape .header)
 
-      pub cipher-is : part (b .at + 5) (length (x .cipher)) (unmasked d (b .at) true m) ≡ x .cipher
+      pub cipher-is : part (b .at + sealedHead) (length (x .cipher)) (unmasked d (b .at) true m) ≡ x .cipher
       unfolding unmasked
       cipher-is =
-          splice-after (b .at + 1) (xors d (b .at + 1) (maskBytes true m)) d (omega (arith, lies-in d (b .at) same)) (b .at + 5) (length (x .cipher)) (omega arith)
+          splice-after (b .at + 1) (xors d (b .at + 1) (maskBytes true m)) d (omega (arith, lies-in d (b .at) same)) (b .at + sealedHead) (length (x .cipher)) (omega arith)
           ∙ cipher-lies d (b .at) same
 
-      number-byte : (i : ℕ) → i < 5
+      number-byte : (i : ℕ) → i < sealedHead
           → getD d (b .at + i) 0
           ≡ getD ((0x2C + e % 4) ∷ bitXor (x .num / 256 % 256) (getD m 0 0) ∷ bitXor (x .num % 256) (getD m 1 0) ∷ be 2 (length (x .cipher))) i 0
-      number-byte i h = sym (part-at (b .at) 5 d i h) ∙ ap (λ (l : List ℕ). getD l i 0) laid-so
+      number-byte i h = sym (part-at (b .at) sealedHead d i h) ∙ ap (λ (l : List ℕ). getD l i 0) laid-so
 
       -- the sender's mask brings its number back, and its opening is asked
       pub mask-is : (i : ℕ) → b .question ≡ question.Mask (askFor e x) → find (k .entries) e (k .count) ≡ found.At i
-          → (used : List ℕ) → Agrees width (entryAt k i .replay) used → (Mem (x .num) used → ⊥) → above used ≤ x .num + 64
-          → x .num < above used + 32768
+          → (used : List ℕ) → Agrees (entryAt k i .replay) used → (Mem (x .num) used → ⊥) → above used ≤ x .num + windowMarks
+          → x .num < reachOf used
           → maskStep k b m d ≡ (openingAsked (entryAt k i) b (askFor e x) (x .num), unmasked d (b .at) true m)
       mask-is i q f used a new near reach =
-          let up = expects width (omega arith) used a in
+          let up = expects used a in
           mask-opens k b (askFor e x) i (x .num) m d sound whole q f refl (omega (arith, lies-in d (b .at) same)) (number-byte 1 (omega arith))
-          (number-byte 2 (omega arith)) (shape .number) (omega arith) (omega arith) (unused-fresh width (omega arith) a (x .num) new near)
+          (number-byte 2 (omega arith)) (shape .number) (omega arith) (omega arith) (unused-fresh a (x .num) new near)

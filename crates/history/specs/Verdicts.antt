@@ -36,7 +36,7 @@ use Rattle.recv_keys.specs.declared.Found.{Found}
 use Rattle.recv_keys.specs.declared.RecvEpochEntry.{RecvEpochEntry}
 use Rattle.recv_keys.specs.declared.RecvKeys.{RecvKeys}
 use Rattle.window.specs.Laws.{spent as marked-stale}
-use Rattle.window.specs.Window.{width, isFresh}
+use Rattle.window.specs.Window.{isFresh}
 use Rattle.history.specs.Account.{Shown}
 use Rattle.history.specs.Claim.{SameVerdicts, Moved, Turned, OtherLength}
 use Rattle.history.specs.Opening.{Settles}
@@ -89,7 +89,7 @@ module _ (k : RecvKeys) (e h n : ℕ) (long : length (k .entries) ≡ 5) (count 
   other-at : (x j : ℕ) → (x ≡ e → ⊥) → (g : Found) → find (k .entries) x (k .count) ≡ g → verdictBy g (marked k h n) j ≡ verdictBy g k j
   other-at x j ne found.Nothing q = refl
   other-at x j ne (found.At m) q =
-      ap (λ (r : RecvEpochEntry). some (isFresh width (r .replay) j))
+      ap (λ (r : RecvEpochEntry). some (isFresh (r .replay) j))
       (marked-other k h n long count within m
       (λ z.
       ne
@@ -103,8 +103,8 @@ module _ (k : RecvKeys) (e h n : ℕ) (long : length (k .entries) ≡ 5) (count 
   unfolding verdictOf
   now-stale =
       ap (λ (g : Found). verdictBy g (marked k h n) n) (find-marked e ∙ f)
-      ∙ ap (λ (r : RecvEpochEntry). some (isFresh width (r .replay) n)) (marked-here k h n long count within)
-      ∙ ap some (marked-stale width (omega arith) (entryAt k h .replay) n)
+      ∙ ap (λ (r : RecvEpochEntry). some (isFresh (r .replay) n)) (marked-here k h n long count within)
+      ∙ ap some (marked-stale (entryAt k h .replay) n)
 
 -- ---- the calls that read
 

@@ -1,6 +1,6 @@
 // The leaves as C functions over flat structs: a static library for hosts and for comparing with the Rust.
 ghost use mathlib.Core.Path.{_≡_};
-ghost use Rattle.window.specs.Window.{width, unmarked, isFresh, marking};
+ghost use Rattle.window.specs.Window.{unmarked, isFresh, marking};
 ghost use Rattle.sequence.specs.Sequence.{blockOf, nearest};
 ghost use Rattle.dtls_aead.specs.Nonce.{nonceOf};
 ghost use Rattle.record.specs.Record.{parsed, plaintextHeader, unifiedHeader};
@@ -81,7 +81,7 @@ pub extern "C" fn leaves_window_new() -> LeavesWindow
 
 #[no_mangle]
 pub extern "C" fn leaves_window_check(w: LeavesWindow, seqno: u64) -> bool
-    ensures { λ r. ⌜ r ≡ isFresh width (windowOf w) seqno ⌝ }
+    ensures { λ r. ⌜ r ≡ isFresh (windowOf w) seqno ⌝ }
 {
     let v = ReplayWindow {
         max_seq: w.max_seq,
@@ -92,7 +92,7 @@ pub extern "C" fn leaves_window_check(w: LeavesWindow, seqno: u64) -> bool
 
 #[no_mangle]
 pub extern "C" fn leaves_window_update(w: LeavesWindow, seqno: u64) -> LeavesWindow
-    ensures { λ r. ⌜ r ≡ flatWindow (marking width (windowOf w) seqno) ⌝ }
+    ensures { λ r. ⌜ r ≡ flatWindow (marking (windowOf w) seqno) ⌝ }
 {
     let v = ReplayWindow {
         max_seq: w.max_seq,

@@ -26,7 +26,7 @@ use Rattle.records.specs.Records.{readStep}
 use Rattle.receiving.specs.declared.Answer.{Answer}
 use Rattle.receiving.specs.declared.Kept.{Kept}
 use Rattle.receiving.specs.declared.Receiving.{Receiving}
-use Rattle.window.specs.Window.{width, marking}
+use Rattle.window.specs.Window.{marking}
 use Rattle.window.specs.declared.ReplayWindow.{ReplayWindow}
 use Rattle.link_words.specs.Words.{words, windowAt, entriesOf, keysOf, datagramOf, isFlat, putWindow}
 use Rattle.link_words.specs.Laws.{entry-at, mark-put}
@@ -90,11 +90,11 @@ first-read r v w d t l f h =
     )
 
 -- a window that is marked
-pub marks-at : (i n : ℕ) (w : List ℕ) (u v : ReplayWindow) → i < 5 → length w ≡ words → u ≡ getD (entriesOf w) i noEntry .replay → v ≡ marking width u n
+pub marks-at : (i n : ℕ) (w : List ℕ) (u v : ReplayWindow) → i < 5 → length w ≡ words → u ≡ getD (entriesOf w) i noEntry .replay → v ≡ marking u n
     → (keysOf (putWindow i v w) ≡ marked (keysOf w) i n) × (isFlat (putWindow i v w) ≡ isFlat w)
 marks-at i n w u v l h p q =
     subst (λ (x : ReplayWindow). (keysOf (putWindow i x w) ≡ marked (keysOf w) i n) × (isFlat (putWindow i x w) ≡ isFlat w))
-    (sym (q ∙ ap (λ (y : ReplayWindow). marking width y n) (p ∙ ap (λ (e : RecvEpochEntry). e .replay) (entry-at w i l)))) (mark-put i n w l h)
+    (sym (q ∙ ap (λ (y : ReplayWindow). marking y n) (p ∙ ap (λ (e : RecvEpochEntry). e .replay) (entry-at w i l)))) (mark-put i n w l h)
 
 -- ---- the start
 

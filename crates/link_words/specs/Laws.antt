@@ -12,7 +12,7 @@ use Rattle.datagram.specs.declared.Datagram.{Datagram}
 use Rattle.datagram.specs.declared.Question.the-variants as question
 use Rattle.datagram.specs.declared.Question.{Question}
 use Rattle.recv_keys.specs.Keys.{noEntry, marked}
-use Rattle.window.specs.Window.{width, marking}
+use Rattle.window.specs.Window.{marking}
 use Rattle.window.specs.declared.ReplayWindow.{ReplayWindow}
 use Rattle.words.specs.Fields.{firstOf, by-words, bitOf, bit-back, low-bit}
 use Rattle.link_words.specs.Words.{words, encrypted-at, released-at, ask-flag-at, size-at, cursor-at, readings-at, windowAt, entryAt, entriesOf, keysOf, questionOf, datagramOf, isFlat, putQuestion, putDatagram, putWindow}
@@ -111,8 +111,8 @@ length-window i v w = simp length-set
 
 abbrev Marks : ℕ → ℕ → List ℕ → Type 0
 Marks i n w =
-    (keysOf (putWindow i (marking width (windowAt w i) n) w) ≡ marked (keysOf w) i n)
-    × (isFlat (putWindow i (marking width (windowAt w i) n) w) ≡ isFlat w)
+    (keysOf (putWindow i (marking (windowAt w i) n) w) ≡ marked (keysOf w) i n)
+    × (isFlat (putWindow i (marking (windowAt w i) n) w) ≡ isFlat w)
 
 pub mark-put : (i n : ℕ) (w : List ℕ) → i < 5 → length w ≡ words → Marks i n w
 unfolding firstOf entriesOf marked isFlat

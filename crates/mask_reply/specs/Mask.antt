@@ -24,7 +24,7 @@ use Rattle.recv_keys.specs.declared.Found.{Found}
 use Rattle.recv_keys.specs.declared.RecvEpochEntry.{RecvEpochEntry}
 use Rattle.recv_keys.specs.declared.RecvKeys.{RecvKeys}
 use Rattle.sequence.specs.Sequence.{blockOf, nearest}
-use Rattle.window.specs.Window.{width, isFresh}
+use Rattle.window.specs.Window.{isFresh}
 use Rattle.window.specs.declared.ReplayWindow.{ReplayWindow}
 
 -- ---- the mask
@@ -46,7 +46,7 @@ rebuilt w p s = nearest (blockOf s) p (expected w)
 unfoldable pub judged : RecvEpochEntry → Datagram → Ask → ℕ → Step
 judged e b a n =
     choose (ltb 0xFFFF_FFFF_FFFF n) (passed b (endAsked b a) reason.TooHigh)
-    (choose (isFresh width (e .replay) n) (openingAsked e b a n) (passed b (endAsked b a) reason.Replayed))
+    (choose (isFresh (e .replay) n) (openingAsked e b a n) (passed b (endAsked b a) reason.Replayed))
 
 unfoldable pub maskedAt : RecvEpochEntry → Datagram → Ask → List ℕ → List ℕ → Step × List ℕ
 maskedAt e b a m d = (

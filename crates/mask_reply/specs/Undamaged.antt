@@ -19,7 +19,7 @@ use Rattle.datagram.specs.declared.Ask.{Ask}
 use Rattle.datagram.specs.declared.Datagram.{Datagram}
 use Rattle.datagram.specs.declared.Question.the-variants as question
 use Rattle.datagram.specs.declared.Step.{Step}
-use Rattle.record.specs.Record.{partialOf, unifiedHeader}
+use Rattle.record.specs.Record.{sealedHead, partialOf, unifiedHeader}
 use Rattle.records.specs.Records.{openingAsked}
 use Rattle.recv_keys.specs.Keys.{entryAt, find}
 use Rattle.window.specs.Used.{expected}
@@ -29,7 +29,7 @@ use Rattle.recv_keys.specs.declared.RecvEpochEntry.{RecvEpochEntry}
 use Rattle.recv_keys.specs.declared.RecvKeys.{RecvKeys}
 use Rattle.sequence.specs.Laws.{near}
 use Rattle.sequence.specs.Sequence.{blockOf}
-use Rattle.window.specs.Window.{width, isFresh}
+use Rattle.window.specs.Window.{isFresh}
 use Rattle.window.specs.declared.ReplayWindow.{ReplayWindow}
 use Rattle.mask_reply.specs.Leads.{mask-asks}
 use Rattle.mask_reply.specs.Mask.{maskBytes, unmasked, rebuilt, judged, maskedAt, maskedBy, masking, maskStep}
@@ -76,11 +76,11 @@ number-byte d m at n room low =
     ∙ ap (λ (x : ℕ). bitXor x (getD m 0 0)) low ∙ xor-twice (n % 256) (getD m 0 0)
 
 -- the header, unmasked, is the one that was sealed: the number in it is not masked
-module _ (d m : List ℕ) (at e n len : ℕ) (room : at + 5 ≤ length d)
-    (laid : part at 5 d ≡ (0x2C + e % 4) ∷ bitXor (n / 256 % 256) (getD m 0 0) ∷ bitXor (n % 256) (getD m 1 0) ∷ be 2 len) where
-  laid-at : (i : ℕ) → i < 5
+module _ (d m : List ℕ) (at e n len : ℕ) (room : at + sealedHead ≤ length d)
+    (laid : part at sealedHead d ≡ (0x2C + e % 4) ∷ bitXor (n / 256 % 256) (getD m 0 0) ∷ bitXor (n % 256) (getD m 1 0) ∷ be 2 len) where
+  laid-at : (i : ℕ) → i < sealedHead
       → getD d (at + i) 0 ≡ getD ((0x2C + e % 4) ∷ bitXor (n / 256 % 256) (getD m 0 0) ∷ bitXor (n % 256) (getD m 1 0) ∷ be 2 len) i 0
-  laid-at i h = sym (part-at at 5 d i h) ∙ ap (λ (l : List ℕ). getD l i 0) laid
+  laid-at i h = sym (part-at at sealedHead d i h) ∙ ap (λ (l : List ℕ). getD l i 0) laid
 
   -- a byte outside the number stays
   kept-at : (i : ℕ) → (i < 1) ⊎ (3 ≤ i) → getD (unmasked d at true m) (at + i) 0 ≡ getD d (at + i) 0
@@ -98,7 +98,7 @@ module _ (d m : List ℕ) (at e n len : ℕ) (room : at + 5 ≤ length d)
   unmasked-long = length-splice (at + 1) (xors d (at + 1) (maskBytes true m)) d (omega arith)
 
   -- byte by byte
-  header-byte : (i : ℕ) → i < 5 → getD (unmasked d at true m) (at + i) 0 ≡ getD ((0x2C + e % 4) ∷ be 2 n ++ be 2 len) i 0
+  header-byte : (i : ℕ) → i < sealedHead → getD (unmasked d at true m) (at + i) 0 ≡ getD ((0x2C + e % 4) ∷ be 2 n ++ be 2 len) i 0
   header-byte zero h = kept-at 0 (inl (omega arith)) ∙ laid-at 0 (omega arith)
   header-byte (suc zero) h =
       sym (getD-drop at (unmasked d at true m) 1 0) ∙ first-byte d m at n (omega arith) (laid-at 1 (omega arith)) (laid-at 2 (omega arith))
@@ -109,12 +109,12 @@ module _ (d m : List ℕ) (at e n len : ℕ) (room : at + 5 ≤ length d)
   header-byte (suc (suc (suc (suc zero)))) h = kept-at 4 (inr (omega arith)) ∙ laid-at 4 (omega arith)
   header-byte (suc (suc (suc (suc (suc i))))) h = absurd (omega arith)
 
-  pub header-unmasked : part at 5 (unmasked d at true m) ≡ unifiedHeader e n len
+  pub header-unmasked : part at sealedHead (unmasked d at true m) ≡ unifiedHeader e n len
   unfolding unifiedHeader
   header-unmasked =
-      let long : length (part at 5 (unmasked d at true m)) ≡ 5 = length-part at 5 (unmasked d at true m) (omega (arith, unmasked-long)) in
-      ext-getD 0 (part at 5 (unmasked d at true m)) ((0x2C + e % 4) ∷ be 2 n ++ be 2 len) long
-      (λ i h. part-at at 5 (unmasked d at true m) i (omega arith) ∙ header-byte i (omega arith))
+      let long : length (part at sealedHead (unmasked d at true m)) ≡ 5 = length-part at sealedHead (unmasked d at true m) (omega (arith, unmasked-long)) in
+      ext-getD 0 (part at sealedHead (unmasked d at true m)) ((0x2C + e % 4) ∷ be 2 n ++ be 2 len) long
+      (λ i h. part-at at sealedHead (unmasked d at true m) i (omega arith) ∙ header-byte i (omega arith))
 
 -- ---- the mask that was put on
 
@@ -131,7 +131,7 @@ pub rebuilt-near : (w : ReplayWindow) (s : Bool) (p n : ℕ) → p ≡ n % block
 unfolding rebuilt
 rebuilt-near w s p n e small above below = near s p (expected w) n (omega arith) (same-bits s p n e) above below
 
-judged-opens : (e : RecvEpochEntry) (b : Datagram) (a : Ask) (n : ℕ) → n ≤ 0xFFFF_FFFF_FFFF → isFresh width (e .replay) n ≡ true
+judged-opens : (e : RecvEpochEntry) (b : Datagram) (a : Ask) (n : ℕ) → n ≤ 0xFFFF_FFFF_FFFF → isFresh (e .replay) n ≡ true
     → judged e b a n ≡ openingAsked e b a n
 unfolding judged
 judged-opens e b a n small fresh = if-false _ _ (le-ltb 0xFFFF_FFFF_FFFF n small) ∙ if-true _ _ fresh
@@ -141,7 +141,7 @@ module _ (k : RecvKeys) (b : Datagram) (a : Ask) (i n : ℕ) (m d : List ℕ) wh
   opens : (s : Bool) → isSound k b ≡ true → length d ≡ b .size → b .question ≡ question.Mask a → find (k .entries) (a .epoch) (k .count) ≡ found.At i
       → a .«s_flag» ≡ s → partialOf (drop (b .at) (unmasked d (b .at) s m)) s ≡ n % blockOf s → n ≤ 0xFFFF_FFFF_FFFF
       → n < expected (entryAt k i .replay) + blockOf s / 2 → expected (entryAt k i .replay) < n + blockOf s / 2
-      → isFresh width (entryAt k i .replay) n ≡ true
+      → isFresh (entryAt k i .replay) n ≡ true
       → maskStep k b m d ≡ (openingAsked (entryAt k i) b a n, unmasked d (b .at) s m)
   unfolding masking maskedBy maskedAt
   opens s t l q f flag bits small above below fresh =
@@ -160,7 +160,7 @@ module _ (k : RecvKeys) (b : Datagram) (a : Ask) (i n : ℕ) (m d : List ℕ) wh
       → a .«s_flag» ≡ true → b .at + 2 < length d
       → getD d (b .at + 1) 0 ≡ bitXor (n / 256 % 256) (getD m 0 0) → getD d (b .at + 2) 0 ≡ bitXor (n % 256) (getD m 1 0)
       → n ≤ 0xFFFF_FFFF_FFFF → n < expected (entryAt k i .replay) + 32768 → expected (entryAt k i .replay) < n + 32768
-      → isFresh width (entryAt k i .replay) n ≡ true
+      → isFresh (entryAt k i .replay) n ≡ true
       → maskStep k b m d ≡ (openingAsked (entryAt k i) b a n, unmasked d (b .at) true m)
   mask-opens t l q f s room high low = opens true t l q f s (number-bytes d m (b .at) n room high low)
 
@@ -168,6 +168,6 @@ module _ (k : RecvKeys) (b : Datagram) (a : Ask) (i n : ℕ) (m d : List ℕ) wh
   pub mask-opens-short : isSound k b ≡ true → length d ≡ b .size → b .question ≡ question.Mask a → find (k .entries) (a .epoch) (k .count) ≡ found.At i
       → a .«s_flag» ≡ false → b .at + 1 < length d → getD d (b .at + 1) 0 ≡ bitXor (n % 256) (getD m 0 0)
       → n ≤ 0xFFFF_FFFF_FFFF → n < expected (entryAt k i .replay) + 128 → expected (entryAt k i .replay) < n + 128
-      → isFresh width (entryAt k i .replay) n ≡ true
+      → isFresh (entryAt k i .replay) n ≡ true
       → maskStep k b m d ≡ (openingAsked (entryAt k i) b a n, unmasked d (b .at) false m)
   mask-opens-short t l q f s room low = opens false t l q f s (number-byte d m (b .at) n room low)

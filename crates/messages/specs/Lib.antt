@@ -1,4 +1,3 @@
 pub mod Cut
-pub mod Rows
 pub mod Message
 pub mod Laws

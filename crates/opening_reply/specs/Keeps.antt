@@ -22,6 +22,7 @@ use Rattle.recv_keys.specs.Laws.{found-keyed}
 use Rattle.recv_keys.specs.declared.Found.the-variants as found
 use Rattle.recv_keys.specs.declared.Found.{Found}
 use Rattle.recv_keys.specs.declared.RecvKeys.{RecvKeys}
+use Rattle.record.specs.Record.{tagSize}
 use Rattle.opening_reply.specs.Opening.{typed, openedAt, openedBy, openings, openedStep}
 use Rattle.opening_reply.specs.declared.Marked.{Marked}
 use Rattle.opening_reply.specs.declared.Opening.the-variants as reply
@@ -77,7 +78,7 @@ pub record Marks (k : RecvKeys) (b : Datagram) (o : Opening) (l : RecvKeys) : Ty
   pub place : ℕ
   pub waits : b .question ≡ question.Opening ask number
   pub found : find (k .entries) (ask .epoch) (k .count) ≡ found.At place
-  pub said : o ≡ reply.Yes (ask .length - 16)
+  pub said : o ≡ reply.Yes (ask .length - tagSize)
   pub keys : l ≡ marked k place number
 
 -- refused, the state is unchanged; else the keys are unchanged, or a number is marked
@@ -106,7 +107,7 @@ module _ (k : RecvKeys) (b : Datagram) (a : Ask) (n : ℕ) (d : List ℕ) (waits
               place = i;
               waits = waits;
               found = q;
-              said = ap reply.Yes (eqb-true len (a .length - 16) t);
+              said = ap reply.Yes (eqb-true len (a .length - tagSize) t);
               keys = refl;
             });
       })

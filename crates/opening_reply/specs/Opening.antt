@@ -22,6 +22,7 @@ use Rattle.recv_keys.specs.Keys.{find, marked}
 use Rattle.recv_keys.specs.declared.Found.the-variants as found
 use Rattle.recv_keys.specs.declared.Found.{Found}
 use Rattle.recv_keys.specs.declared.RecvKeys.{RecvKeys}
+use Rattle.record.specs.Record.{tagSize}
 use Rattle.opening_reply.specs.declared.Cancelled.{Cancelled}
 use Rattle.opening_reply.specs.declared.Marked.{Marked}
 use Rattle.opening_reply.specs.declared.Opening.the-variants as reply
@@ -41,7 +42,7 @@ typed b a n (inner.Found t l) = counted b (endAsked b a) (says.Opened (a .epoch)
 unfoldable pub openedAt : ℕ → Opening → RecvKeys → Datagram → Ask → ℕ → List ℕ → Marked
 openedAt i reply.No k b a n d = still k (passed b (endAsked b a) reason.NotOpened)
 openedAt i (reply.Yes len) k b a n d =
-    choose (eqb len (a .length - 16)) (still (marked k i n) (typed b a n (innerOf (part (b .at + a .«header_len») len d))))
+    choose (eqb len (a .length - tagSize)) (still (marked k i n) (typed b a n (innerOf (part (b .at + a .«header_len») len d))))
     (still k (told b says.Reply))
 
 unfoldable pub openedBy : Found → Opening → RecvKeys → Datagram → Ask → ℕ → List ℕ → Marked

@@ -15,6 +15,7 @@ use Rattle.queue.specs.Queue.{isReady, slotOf, tailOf, placeOf, laid, startOf, 
 use Rattle.queue.specs.Laid.{recordLen, recordBytes, len-over}
 use Rattle.send_keys.specs.Keys.{isUsable, isKeyed, nextOf, used}
 use Rattle.send_keys.specs.Answer.{isDone}
+use Rattle.record.specs.Record.{sealedTail}
 use Rattle.outgoing.specs.declared.Waiting.{Waiting}
 use Rattle.outgoing.specs.declared.Sending.{Sending}
 use Rattle.send_keys.specs.declared.SendAnswer.{SendAnswer}
@@ -41,7 +42,7 @@ waitsBehind s e n p =
       any = true;
       slot = slotOf (s .queue .first) (s .queue .limit) (p .datagram);
       start = p .offset;
-      length = n + 17;
+      length = n + sealedTail;
       epoch = e;
       number = nextOf (s .keys) e;
     })

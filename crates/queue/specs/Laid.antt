@@ -8,7 +8,7 @@ use lib.Dec.{eqb}
 use lib.ListN.{length, length-append}
 use Rattle.base.specs.Bytes.{be}
 use Rattle.base.specs.Choose.{choose, by-test, test-cases, if-true, if-false}
-use Rattle.record.specs.Record.{plaintextHeader, unifiedHeader}
+use Rattle.record.specs.Record.{plainHead, sealedHead, sealedTail, sealedOver, plaintextHeader, unifiedHeader}
 
 -- the content type, and in the tag's 16 bytes the full epoch and number until it is sealed
 unfoldable pub trailerOf : ℕ → ℕ → ℕ → List ℕ
@@ -16,21 +16,21 @@ trailerOf t e n = t ∷ be 2 e ++ be 6 n ++ be 8 0
 
 -- header and content; a sealed record has content type and tag besides
 unfoldable pub recordLen : ℕ → ℕ → ℕ
-recordLen e n = choose (eqb e 0) (n + 13) (n + 22)
+recordLen e n = choose (eqb e 0) (n + plainHead) (n + sealedOver)
 
 -- epoch 0 in plaintext; else "content + 17" in the header, and the number unmasked
 unfoldable pub recordBytes : ℕ → ℕ → ℕ → List ℕ → List ℕ
-recordBytes e t n x = choose (eqb e 0) (plaintextHeader t n (length x) ++ x) (unifiedHeader e n (length x + 17) ++ (x ++ trailerOf t e n))
+recordBytes e t n x = choose (eqb e 0) (plaintextHeader t n (length x) ++ x) (unifiedHeader e n (length x + sealedTail) ++ (x ++ trailerOf t e n))
 
-pub length-plaintext : (t n len : ℕ) → length (plaintextHeader t n len) ≡ 13
+pub length-plaintext : (t n len : ℕ) → length (plaintextHeader t n len) ≡ plainHead
 unfolding plaintextHeader
 length-plaintext t n len = refl
 
-pub length-unified : (e n len : ℕ) → length (unifiedHeader e n len) ≡ 5
+pub length-unified : (e n len : ℕ) → length (unifiedHeader e n len) ≡ sealedHead
 unfolding unifiedHeader
 length-unified e n len = refl
 
-pub length-trailer : (t e n : ℕ) → length (trailerOf t e n) ≡ 17
+pub length-trailer : (t e n : ℕ) → length (trailerOf t e n) ≡ sealedTail
 unfolding trailerOf
 length-trailer t e n = refl
 
@@ -44,7 +44,7 @@ length-record e t n x =
     ap length (if-false _ _ h) ∙ simp (length-append, length-unified, length-trailer) (omega arith) ∙ sym (if-false _ _ h))
 
 module _ {e : ℕ} (h : e ≡ 0) where
-  pub len-plaintext : (n : ℕ) → recordLen e n ≡ n + 13
+  pub len-plaintext : (n : ℕ) → recordLen e n ≡ n + plainHead
   unfolding recordLen
   len-plaintext n = if-true _ _ (eq-eqb e 0 h)
 
@@ -53,18 +53,18 @@ module _ {e : ℕ} (h : e ≡ 0) where
   bytes-plaintext t n x = if-true _ _ (eq-eqb e 0 h)
 
 module _ {e : ℕ} (h : e ≡ 0 → ⊥) where
-  pub len-ciphertext : (n : ℕ) → recordLen e n ≡ n + 22
+  pub len-ciphertext : (n : ℕ) → recordLen e n ≡ n + sealedOver
   unfolding recordLen
   len-ciphertext n = if-false _ _ (ne-eqb e 0 h)
 
-  pub bytes-ciphertext : (t n : ℕ) (x : List ℕ) → recordBytes e t n x ≡ unifiedHeader e n (length x + 17) ++ (x ++ trailerOf t e n)
+  pub bytes-ciphertext : (t n : ℕ) (x : List ℕ) → recordBytes e t n x ≡ unifiedHeader e n (length x + sealedTail) ++ (x ++ trailerOf t e n)
   unfolding recordBytes
   bytes-ciphertext t n x = if-false _ _ (ne-eqb e 0 h)
 
-pub len-small : (e n : ℕ) → recordLen e n ≤ n + 22
+pub len-small : (e n : ℕ) → recordLen e n ≤ n + sealedOver
 unfolding recordLen
-len-small e n = by-test (λ (k : ℕ). k ≤ n + 22) (λ h. omega arith) (λ h. omega arith)
+len-small e n = by-test (λ (k : ℕ). k ≤ n + sealedOver) (λ h. omega arith) (λ h. omega arith)
 
-pub len-over : (e n : ℕ) → n + 13 ≤ recordLen e n
+pub len-over : (e n : ℕ) → n + plainHead ≤ recordLen e n
 unfolding recordLen
-len-over e n = by-test (λ (k : ℕ). n + 13 ≤ k) (λ h. omega arith) (λ h. omega arith)
+len-over e n = by-test (λ (k : ℕ). n + plainHead ≤ k) (λ h. omega arith) (λ h. omega arith)

@@ -14,22 +14,22 @@ use Rattle.base.specs.Choose.{both, either, if-true, if-false, by-test, by-less
 use Rattle.record.specs.declared.Ciphertext.{Ciphertext}
 use Rattle.record.specs.declared.Parsed.{Parsed}
 use Rattle.record.specs.declared.Parsed.the-variants as variant
-use Rattle.record.specs.Record.{sFlag, headerLen, fragmentLen, partialOf, ciphertextOf, parseCiphertext, isType, isVersion, isPlaintext, plaintextOf, parsePlaintext, parsed, contentOf, restOf, plaintextHeader, unifiedHeader}
+use Rattle.record.specs.Record.{plainHead, sealedHead, sFlag, headerLen, fragmentLen, partialOf, ciphertextOf, parseCiphertext, isType, isVersion, isPlaintext, plaintextOf, parsePlaintext, parsed, contentOf, restOf, plaintextHeader, unifiedHeader}
 
 -- ---- what is cut
 
 -- a sealed record has a header of 2 to 5 bytes, and lies within n
 pub record Whole (c : Ciphertext) (n : ℕ) : Type 0 where
   pub two : 2 ≤ c .«header_len»
-  pub five : c .«header_len» ≤ 5
+  pub five : c .«header_len» ≤ sealedHead
   pub fits : c .«header_len» + c .length ≤ n
 
 -- a record lies within n bytes
 abbrev pub Inside : ℕ → Parsed → Type 0
 Inside n variant.End = Unit {0}
 Inside n variant.Incomplete = Unit {0}
-Inside n (variant.Invalid k) = 13 + k ≤ n
-Inside n (variant.Plaintext p) = 13 + p .length ≤ n
+Inside n (variant.Invalid k) = plainHead + k ≤ n
+Inside n (variant.Plaintext p) = plainHead + p .length ≤ n
 Inside n (variant.Ciphertext c) = Whole c n
 
 inside-sealed : (d : List ℕ) (flags : ℕ) → Inside (length d) (parseCiphertext d flags)
@@ -41,8 +41,8 @@ inside-sealed d flags =
 inside-plain : (d : List ℕ) → Inside (length d) (parsePlaintext d)
 unfolding parsePlaintext
 inside-plain d =
-    by-less (Inside (length d)) (length d) 13 (λ a. tt)
-    (λ a. by-less (Inside (length d)) (length d - 13) (beAt 2 d 11) (λ b. tt)
+    by-less (Inside (length d)) (length d) plainHead (λ a. tt)
+    (λ a. by-less (Inside (length d)) (length d - plainHead) (beAt 2 d 11) (λ b. tt)
     (λ b. by-test (Inside (length d)) {t = isPlaintext d} {x = variant.Plaintext (plaintextOf d)} {y = variant.Invalid (beAt 2 d 11)} (λ f. omega arith) (λ f. omega arith)))
 
 pub inside : (d : List ℕ) → Inside (length d) (parsed d)
@@ -64,7 +64,7 @@ module _ (f : ℕ) (low : 44 ≤ f) (high : f < 48) where
   plain-id : f / 16 % 2 ≡ 1 → ⊥
   plain-id = let q : f / 16 ≡ 2 = omega arith in λ e. let z : _≡_ {A = ℕ} 0 1 = rw q at e in omega arith
 
-  full-header : headerLen f ≡ 5
+  full-header : headerLen f ≡ sealedHead
   unfolding headerLen
   full-header = rw (two, sized)
 
@@ -76,11 +76,11 @@ module _ (f : ℕ) (low : 44 ≤ f) (high : f < 48) where
   unfolding partialOf
   full-number d = if-true _ _ (eq-eqb _ _ two)
 
-  pub full-parsed : (d : List ℕ) → getD d 0 0 ≡ f → 5 + beAt 2 d 3 ≤ length d → parsed d ≡ variant.Ciphertext (record {
+  pub full-parsed : (d : List ℕ) → getD d 0 0 ≡ f → sealedHead + beAt 2 d 3 ≤ length d → parsed d ≡ variant.Ciphertext (record {
     «epoch_bits» = f % 4;
     «s_flag» = true;
     «sequence_number» = beAt 2 d 1;
-    «header_len» = 5;
+    «header_len» = sealedHead;
     length = beAt 2 d 3;
   })
   unfolding parsed parseCiphertext
@@ -108,7 +108,7 @@ module _ (e n : ℕ) (body r : List ℕ) (short : length body < 65536) where
     «epoch_bits» = e % 4;
     «s_flag» = true;
     «sequence_number» = n % 2 ^ 16;
-    «header_len» = 5;
+    «header_len» = sealedHead;
     length = length body;
   })
   unfolding unifiedHeader
@@ -119,7 +119,7 @@ module _ (e n : ℕ) (body r : List ℕ) (short : length body < 65536) where
         «epoch_bits» = bits i;
         «s_flag» = true;
         «sequence_number» = beAt-be 2 n (be 2 (length body) ++ (body ++ r)) i;
-        «header_len» = 5;
+        «header_len» = sealedHead;
         length = len i;
       })
     where
@@ -161,8 +161,8 @@ module _ (t n : ℕ) (content r : List ℕ) (allowed : isType t ≡ true) (short
   plaintext-back =
       let len : beAt 2 plain 11 ≡ length content = beAt-be 2 (length content) (content ++ r) ∙ mod-eq-of-lt short in
       let any : length plain ≡ 0 → ⊥ = λ e. omega arith in
-      let head : 13 ≤ length plain = omega arith in
-      let whole : beAt 2 plain 11 ≤ length plain - 13 = rw len (simp length-append (omega arith)) in
+      let head : plainHead ≤ length plain = omega arith in
+      let whole : beAt 2 plain 11 ≤ length plain - plainHead = rw len (simp length-append (omega arith)) in
       if-false _ _ (ne-eqb _ _ any) ∙ if-false _ _ (ne-eqb _ _ (type-low t allowed)) ∙ if-false _ _ (le-ltb _ _ head)
       ∙ if-false _ _ (le-ltb _ _ whole) ∙ if-true _ _ written-allowed
       ∙ λ i. variant.Plaintext (record {

@@ -12,6 +12,26 @@ use Rattle.record.specs.declared.Ciphertext.{Ciphertext}
 use Rattle.record.specs.declared.Parsed.{Parsed}
 use Rattle.record.specs.declared.Parsed.the-variants as variant
 
+-- ---- how long they are
+
+-- a plaintext record's header; a sealed record's, with two number bytes and a length, as it is written
+abbrev pub plainHead : ℕ
+plainHead = 13
+
+abbrev pub sealedHead : ℕ
+sealedHead = 5
+
+-- "Tag length is 16"; behind its content a sealed record has the content type and the tag
+abbrev pub tagSize : ℕ
+tagSize = 16
+
+abbrev pub sealedTail : ℕ
+sealedTail = 1 + tagSize
+
+-- what it has beside its content
+abbrev pub sealedOver : ℕ
+sealedOver = sealedHead + sealedTail
+
 -- ---- a sealed record's unified header: flags 001CSLEE
 
 -- 0x20 to 0x3F begins a sealed record
@@ -77,8 +97,8 @@ plaintextOf d = record { «content_type» = getD d 0 0; «sequence_number» = nu
 
 unfoldable pub parsePlaintext : List ℕ → Parsed
 parsePlaintext d =
-    choose (ltb (length d) 13) variant.Incomplete
-    (choose (ltb (length d - 13) (beAt 2 d 11)) variant.Incomplete
+    choose (ltb (length d) plainHead) variant.Incomplete
+    (choose (ltb (length d - plainHead) (beAt 2 d 11)) variant.Incomplete
     (choose (isPlaintext d) (variant.Plaintext (plaintextOf d)) (variant.Invalid (beAt 2 d 11))))
 
 -- ---- what begins the rest of a datagram
@@ -92,8 +112,8 @@ parsed d =
 abbrev pub headOf : Parsed → ℕ
 headOf variant.End = 0
 headOf variant.Incomplete = 0
-headOf (variant.Invalid n) = 13
-headOf (variant.Plaintext p) = 13
+headOf (variant.Invalid n) = plainHead
+headOf (variant.Plaintext p) = plainHead
 headOf (variant.Ciphertext c) = c .«header_len»
 
 abbrev pub sizeOf : Parsed → ℕ

@@ -14,7 +14,7 @@ use Rattle.datagram.specs.declared.Ask.{Ask}
 use Rattle.datagram.specs.declared.Datagram.{Datagram}
 use Rattle.datagram.specs.declared.Question.the-variants as question
 use Rattle.datagram.specs.declared.Question.{Question}
-use Rattle.record.specs.Record.{parsed}
+use Rattle.record.specs.Record.{tagSize, parsed}
 use Rattle.record.specs.declared.Ciphertext.{Ciphertext}
 use Rattle.record.specs.declared.Parsed.the-variants as parse
 use Rattle.record.specs.declared.Parsed.{Parsed}
@@ -38,7 +38,7 @@ module _ (k : RecvKeys) (b : Datagram) (n : ℕ) (r : Ready k b) (fits : b .at +
       (is-held k (askOf (entryAt k i .epoch) c) (b .size - b .at) (record {
         two = w .two;
         head = omega (arith, w .fits);
-        tag = ltb-false (c .length) 16 t;
+        tag = ltb-false (c .length) tagSize t;
         fits = omega (arith, w .fits);
         installed = is-standing k (entryAt k i .epoch) i (resolve-keyed k (c .«epoch_bits») i q) refl;
       }))))

@@ -12,7 +12,7 @@ use Rattle.datagram.specs.declared.Reading.the-variants as says
 use Rattle.datagram.specs.declared.Reason.the-variants as reason
 use Rattle.datagram.specs.declared.Step.{Step}
 use Rattle.dtls_aead.specs.Nonce.{nonceOf}
-use Rattle.record.specs.Record.{parsed}
+use Rattle.record.specs.Record.{plainHead, tagSize, parsed}
 use Rattle.record.specs.declared.Ciphertext.{Ciphertext}
 use Rattle.record.specs.declared.Parsed.the-variants as parse
 use Rattle.record.specs.declared.Parsed.{Parsed}
@@ -39,7 +39,7 @@ maskAsked b epoch c = told (questioned b (question.Mask (askOf epoch c))) (says.
 unfoldable pub lockedStep : Found → RecvKeys → Datagram → Ciphertext → Step
 lockedStep found.Nothing k b c = passed b (endOf b c) reason.NoKeys
 lockedStep (found.At i) k b c =
-    choose (ltb (c .length) 16) (passed b (endOf b c) reason.TooShort)
+    choose (ltb (c .length) tagSize) (passed b (endOf b c) reason.TooShort)
     (choose (ltb (c .length) (k .«min_protected»)) (passed b (endOf b c) reason.TooShort) (maskAsked b (entryAt k i .epoch) c))
 
 -- before that bits 0 and 1 drop, 5, and bits 2 and 3 are a reading
@@ -54,9 +54,9 @@ sealedStep k b c =
 unfoldable pub stepOf : Parsed → RecvKeys → Datagram → Step
 stepOf parse.End k b = ended b says.End
 stepOf parse.Incomplete k b = ended b says.Incomplete
-stepOf (parse.Invalid n) k b = passed b (b .at + 13 + n) reason.Invalid
+stepOf (parse.Invalid n) k b = passed b (b .at + plainHead + n) reason.Invalid
 stepOf (parse.Plaintext p) k b =
-    counted b (b .at + 13 + p .length) (says.Plaintext (p .«content_type») (p .«sequence_number») (b .at + 13) (p .length))
+    counted b (b .at + plainHead + p .length) (says.Plaintext (p .«content_type») (p .«sequence_number») (b .at + plainHead) (p .length))
 stepOf (parse.Ciphertext c) k b = sealedStep k b c
 
 -- ---- read

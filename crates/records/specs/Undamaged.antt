@@ -12,7 +12,7 @@ use Rattle.datagram.specs.Datagram.{isSound}
 use Rattle.datagram.specs.Sound.{ready}
 use Rattle.datagram.specs.declared.Datagram.{Datagram}
 use Rattle.datagram.specs.declared.Question.the-variants as question
-use Rattle.record.specs.Record.{headerLen, fragmentLen, partialOf, sFlag, parseCiphertext, parsed}
+use Rattle.record.specs.Record.{sealedHead, tagSize, sealedTail, headerLen, fragmentLen, partialOf, sFlag, parseCiphertext, parsed}
 use Rattle.record.specs.declared.Ciphertext.{Ciphertext}
 use Rattle.record.specs.declared.Parsed.the-variants as parse
 use Rattle.record.specs.declared.Parsed.{Parsed}
@@ -33,7 +33,7 @@ sealedOf e x y len = record {
   «epoch_bits» = e % 4;
   «s_flag» = true;
   «sequence_number» = x * 256 + y;
-  «header_len» = 5;
+  «header_len» = sealedHead;
   length = len;
 }
 
@@ -53,7 +53,7 @@ flags-l e = omega arith
 flags-bits : (e : ℕ) → (0x2C + e % 4) % 4 ≡ e % 4
 flags-bits e = omega arith
 
-flags-head : (e : ℕ) → headerLen (0x2C + e % 4) ≡ 5
+flags-head : (e : ℕ) → headerLen (0x2C + e % 4) ≡ sealedHead
 unfolding headerLen
 flags-head e = omega (arith, flags-s e, flags-l e)
 
@@ -63,7 +63,7 @@ same-sealed : {b c n m h i l j : ℕ} {s t : Bool} → b ≡ c → s ≡ t → n
 same-sealed p q r s t = cc
 
 module _ (e x y : ℕ) (body rest : List ℕ) (short : length body < 65536) where
-  long : length (sealed e x y body ++ rest) ≡ 5 + length body + length rest
+  long : length (sealed e x y body ++ rest) ≡ sealedHead + length body + length rest
   long = simp (length-append, length-be) (omega arith)
 
   -- its length field
@@ -72,7 +72,7 @@ module _ (e x y : ℕ) (body rest : List ℕ) (short : length body < 65536) wher
   said =
       if-true _ _ (eq-eqb _ _ (flags-l e)) ∙ ap (λ (h : ℕ). beAt 2 (sealed e x y body ++ rest) (h - 2)) (flags-head e) ∙ two-bytes
     where
-      two-bytes : beAt 2 (sealed e x y body ++ rest) (5 - 2) ≡ length body
+      two-bytes : beAt 2 (sealed e x y body ++ rest) (sealedHead - 2) ≡ length body
       two-bytes = omega arith
 
   -- its number bytes
@@ -101,12 +101,12 @@ module _ (e x y : ℕ) (body rest : List ℕ) (short : length body < 65536) wher
 
   -- the peer encrypts, the bits mean the epoch at i, and the protected part is not too short: a read asks its mask
   pub sealed-asks : (k : RecvKeys) (b : Datagram) (d : List ℕ) (i : ℕ) → isSound k b ≡ true → length d ≡ b .size → b .question ≡ question.Nothing
-      → drop (b .at) d ≡ sealed e x y body ++ rest → k .«peer_encryption» ≡ true → resolve k (e % 4) ≡ found.At i → 17 ≤ length body
+      → drop (b .at) d ≡ sealed e x y body ++ rest → k .«peer_encryption» ≡ true → resolve k (e % 4) ≡ found.At i → sealedTail ≤ length body
       → readStep k b d ≡ maskAsked b (entryAt k i .epoch) (sealedOf e x y (length body))
   unfolding asking stepOf sealedStep lockedStep
   sealed-asks k b d i t l q at on means room =
       read-asks k b d question.Nothing t l q
       ∙ ap (λ (p : Parsed). stepOf p k b) (ap parsed at ∙ sealed-parsed)
       ∙ if-true _ _ on ∙ ap (λ (f : Found). lockedStep f k b (sealedOf e x y (length body))) means
-      ∙ if-false _ _ (le-ltb (length body) 16 (omega arith))
+      ∙ if-false _ _ (le-ltb (length body) tagSize (omega arith))
       ∙ if-false _ _ (le-ltb (length body) (k .«min_protected») (omega (arith, ready k b t .keys .min)))

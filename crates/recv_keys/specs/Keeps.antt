@@ -12,7 +12,7 @@ use lib.ListN.{length, getD}
 use lib.Seq.{getD-set-same, getD-set-other}
 use Rattle.base.specs.Choose.{if-true, if-false, by-test, lt-or-ge, eq-or-ne, both-left, both-right, both-true}
 use Rattle.window.specs.Laws.{after}
-use Rattle.window.specs.Window.{width, unmarked}
+use Rattle.window.specs.Window.{unmarked}
 use Rattle.recv_keys.specs.declared.RecvEpochEntry.{RecvEpochEntry}
 use Rattle.recv_keys.specs.declared.RecvKeys.{RecvKeys}
 use Rattle.recv_keys.specs.declared.Found.{Found}
@@ -265,7 +265,7 @@ module _ (k : RecvKeys) (i n : ℕ) (long : length (k .entries) ≡ 5) (count : 
         ⊎-elim
         (λ e.
         low-at (ap (entryAt (marked k i n)) e ∙ marked-here)
-        (omega (arith, after width (omega arith) (entryAt k i .replay) n .highest, window-at (k .entries) (k .count) i (r .windows) within)))
+        (omega (arith, after (entryAt k i .replay) n .highest, window-at (k .entries) (k .count) i (r .windows) within)))
         (λ e. low-at (marked-other j e) (window-at (k .entries) (k .count) j (r .windows) h))
         (eq-or-ne j i);
   }

@@ -5,7 +5,7 @@ use Prim.Native.Nat.{ℕ, zero, suc, _+_, _-_, _%_}
 use lib.Dec.{ltb, leb, eqb}
 use lib.ListN.{getD, set}
 use Rattle.base.specs.Choose.{choose, both}
-use Rattle.window.specs.Window.{width, unmarked, marking}
+use Rattle.window.specs.Window.{unmarked, marking}
 use Rattle.recv_keys.specs.declared.RecvEpochEntry.{RecvEpochEntry}
 use Rattle.recv_keys.specs.declared.RecvKeys.{RecvKeys}
 use Rattle.recv_keys.specs.declared.Found.{Found}
@@ -58,7 +58,7 @@ isKeyed k epoch = wasFound (find (k .entries) epoch (k .count))
 -- ---- numbers received
 
 abbrev pub markedEntry : ℕ → RecvEpochEntry → RecvEpochEntry
-markedEntry n e = record { epoch = e .epoch; iv = e .iv; replay = marking width (e .replay) n }
+markedEntry n e = record { epoch = e .epoch; iv = e .iv; replay = marking (e .replay) n }
 
 -- number n marked in the window of the entry at i
 unfoldable pub marked : RecvKeys → ℕ → ℕ → RecvKeys

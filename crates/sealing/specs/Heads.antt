@@ -9,7 +9,7 @@ use borrow.Author.Tests.{lt-ltb, le-ltb, lt-leb, le-leb, eq-eqb, ne-eqb, eqb-fal
 use Rattle.base.specs.Bytes.{beAt}
 use Rattle.base.specs.Choose.{by-test, if-true, if-false, both-true, both-false}
 use Rattle.record.specs.declared.Parsed.{Parsed}
-use Rattle.record.specs.Record.{parsed, parseCiphertext, parsePlaintext, headerLen, fragmentLen, ciphertextOf, cFlag}
+use Rattle.record.specs.Record.{plainHead, sealedHead, sealedTail, parsed, parseCiphertext, parsePlaintext, headerLen, fragmentLen, ciphertextOf, cFlag}
 use Rattle.sealing.specs.declared.Search.{Search}
 use Rattle.sealing.specs.Seek.{beyond, passed, foundAt, stepOf}
 
@@ -35,7 +35,7 @@ module _ (d : List ℕ) (slot : ℕ) (c : Search) (some : 0 < length d) (h : get
       ∙ if-true _ _ (eq-eqb (getD d 0 0 / 32) 1 (omega arith))
       ∙ if-false _ _ (ne-eqb (getD d 0 0 / 16 % 2) 1 (λ e. omega arith))
 
-  head-five : headerLen (getD d 0 0) ≡ 5
+  head-five : headerLen (getD d 0 0) ≡ sealedHead
   unfolding headerLen
   head-five =
       let e : getD d 0 0 / 8 ≡ 5 = omega arith in
@@ -47,32 +47,32 @@ module _ (d : List ℕ) (slot : ℕ) (c : Search) (some : 0 < length d) (h : get
   unfolding fragmentLen
   length-here = if-true _ _ (eq-eqb (getD d 0 0 / 4 % 2) 1 (omega arith)) ∙ ap (λ (k : ℕ). beAt 2 d (k - 2)) head-five
 
-  pub sealed-short : length d < 5 → stepOf (parsed d) d slot c ≡ beyond c
+  pub sealed-short : length d < sealedHead → stepOf (parsed d) d slot c ≡ beyond c
   unfolding parseCiphertext stepOf
   sealed-short l = ap (λ (p : Parsed). stepOf p d slot c) (sealed-read ∙ if-true _ _ (lt-ltb (length d) (headerLen (getD d 0 0)) (omega (arith, head-five))))
 
-  pub sealed-cut : 5 ≤ length d → length d - 5 < beAt 2 d 3 → stepOf (parsed d) d slot c ≡ beyond c
+  pub sealed-cut : sealedHead ≤ length d → length d - sealedHead < beAt 2 d 3 → stepOf (parsed d) d slot c ≡ beyond c
   unfolding parseCiphertext stepOf
   sealed-cut l m =
       ap (λ (p : Parsed). stepOf p d slot c)
       (sealed-read ∙ if-false _ _ (le-ltb (length d) (headerLen (getD d 0 0)) (omega (arith, head-five))) ∙ if-true _ _ (lt-ltb (length d - headerLen (getD d 0 0)) (fragmentLen d (getD d 0 0)) (omega (arith, head-five, length-here))))
 
-  sealed-whole : 5 ≤ length d → beAt 2 d 3 ≤ length d - 5 → stepOf (parsed d) d slot c ≡ foundAt d (ciphertextOf d (getD d 0 0)) slot c
+  sealed-whole : sealedHead ≤ length d → beAt 2 d 3 ≤ length d - sealedHead → stepOf (parsed d) d slot c ≡ foundAt d (ciphertextOf d (getD d 0 0)) slot c
   unfolding parseCiphertext stepOf
   sealed-whole l m =
       ap (λ (p : Parsed). stepOf p d slot c)
       (sealed-read ∙ if-false _ _ (le-ltb (length d) (headerLen (getD d 0 0)) (omega (arith, head-five))) ∙ if-false _ _ (le-ltb (length d - headerLen (getD d 0 0)) (fragmentLen d (getD d 0 0)) (omega (arith, head-five, length-here))))
 
-  pub sealed-small : 5 ≤ length d → beAt 2 d 3 ≤ length d - 5 → beAt 2 d 3 < 17 → stepOf (parsed d) d slot c ≡ beyond c
+  pub sealed-small : sealedHead ≤ length d → beAt 2 d 3 ≤ length d - sealedHead → beAt 2 d 3 < sealedTail → stepOf (parsed d) d slot c ≡ beyond c
   unfolding foundAt
   sealed-small l m s =
-      sealed-whole l m ∙ if-false _ _ (both-true (eq-eqb _ _ head-five) ∙ lt-leb 17 (fragmentLen d (getD d 0 0)) (omega (arith, length-here)))
+      sealed-whole l m ∙ if-false _ _ (both-true (eq-eqb _ _ head-five) ∙ lt-leb sealedTail (fragmentLen d (getD d 0 0)) (omega (arith, length-here)))
 
-  pub sealed-waits : 5 ≤ length d → beAt 2 d 3 ≤ length d - 5 → 17 ≤ beAt 2 d 3 → stepOf (parsed d) d slot c ≡ waits d (beAt 2 d 3) slot c
+  pub sealed-waits : sealedHead ≤ length d → beAt 2 d 3 ≤ length d - sealedHead → sealedTail ≤ beAt 2 d 3 → stepOf (parsed d) d slot c ≡ waits d (beAt 2 d 3) slot c
   unfolding foundAt
   sealed-waits l m s =
       sealed-whole l m
-      ∙ if-true _ _ (both-true (eq-eqb _ _ head-five) ∙ le-leb 17 (fragmentLen d (getD d 0 0)) (omega (arith, length-here)))
+      ∙ if-true _ _ (both-true (eq-eqb _ _ head-five) ∙ le-leb sealedTail (fragmentLen d (getD d 0 0)) (omega (arith, length-here)))
       ∙ ap (λ (n : ℕ). waits d n slot c) length-here
 
 -- of two numbers, not the one with the other remainder
@@ -80,7 +80,7 @@ not-this : (q k r : ℕ) → q % 2 ≡ r → (k % 2 ≡ r → ⊥) → q ≡ k �
 not-this q k r e n p = n (sym (ap (λ (x : ℕ). x % 2) p) ∙ e)
 
 -- flags with a header of 5 bytes and no connection ID
-flags : (f : ℕ) → f / 32 ≡ 1 → f / 16 % 2 ≡ 0 → 2 + f / 8 % 2 + f / 4 % 2 * 2 ≡ 5 → f / 4 ≡ 11
+flags : (f : ℕ) → f / 32 ≡ 1 → f / 16 % 2 ≡ 0 → 2 + f / 8 % 2 + f / 4 % 2 * 2 ≡ sealedHead → f / 4 ≡ 11
 flags f h z e =
     let p : (2 ≤ f / 16) × (f / 16 ≤ 3) = (omega (arith, h), omega (arith, h)) in
     let x : f / 16 ≡ 2 = omega (arith, p .0, p .1, not-this (f / 16) 3 0 z (λ (g : 3 % 2 ≡ 0). omega arith)) in
@@ -93,7 +93,7 @@ flags f h z e =
 
 -- any other sealed record ends the search of its datagram
 module _ (d : List ℕ) (slot : ℕ) (c : Search) (some : 0 < length d) (h : getD d 0 0 / 32 ≡ 1) (n : getD d 0 0 / 4 ≡ 11 → ⊥) where
-  other-head : cFlag (getD d 0 0) ≡ false → headerLen (getD d 0 0) ≡ 5 → ⊥
+  other-head : cFlag (getD d 0 0) ≡ false → headerLen (getD d 0 0) ≡ sealedHead → ⊥
   unfolding headerLen
   other-head f e =
       let x : getD d 0 0 / 16 % 2 ≡ 1 → ⊥ = eqb-false (getD d 0 0 / 16 % 2) 1 f in
@@ -114,15 +114,15 @@ module _ (d : List ℕ) (slot : ℕ) (c : Search) (some : 0 < length d) (h : get
   unfolding parsed
   plain-read = if-false _ _ (ne-eqb (length d) 0 (λ e. omega arith)) ∙ if-false _ _ (ne-eqb (getD d 0 0 / 32) 1 h)
 
-  pub plain-short : length d < 13 → stepOf (parsed d) d slot c ≡ beyond c
+  pub plain-short : length d < plainHead → stepOf (parsed d) d slot c ≡ beyond c
   unfolding parsePlaintext stepOf
   plain-short l = ap (λ (p : Parsed). stepOf p d slot c) (plain-read ∙ if-true _ _ (lt-ltb _ _ l))
 
-  pub plain-cut : 13 ≤ length d → length d - 13 < beAt 2 d 11 → stepOf (parsed d) d slot c ≡ beyond c
+  pub plain-cut : plainHead ≤ length d → length d - plainHead < beAt 2 d 11 → stepOf (parsed d) d slot c ≡ beyond c
   unfolding parsePlaintext stepOf
   plain-cut l m = ap (λ (p : Parsed). stepOf p d slot c) (plain-read ∙ if-false _ _ (le-ltb _ _ l) ∙ if-true _ _ (lt-ltb _ _ m))
 
-  pub plain-passed : 13 ≤ length d → beAt 2 d 11 ≤ length d - 13 → stepOf (parsed d) d slot c ≡ passed c (beAt 2 d 11)
+  pub plain-passed : plainHead ≤ length d → beAt 2 d 11 ≤ length d - plainHead → stepOf (parsed d) d slot c ≡ passed c (beAt 2 d 11)
   unfolding parsePlaintext stepOf
   plain-passed l m =
       ap (λ (p : Parsed). stepOf p d slot c) (plain-read ∙ if-false _ _ (le-ltb _ _ l) ∙ if-false _ _ (le-ltb _ _ m))

@@ -9,6 +9,7 @@ use borrow.Author.Tests.{eqb-true}
 use Rattle.base.specs.Choose.{both-left, both-right, if-true, if-false}
 use Rattle.base.specs.Parts.{part, splice, splice-here, splice-before, splice-after}
 use Rattle.outgoing.specs.declared.Sending.{Sending}
+use Rattle.record.specs.Record.{sealedHead}
 use Rattle.sealing.specs.declared.SealAnswer.{SealAnswer}
 use Rattle.sealing.specs.Sealing.{isAsked, isPut, partStart, putMemory, maskedHeader, isSealed, sealAnswer, sealedState, sealedMemory, asked-held, sealed-held, part-fits, length-masked}
 
@@ -38,24 +39,24 @@ module _ (s : Sending) (n : ℕ) (mask q : List ℕ) (h : isSealed (sealAnswer s
   abbrev header : List ℕ
   header = maskedHeader (s .waiting .epoch) (s .waiting .number) (s .waiting .length) mask
 
-  header-fits : partStart s - 5 + length header ≤ length q
+  header-fits : partStart s - sealedHead + length header ≤ length q
   unfolding partStart
   header-fits =
       let a = sealed-held s (length q) n h in
       omega (arith, part-fits (a .0) (a .1), length-masked (s .waiting .epoch) (s .waiting .number) (s .waiting .length) mask)
 
-  masked : sealedMemory (sealAnswer s (length q) n) s mask q ≡ splice (partStart s - 5) header q
+  masked : sealedMemory (sealAnswer s (length q) n) s mask q ≡ splice (partStart s - sealedHead) header q
   unfolding sealedMemory
   masked = if-true _ _ h
 
-  pub sealed-before : (a m : ℕ) → a + m ≤ partStart s - 5 → part a m (sealedMemory (sealAnswer s (length q) n) s mask q) ≡ part a m q
-  sealed-before a m l = ap (part a m) masked ∙ splice-before (partStart s - 5) header q header-fits a m l
+  pub sealed-before : (a m : ℕ) → a + m ≤ partStart s - sealedHead → part a m (sealedMemory (sealAnswer s (length q) n) s mask q) ≡ part a m q
+  sealed-before a m l = ap (part a m) masked ∙ splice-before (partStart s - sealedHead) header q header-fits a m l
 
   pub sealed-after : (a m : ℕ) → partStart s ≤ a → part a m (sealedMemory (sealAnswer s (length q) n) s mask q) ≡ part a m q
   unfolding partStart
   sealed-after a m l =
       ap (part a m) masked
-      ∙ splice-after (partStart s - 5) header q header-fits a m (omega (arith, length-masked (s .waiting .epoch) (s .waiting .number) (s .waiting .length) mask))
+      ∙ splice-after (partStart s - sealedHead) header q header-fits a m (omega (arith, length-masked (s .waiting .epoch) (s .waiting .number) (s .waiting .length) mask))
 
 -- refused means unchanged
 module _ (a : SealAnswer) (h : isSealed a ≡ false) (s : Sending) (q : List ℕ) where

@@ -13,7 +13,7 @@ use borrow.Rule.Slice.PartMut.{putMid}
 use Rattle.base.specs.Bytes.{be, xors}
 use Rattle.base.specs.Choose.{choose, both, by-test, both-left, both-right, if-true}
 use Rattle.base.specs.Parts.{part, splice, lent}
-use Rattle.record.specs.Record.{unifiedHeader}
+use Rattle.record.specs.Record.{sealedHead, sealedTail, unifiedHeader}
 use Rattle.dtls_aead.specs.Nonce.{nonceOf}
 use Rattle.queue.specs.Queue.{isSound, isReady, InRange, ready}
 use Rattle.send_keys.specs.Keys.{ivOf, sealedUpTo}
@@ -38,8 +38,8 @@ refusal reply.NoQuestion = 15
 -- the oldest record that waits lies in a slot, header, content type and tag with it; its number is one that is sent
 unfoldable pub isSpan : Waiting → ℕ → ℕ → Bool
 isSpan w mtu limit =
-    both (ltb (w .slot) limit) (both (leb 17 (w .length)) (both (leb (w .start) mtu) (both (leb (w .length) mtu)
-    (both (leb (w .start + 5 + w .length) mtu) (ltb (w .number) 281474976710655)))))
+    both (ltb (w .slot) limit) (both (leb sealedTail (w .length)) (both (leb (w .start) mtu) (both (leb (w .length) mtu)
+    (both (leb (w .start + sealedHead + w .length) mtu) (ltb (w .number) 281474976710655)))))
 
 unfoldable pub isHeld : Sending → Bool
 isHeld s = choose (s .waiting .any) (isSpan (s .waiting) (s .queue .mtu) (s .queue .limit)) true
@@ -50,10 +50,10 @@ isAsked s room = both (isReady (s .queue) room) (both (isHeld s) (s .waiting .an
 
 -- "the rest of the record, from content to tag": behind its 5 header bytes
 unfoldable pub partStart : Sending → ℕ
-partStart s = s .waiting .slot * s .queue .mtu + s .waiting .start + 5
+partStart s = s .waiting .slot * s .queue .mtu + s .waiting .start + sealedHead
 
 abbrev pub nothingAsked : SealQuestion → Question
-nothingAsked q = record { question = q; nonce = replicate 12 0; header = replicate 5 0 }
+nothingAsked q = record { question = q; nonce = replicate 12 0; header = replicate sealedHead 0 }
 
 -- "The question names epoch, number, nonce and unmasked header"
 abbrev pub asked : Sending → Question
@@ -89,7 +89,7 @@ unfoldable pub behindOldest : Sending → Search
 behindOldest s = record {
   done = false;
   datagram = nthOf (s .queue .first) (s .queue .limit) (s .waiting .slot);
-  offset = s .waiting .start + 5 + s .waiting .length;
+  offset = s .waiting .start + sealedHead + s .waiting .length;
   found = noWaiting;
 }
 
@@ -123,10 +123,10 @@ sealedState a s q = record { answer = a; state = choose (isSealed a) (afterSeali
 unfoldable pub sealedMemory : SealAnswer → Sending → List ℕ → List ℕ → List ℕ
 sealedMemory a s mask q =
     choose (isSealed a)
-    (splice (partStart s - 5) (maskedHeader (s .waiting .epoch) (s .waiting .number) (s .waiting .length) mask) q)
+    (splice (partStart s - sealedHead) (maskedHeader (s .waiting .epoch) (s .waiting .number) (s .waiting .length) mask) q)
     q
 
-pub length-masked : (e n len : ℕ) (mask : List ℕ) → length (maskedHeader e n len mask) ≡ 5
+pub length-masked : (e n len : ℕ) (mask : List ℕ) → length (maskedHeader e n len mask) ≡ sealedHead
 unfolding maskedHeader
 length-masked e n len mask = refl
 
@@ -135,8 +135,8 @@ length-masked e n len mask = refl
 pub record Held (s : Sending) : Type 0 where
   pub range : InRange (s .queue)
   pub slot : s .waiting .slot < s .queue .limit
-  pub long : 17 ≤ s .waiting .length
-  pub inside : s .waiting .start + 5 + s .waiting .length ≤ s .queue .mtu
+  pub long : sealedTail ≤ s .waiting .length
+  pub inside : s .waiting .start + sealedHead + s .waiting .length ≤ s .queue .mtu
   pub number : s .waiting .number < 281474976710655
 
 pub held : {s : Sending} → InRange (s .queue) → isHeld s ≡ true → s .waiting .any ≡ true → Held s
@@ -146,18 +146,18 @@ held {s} r h any =
     let m = s .queue .mtu in
     let e : isSpan w m (s .queue .limit) ≡ true = sym (if-true _ _ any) ∙ h in
     let e1 = both-right (ltb (w .slot) (s .queue .limit)) _ e in
-    let e2 = both-right (leb 17 (w .length)) _ e1 in
+    let e2 = both-right (leb sealedTail (w .length)) _ e1 in
     let e3 = both-right (leb (w .start) m) _ e2 in
     let e4 = both-right (leb (w .length) m) _ e3 in
     record {
       range = r;
       slot = ltb-true (w .slot) (s .queue .limit) (both-left _ _ e);
-      long = leb-true 17 (w .length) (both-left _ _ e1);
-      inside = leb-true (w .start + 5 + w .length) m (both-left _ _ e4);
-      number = ltb-true (w .number) 281474976710655 (both-right (leb (w .start + 5 + w .length) m) _ e4);
+      long = leb-true sealedTail (w .length) (both-left _ _ e1);
+      inside = leb-true (w .start + sealedHead + w .length) m (both-left _ _ e4);
+      number = ltb-true (w .number) 281474976710655 (both-right (leb (w .start + sealedHead + w .length) m) _ e4);
     }
 
-pub start-fits : {s : Sending} → Held s → s .waiting .slot * s .queue .mtu + s .waiting .start + 5 + s .waiting .length ≤ 24000
+pub start-fits : {s : Sending} → Held s → s .waiting .slot * s .queue .mtu + s .waiting .start + sealedHead + s .waiting .length ≤ 24000
 start-fits {s} h =
     let m = mul-le-mul-right (s .queue .mtu) (h .slot) in
     let t : s .queue .limit * s .queue .mtu ≤ 16 * 1500 = mul-le-mul (h .range .limit) (h .range .high) in
@@ -191,9 +191,9 @@ sealed-held s room n =
 -- the header that a reply writes, said of the whole queue
 pub masked-laid : (s : Sending) (mask m : List ℕ) {p : ℕ} {x : List ℕ} → p ≡ partStart s
     → x ≡ maskedHeader (s .waiting .epoch) (s .waiting .number) (s .waiting .length) mask
-    → putMid (p - 5) (p - (p - 5)) m x ≡ splice (partStart s - 5) (maskedHeader (s .waiting .epoch) (s .waiting .number) (s .waiting .length) mask) m
+    → putMid (p - sealedHead) (p - (p - sealedHead)) m x ≡ splice (partStart s - sealedHead) (maskedHeader (s .waiting .epoch) (s .waiting .number) (s .waiting .length) mask) m
 unfolding partStart
 masked-laid s mask m {p} {x} e h =
     let v : List ℕ = maskedHeader (s .waiting .epoch) (s .waiting .number) (s .waiting .length) mask in
-    let l : length v ≡ p - (p - 5) = omega (arith, length-masked (s .waiting .epoch) (s .waiting .number) (s .waiting .length) mask) in
-    rw h (lent (p - 5) p m v l ∙ ap (λ (k : ℕ). splice (k - 5) v m) e)
+    let l : length v ≡ p - (p - sealedHead) = omega (arith, length-masked (s .waiting .epoch) (s .waiting .number) (s .waiting .length) mask) in
+    rw h (lent (p - sealedHead) p m v l ∙ ap (λ (k : ℕ). splice (k - sealedHead) v m) e)

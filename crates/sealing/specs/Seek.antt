@@ -12,7 +12,7 @@ use Rattle.base.specs.Parts.{part}
 use Rattle.record.specs.declared.Parsed.{Parsed}
 use Rattle.record.specs.declared.Parsed.the-variants as read
 use Rattle.record.specs.declared.Ciphertext.{Ciphertext}
-use Rattle.record.specs.Record.{parsed}
+use Rattle.record.specs.Record.{plainHead, sealedHead, sealedTail, parsed}
 use Rattle.queue.specs.declared.Queue.{Queue}
 use Rattle.queue.specs.Queue.{slotOf}
 use Rattle.outgoing.specs.declared.Waiting.{Waiting}
@@ -29,12 +29,12 @@ beyond c = record { done = false; datagram = c .datagram + 1; offset = 0; found 
 
 -- past a record in plaintext with a content of n bytes
 unfoldable pub passed : Search → ℕ → Search
-passed c n = record { done = false; datagram = c .datagram; offset = c .offset + (13 + n); found = c .found }
+passed c n = record { done = false; datagram = c .datagram; offset = c .offset + (plainHead + n); found = c .found }
 
 -- a sealed record as it is laid: a header of 5 bytes, a content type and a tag at least; epoch and number are the tag's first 8 bytes
 unfoldable pub foundAt : List ℕ → Ciphertext → ℕ → Search → Search
 foundAt d r slot c =
-    choose (both (eqb (r .«header_len») 5) (leb 17 (r .length)))
+    choose (both (eqb (r .«header_len») sealedHead) (leb sealedTail (r .length)))
     (record {
       done = true;
       datagram = c .datagram;

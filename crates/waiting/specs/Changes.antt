@@ -11,6 +11,7 @@ use Rattle.queue.specs.declared.Queue.{Queue}
 use Rattle.queue.specs.Queue.{slotOf, InRange}
 use Rattle.queue.specs.Laid.{recordBytes}
 use Rattle.outgoing.specs.declared.Waiting.{Waiting}
+use Rattle.record.specs.Record.{sealedHead, sealedTail}
 use Rattle.waiting.specs.Queued.{Queued, plain, waits, sealed, bytesOf, bytes, flat, waitsIn, Stands, Lies, Row, Rows, oldestIn, oldestOf}
 use Rattle.waiting.specs.Ring.{Outside, other-slot, slot-apart}
 use Rattle.waiting.specs.Lists.{length-waits, none-in, waits-append, lies-still}
@@ -23,8 +24,8 @@ pub record Within (at end own : ℕ) (w : Waiting) : Type 0 where
   pub any : w .any ≡ true
   pub slot : w .slot ≡ own
   pub start : at ≤ w .start
-  pub inside : w .start + (5 + w .length) ≤ end
-  pub long : 17 ≤ w .length
+  pub inside : w .start + (sealedHead + w .length) ≤ end
+  pub long : sealedTail ≤ w .length
   pub some : 0 < w .epoch
   pub epoch : w .epoch < 65536
   pub number : w .number < 281474976710655
@@ -102,8 +103,8 @@ pub record Became (mem′ : List ℕ) (at : ℕ) (r u : Queued) : Type 0 where
 pub record Writes (f : Queued → Queued) (mtu p n : ℕ) (mem mem′ : List ℕ) (w : Waiting) : Type 0 where
   pub outside : Outside p n mem mem′
   pub low : w .slot * mtu + w .start ≤ p
-  pub high : p + n ≤ w .slot * mtu + w .start + (5 + w .length)
-  pub here : (e t k : ℕ) (x v : List ℕ) → w .epoch ≡ e → w .number ≡ k → w .length ≡ length x + 17 → Stands mem (w .slot * mtu + w .start) (waits e t k x v)
+  pub high : p + n ≤ w .slot * mtu + w .start + (sealedHead + w .length)
+  pub here : (e t k : ℕ) (x v : List ℕ) → w .epoch ≡ e → w .number ≡ k → w .length ≡ length x + sealedTail → Stands mem (w .slot * mtu + w .start) (waits e t k x v)
       → Became mem′ (w .slot * mtu + w .start) (waits e t k x v) (f (waits e t k x v))
 
 module _ (f : Queued → Queued) (mtu p n : ℕ) (mem mem′ : List ℕ) where

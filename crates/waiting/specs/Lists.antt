@@ -9,7 +9,7 @@ use lib.ListN.{length, length-append}
 use borrow.Author.Tests.{eqb-true, eqb-false}
 use Rattle.base.specs.Choose.{by-test, test-cases, if-true, if-false}
 use Rattle.base.specs.Parts.{part}
-use Rattle.record.specs.Record.{unifiedHeader}
+use Rattle.record.specs.Record.{plainHead, sealedTail, sealedOver, unifiedHeader}
 use Rattle.queue.specs.Queue.{slotOf}
 use Rattle.queue.specs.Laid.{recordBytes, length-record, len-plaintext, bytes-ciphertext, length-unified}
 use Rattle.outgoing.specs.declared.Waiting.{Waiting}
@@ -19,17 +19,17 @@ use Rattle.waiting.specs.Queued.{Queued, plain, waits, sealed, bytesOf, 
 
 -- ---- lengths
 
-pub length-plain : (t n : ℕ) (x : List ℕ) → length (recordBytes 0 t n x) ≡ length x + 13
+pub length-plain : (t n : ℕ) (x : List ℕ) → length (recordBytes 0 t n x) ≡ length x + plainHead
 length-plain t n x = length-record 0 t n x ∙ len-plaintext refl (length x)
 
-pub length-waits : (e t n : ℕ) (x p : List ℕ) → length p ≡ length x + 17 → length (bytesOf (waits e t n x p)) ≡ length x + 22
-length-waits e t n x p h = length-append (unifiedHeader e n (length x + 17)) p ∙ omega (arith, length-unified e n (length x + 17))
+pub length-waits : (e t n : ℕ) (x p : List ℕ) → length p ≡ length x + sealedTail → length (bytesOf (waits e t n x p)) ≡ length x + sealedOver
+length-waits e t n x p h = length-append (unifiedHeader e n (length x + sealedTail)) p ∙ omega (arith, length-unified e n (length x + sealedTail))
 
-pub length-sealed : (e t n : ℕ) (x m p : List ℕ) → length p ≡ length x + 17 → length (bytesOf (sealed e t n x m p)) ≡ length x + 22
-length-sealed e t n x m p h = length-append (maskedHeader e n (length x + 17) m) p ∙ omega (arith, length-masked e n (length x + 17) m)
+pub length-sealed : (e t n : ℕ) (x m p : List ℕ) → length p ≡ length x + sealedTail → length (bytesOf (sealed e t n x m p)) ≡ length x + sealedOver
+length-sealed e t n x m p h = length-append (maskedHeader e n (length x + sealedTail) m) p ∙ omega (arith, length-masked e n (length x + sealedTail) m)
 
 -- a record has 13 bytes at least
-pub long : (r : Queued) → Sound r → 13 ≤ length (bytesOf r)
+pub long : (r : Queued) → Sound r → plainHead ≤ length (bytesOf r)
 long (plain t n x) s = omega (arith, length-plain t n x)
 long (waits e t n x p) s = omega (arith, length-waits e t n x p (s .part))
 long (sealed e t n x m p) s = omega (arith, length-sealed e t n x m p (s .part))

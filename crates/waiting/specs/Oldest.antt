@@ -8,7 +8,7 @@ use lib.Dec.{eqb}
 use lib.ListN.{length, length-append}
 use Rattle.base.specs.Choose.{choose, test-cases, if-true, if-false, both-true, both-false}
 use Rattle.base.specs.Parts.{part, splice}
-use Rattle.record.specs.Record.{unifiedHeader}
+use Rattle.record.specs.Record.{sealedHead, sealedTail, unifiedHeader}
 use Rattle.dtls_aead.specs.Nonce.{nonceOf}
 use Rattle.queue.specs.declared.Queue.{Queue}
 use Rattle.queue.specs.Queue.{slotOf}
@@ -93,7 +93,7 @@ pub record Names (mem : List ℕ) (mtu : ℕ) (w : Waiting) (e t n : ℕ) (x p :
   pub any : w .any ≡ true
   pub epoch : w .epoch ≡ e
   pub number : w .number ≡ n
-  pub size : w .length ≡ length x + 17
+  pub size : w .length ≡ length x + sealedTail
   pub stands : Stands mem (w .slot * mtu + w .start) (waits e t n x p)
 
 module _ (mem : List ℕ) (mtu e t n : ℕ) (x p : List ℕ) (us : List Queued) where
@@ -106,7 +106,7 @@ module _ (mem : List ℕ) (mtu e t n : ℕ) (x p : List ℕ) (us : List Queued) 
       let i : e′ ≡ e = cc in
       let j : n′ ≡ n = cc in
       let k : x′ ≡ x = cc in
-      record { any = refl; epoch = i; number = j; size = ap (λ (u : List ℕ). length u + 17) k; stands = subst (Stands mem (slot * mtu + at)) r (l .0) }
+      record { any = refl; epoch = i; number = j; size = ap (λ (u : List ℕ). length u + sealedTail) k; stands = subst (Stands mem (slot * mtu + at)) r (l .0) }
   names-in slot at (sealed e′ t′ n′ x′ m′ p′ ∷ rs) zs w l h y = names-in slot (at + length (bytesOf (sealed e′ t′ n′ x′ m′ p′))) rs zs w (l .1) h y
 
 pub waiting-later : (rs us : List Queued) → waitsIn rs ≡ false → waitingOf (rs ++ us) ≡ waitingOf us
@@ -134,9 +134,9 @@ module _ (s : Sending) (mem : List ℕ) (ds : List (List Queued)) (h : Holds s m
   -- the question shows exactly the first: epoch, number, nonce, header; the part lent is its part; its header lies in front of that
   pub question-shows : (e t n : ℕ) (x p : List ℕ) (us : List Queued) → waitingOf (flat ds) ≡ waits e t n x p ∷ us
       → questionOf s ≡ record {
-        question = ask.Seal e n (partStart s) (length x + 17);
+        question = ask.Seal e n (partStart s) (length x + sealedTail);
         nonce = nonceOf (ivOf (s .keys) e) n;
-        header = unifiedHeader e n (length x + 17);
+        header = unifiedHeader e n (length x + sealedTail);
       }
   question-shows e t n x p us y =
       let f = names-first e t n x p us y in
@@ -154,19 +154,19 @@ module _ (s : Sending) (mem : List ℕ) (ds : List (List Queued)) (h : Holds s m
       (λ a. question-told s mem ds h ∙ if-false _ _ a)
 
   pub part-shows : (e t n : ℕ) (x p : List ℕ) (us : List Queued) → waitingOf (flat ds) ≡ waits e t n x p ∷ us
-      → (partOf s mem ≡ p) × (part (partStart s - 5) 5 mem ≡ unifiedHeader e n (length x + 17))
+      → (partOf s mem ≡ p) × (part (partStart s - sealedHead) sealedHead mem ≡ unifiedHeader e n (length x + sealedTail))
   unfolding partOf isAsked partStart
   part-shows e t n x p us y =
       let f = names-first e t n x p us y in
       let base : ℕ = s .waiting .slot * s .queue .mtu + s .waiting .start in
-      let u : List ℕ = unifiedHeader e n (length x + 17) in
-      let five : length u ≡ 5 = length-unified e n (length x + 17) in
-      let whole : part base (5 + length p) mem ≡ u ++ p = ap (λ (k : ℕ). part base k mem) (sym (length-append u p ∙ ap (λ (k : ℕ). k + length p) five)) ∙ f .stands .here in
+      let u : List ℕ = unifiedHeader e n (length x + sealedTail) in
+      let five : length u ≡ sealedHead = length-unified e n (length x + sealedTail) in
+      let whole : part base (sealedHead + length p) mem ≡ u ++ p = ap (λ (k : ℕ). part base k mem) (sym (length-append u p ∙ ap (λ (k : ℕ). k + length p) five)) ∙ f .stands .here in
       let size : s .waiting .length ≡ length p = f .size ∙ sym (f .stands .sound .part) in
-      let place : base + 5 - 5 ≡ base = omega arith in (
+      let place : base + sealedHead - sealedHead ≡ base = omega arith in (
         if-true _ _ (both-true (ready-always s mem ds h) ∙ both-true (held-again s mem ds h) ∙ f .any)
-            ∙ ap (λ (k : ℕ). part (base + 5) k mem) size ∙ part-right base 5 (length p) mem u p five whole,
-        ap (λ (k : ℕ). part k 5 mem) place ∙ part-left base 5 (length p) mem u p five whole,
+            ∙ ap (λ (k : ℕ). part (base + sealedHead) k mem) size ∙ part-right base sealedHead (length p) mem u p five whole,
+        ap (λ (k : ℕ). part k sealedHead mem) place ∙ part-left base sealedHead (length p) mem u p five whole,
       )
 
   -- when the host's writing is taken
@@ -176,7 +176,7 @@ module _ (s : Sending) (mem : List ℕ) (ds : List (List Queued)) (h : Holds s m
       let none-waits : s .waiting .any ≡ false = any-same s mem ds h ∙ test-cases (waitsIn (flat ds)) (λ y. let f = first-of (flat ds) y in let g = f .is in absurd (let w : _≡_ {A = ℕ} 0 1 = cc in omega arith)) (λ y. y) in
       both-false _ (both-true (ready-always s mem ds h) ∙ both-true (held-again s mem ds h) ∙ none-waits)
 
-  pub put-test : (e t n : ℕ) (x p : List ℕ) (us : List Queued) → waitingOf (flat ds) ≡ waits e t n x p ∷ us → (v : List ℕ) → isPut s (length v) (length mem) ≡ eqb (length v) (length x + 17)
+  pub put-test : (e t n : ℕ) (x p : List ℕ) (us : List Queued) → waitingOf (flat ds) ≡ waits e t n x p ∷ us → (v : List ℕ) → isPut s (length v) (length mem) ≡ eqb (length v) (length x + sealedTail)
   unfolding isPut isAsked
   put-test e t n x p us y v =
       let f = names-first e t n x p us y in

@@ -9,7 +9,7 @@ use lib.Dec.{eqb}
 use lib.ListN.{length, getD}
 use Rattle.base.specs.Choose.{choose}
 use Rattle.base.specs.Parts.{part}
-use Rattle.record.specs.Record.{unifiedHeader}
+use Rattle.record.specs.Record.{sealedTail, unifiedHeader}
 use Rattle.queue.specs.declared.Queue.{Queue}
 use Rattle.queue.specs.Queue.{slotOf, InRange}
 use Rattle.queue.specs.Laid.{recordBytes, trailerOf}
@@ -29,8 +29,8 @@ pub data Queued : Type 0 where
 -- its bytes as they lie
 abbrev pub bytesOf : Queued → List ℕ
 bytesOf (plain t n x) = recordBytes 0 t n x
-bytesOf (waits e t n x p) = unifiedHeader e n (length x + 17) ++ p
-bytesOf (sealed e t n x m p) = maskedHeader e n (length x + 17) m ++ p
+bytesOf (waits e t n x p) = unifiedHeader e n (length x + sealedTail) ++ p
+bytesOf (sealed e t n x m p) = maskedHeader e n (length x + sealedTail) m ++ p
 
 abbrev pub bytes : List Queued → List ℕ
 bytes [] = []
@@ -74,7 +74,7 @@ pub record Sealing (e t n : ℕ) (x p : List ℕ) : Type 0 where
   pub kind : isContentType e t ≡ true
   pub number : n < 281474976710655
   pub short : length x ≤ 1500
-  pub part : length p ≡ length x + 17
+  pub part : length p ≡ length x + sealedTail
 
 pub record Plain (t n : ℕ) (x : List ℕ) : Type 0 where
   pub kind : isContentType 0 t ≡ true
@@ -130,7 +130,7 @@ InOrder (sealed e t n x m p ∷ rs) = InOrder rs
 abbrev pub oldestIn : ℕ → ℕ → List Queued → Waiting → Waiting
 oldestIn slot at [] w = w
 oldestIn slot at (plain t n x ∷ rs) w = oldestIn slot (at + length (bytesOf (plain t n x))) rs w
-oldestIn slot at (waits e t n x p ∷ rs) w = record { any = true; slot = slot; start = at; length = length x + 17; epoch = e; number = n }
+oldestIn slot at (waits e t n x p ∷ rs) w = record { any = true; slot = slot; start = at; length = length x + sealedTail; epoch = e; number = n }
 oldestIn slot at (sealed e t n x m p ∷ rs) w = oldestIn slot (at + length (bytesOf (sealed e t n x m p))) rs w
 
 -- the same from the i-th datagram on

@@ -16,6 +16,7 @@ use Rattle.send_keys.specs.declared.SendKeys.{SendKeys}
 use Rattle.send_keys.specs.Keys.{nextOf, sealedUpTo}
 use Rattle.outgoing.specs.declared.Sending.{Sending}
 use Rattle.sealing.specs.Sealing.{partStart, maskedHeader, sealAnswer, isSealed, sealedState, sealedMemory}
+use Rattle.record.specs.Record.{sealedHead, sealedTail}
 use Rattle.waiting.specs.Queued.{Queued, plain, waits, sealed, bytesOf, flat, waitingOf, numbersOf, sealedOf, Runs, Under, Agrees, Holds}
 use Rattle.waiting.specs.Lists.{waiting-append, length-sealed}
 use Rattle.waiting.specs.First.{sealWith, firstIn, firstOf, flat-first}
@@ -71,12 +72,12 @@ sealed-among m e t n x p us (sealed e′ t′ n′ x′ m′ p′ ∷ rs) y = th
 
 pub record Answered (s : Sending) (mem m : List ℕ) (k : ℕ) (ds : List (List Queued)) (e t n : ℕ) (x p : List ℕ) (us : List Queued) : Type 0 where
   -- as many bytes as were asked for
-  pub size : k ≡ length x + 17
+  pub size : k ≡ length x + sealedTail
   -- the others wait on, in order
   pub others : waitingOf (flat (afterReply (sealAnswer s (length mem) k) m ds)) ≡ us
   pub among : Mem (sealed e t n x m p) (flat (afterReply (sealAnswer s (length mem) k) m ds))
   -- its bytes in the queue: the header with the mask on its number, and the part as the host left it
-  pub wire : part (partStart s - 5) (5 + (length x + 17)) (sealedMemory (sealAnswer s (length mem) k) s m mem) ≡ maskedHeader e n (length x + 17) m ++ p
+  pub wire : part (partStart s - sealedHead) (sealedHead + (length x + sealedTail)) (sealedMemory (sealAnswer s (length mem) k) s m mem) ≡ maskedHeader e n (length x + sealedTail) m ++ p
   -- its number is the first not sealed yet, and the next one is then
   pub number : n ≡ sealedOf (s .keys) e
   pub next : sealedOf (sealedState (sealAnswer s (length mem) k) s mem .state .keys) e ≡ n + 1
@@ -91,15 +92,15 @@ reply-answers s mem m k ds h d e t n x p us y =
     let base : ℕ = s .waiting .slot * s .queue .mtu + s .waiting .start in
     let header : List ℕ = maskedHeader (s .waiting .epoch) (s .waiting .number) (s .waiting .length) m in
     let w = seal-writes s mem ds h (f .any) m .here e t n x p (f .epoch) (f .number) (f .size) (f .stands) in
-    let place : base + 5 - 5 ≡ base = omega arith in
-    let len : 5 + (length x + 17) ≡ length (bytesOf (sealed e t n x m p)) = omega (arith, length-sealed e t n x m p (f .stands .sound .part)) in
+    let place : base + sealedHead - sealedHead ≡ base = omega arith in
+    let len : sealedHead + (length x + sealedTail) ≡ length (bytesOf (sealed e t n x m p)) = omega (arith, length-sealed e t n x m p (f .stands .sound .part)) in
     record {
       size = q .1 ∙ f .size;
       others = ap (λ (l : List (List Queued)). waitingOf (flat l)) (if-true _ _ d) ∙ ap waitingOf (flat-first (sealWith m) ds) ∙ waiting-sealed m (flat ds) (waits e t n x p) us y;
       among = subst (λ (l : List (List Queued)). Mem (sealed e t n x m p) (flat l)) (sym (if-true (firstOf (sealWith m) ds) ds d))
           (subst (Mem (sealed e t n x m p)) (sym (flat-first (sealWith m) ds)) (sealed-among m e t n x p us (flat ds) y));
-      wire = ap (part (base + 5 - 5) (5 + (length x + 17))) (if-true (splice (base + 5 - 5) header mem) mem d)
-          ∙ ap (λ (i : ℕ). part i (5 + (length x + 17)) (splice i header mem)) place ∙ ap (λ (i : ℕ). part base i (splice base header mem)) len ∙ w .stands .here;
+      wire = ap (part (base + sealedHead - sealedHead) (sealedHead + (length x + sealedTail))) (if-true (splice (base + sealedHead - sealedHead) header mem) mem d)
+          ∙ ap (λ (i : ℕ). part i (sealedHead + (length x + sealedTail)) (splice i header mem)) place ∙ ap (λ (i : ℕ). part base i (splice base header mem)) len ∙ w .stands .here;
       number = in-sequence (s .keys) (flat ds) (h .keys) e t n x p us y;
       next = ap (λ (u : Sending). sealedOf (u .keys) e) (if-true _ _ d)
           ∙ ap (λ (i : ℕ). sealedOf (sealedUpTo (s .keys) i (s .waiting .number)) e) (f .epoch)

@@ -11,7 +11,7 @@ use lib.ListN.{length, length-append}
 use borrow.Author.Tests.{eqb-true, lt-ltb, le-leb}
 use Rattle.base.specs.Choose.{choose, by-test, test-cases, if-true, if-false, both-left, both-right, both-true}
 use Rattle.base.specs.Parts.{part, splice, splice-here}
-use Rattle.record.specs.Record.{unifiedHeader}
+use Rattle.record.specs.Record.{sealedHead, sealedTail, unifiedHeader}
 use Rattle.queue.specs.Queue.{isReady, ready-again, sound-again, slot-lt}
 use Rattle.queue.specs.Laid.{length-unified}
 use Rattle.send_keys.specs.declared.SendKeys.{SendKeys}
@@ -57,7 +57,7 @@ module _ (s : Sending) (mem : List ℕ) (ds : List (List Queued)) (h : Holds s m
         subst (λ (k : ℕ). k < s .queue .limit) (sym (found .within .slot))
         (slot-lt (s .queue .first) (s .queue .limit) (found .datagram) (h .range .first) (omega (arith, found .high, few)))
 
-    lies-inside : base + (5 + s .waiting .length) ≤ length mem
+    lies-inside : base + (sealedHead + s .waiting .length) ≤ length mem
     lies-inside = omega (arith, mul-le-mul-right (s .queue .mtu) in-ring, found .within .inside, h .room)
 
     span : isSpan (s .waiting) (s .queue .mtu) (s .queue .limit) ≡ true
@@ -66,7 +66,7 @@ module _ (s : Sending) (mem : List ℕ) (ds : List (List Queued)) (h : Holds s m
         let v = found .within in
         both-true (lt-ltb _ _ in-ring) ∙ both-true (le-leb _ _ (v .long)) ∙ both-true (le-leb (s .waiting .start) (s .queue .mtu) (omega (arith, v .inside)))
         ∙ both-true (le-leb (s .waiting .length) (s .queue .mtu) (omega (arith, v .inside)))
-        ∙ both-true (le-leb (s .waiting .start + 5 + s .waiting .length) (s .queue .mtu) (omega (arith, v .inside))) ∙ lt-ltb _ _ (v .number)
+        ∙ both-true (le-leb (s .waiting .start + sealedHead + s .waiting .length) (s .queue .mtu) (omega (arith, v .inside))) ∙ lt-ltb _ _ (v .number)
 
   -- so no call that looks at it is refused by 12
   pub held-again : isHeld s ≡ true
@@ -79,19 +79,19 @@ module _ (s : Sending) (mem : List ℕ) (ds : List (List Queued)) (h : Holds s m
   -- ---- the host's bytes
 
   module _ (any : s .waiting .any ≡ true) (v : List ℕ) (size : length v ≡ s .waiting .length) where
-    put-writes : Writes (putWith v) (s .queue .mtu) (base + 5) (length v) mem (splice (base + 5) v mem) (s .waiting)
+    put-writes : Writes (putWith v) (s .queue .mtu) (base + sealedHead) (length v) mem (splice (base + sealedHead) v mem) (s .waiting)
     put-writes =
-        let fits : base + 5 + length v ≤ length mem = omega (arith, lies-inside any) in
-        let out : Outside (base + 5) (length v) mem (splice (base + 5) v mem) = splice-outside (base + 5) v mem fits in
+        let fits : base + sealedHead + length v ≤ length mem = omega (arith, lies-inside any) in
+        let out : Outside (base + sealedHead) (length v) mem (splice (base + sealedHead) v mem) = splice-outside (base + sealedHead) v mem fits in
         record {
           outside = out;
           low = omega arith;
           high = omega arith;
           here = λ e t k x p ee ek el st.
-              let u : List ℕ = unifiedHeader e k (length x + 17) in
-              let five : length u ≡ 5 = length-unified e k (length x + 17) in
-              let head : part base 5 mem ≡ u = part-left base 5 (length p) mem u p five (ap (λ (n : ℕ). part base n mem) (sym (length-append u p ∙ ap (λ (n : ℕ). n + length p) five)) ∙ st .here) in
-              let long : length v ≡ length x + 17 = size ∙ el in
+              let u : List ℕ = unifiedHeader e k (length x + sealedTail) in
+              let five : length u ≡ sealedHead = length-unified e k (length x + sealedTail) in
+              let head : part base sealedHead mem ≡ u = part-left base sealedHead (length p) mem u p five (ap (λ (n : ℕ). part base n mem) (sym (length-append u p ∙ ap (λ (n : ℕ). n + length p) five)) ∙ st .here) in
+              let long : length v ≡ length x + sealedTail = size ∙ el in
               record {
                 size = length-waits e t k x v long ∙ sym (length-waits e t k x p (st .sound .part));
                 stands = record {
@@ -103,14 +103,14 @@ module _ (s : Sending) (mem : List ℕ) (ds : List (List Queued)) (h : Holds s m
                     short = st .sound .short;
                     part = long;
                   };
-                  here = ap (λ (n : ℕ). part base n (splice (base + 5) v mem)) (length-append u v ∙ ap (λ (n : ℕ). n + length v) five)
-                      ∙ part-join base 5 (length v) (splice (base + 5) v mem) u v (out .before base 5 (omega arith) ∙ head) (splice-here (base + 5) v mem fits);
+                  here = ap (λ (n : ℕ). part base n (splice (base + sealedHead) v mem)) (length-append u v ∙ ap (λ (n : ℕ). n + length v) five)
+                      ∙ part-join base sealedHead (length v) (splice (base + sealedHead) v mem) u v (out .before base sealedHead (omega arith) ∙ head) (splice-here (base + sealedHead) v mem fits);
                 };
               };
         }
 
     -- whatever the host writes there, the others stay as they are
-    pub put-in-holds : Holds s (splice (base + 5) v mem) (firstOf (putWith v) ds)
+    pub put-in-holds : Holds s (splice (base + sealedHead) v mem) (firstOf (putWith v) ds)
     put-in-holds =
         let w = put-writes in
         record {
@@ -118,8 +118,8 @@ module _ (s : Sending) (mem : List ℕ) (ds : List (List Queued)) (h : Holds s m
           room = subst (λ (k : ℕ). s .queue .limit * s .queue .mtu ≤ k) (sym (w .outside .length)) (h .room);
           table = h .table;
           count = length-of (putWith v) ds ∙ h .count;
-          rows = first-rows (putWith v) (s .queue) (h .range) (base + 5) (length v) mem (splice (base + 5) v mem) 0 ds noWaiting (omega (arith, few))
-              (subst (Writes (putWith v) (s .queue .mtu) (base + 5) (length v) mem (splice (base + 5) v mem)) (h .oldest) w) (some any) (h .rows);
+          rows = first-rows (putWith v) (s .queue) (h .range) (base + sealedHead) (length v) mem (splice (base + sealedHead) v mem) 0 ds noWaiting (omega (arith, few))
+              (subst (Writes (putWith v) (s .queue .mtu) (base + sealedHead) (length v) mem (splice (base + sealedHead) v mem)) (h .oldest) w) (some any) (h .rows);
           order = subst InOrder (sym (flat-first (putWith v) ds)) (order-put v (flat ds) (h .order));
           oldest = h .oldest ∙ sym (oldest-put v (s .queue .first) (s .queue .limit) 0 ds noWaiting);
           keys = subst (Agrees (s .keys)) (sym (flat-first (putWith v) ds)) (put-agrees (s .keys) (flat ds) v (h .keys));
@@ -133,7 +133,7 @@ module _ (s : Sending) (mem : List ℕ) (ds : List (List Queued)) (h : Holds s m
 
     pub seal-writes : Writes (sealWith m) (s .queue .mtu) base (length header) mem (splice base header mem) (s .waiting)
     seal-writes =
-        let five : length header ≡ 5 = length-masked (s .waiting .epoch) (s .waiting .number) (s .waiting .length) m in
+        let five : length header ≡ sealedHead = length-masked (s .waiting .epoch) (s .waiting .number) (s .waiting .length) m in
         let fits : base + length header ≤ length mem = omega (arith, lies-inside any) in
         let out : Outside base (length header) mem (splice base header mem) = splice-outside base header mem fits in
         record {
@@ -141,17 +141,17 @@ module _ (s : Sending) (mem : List ℕ) (ds : List (List Queued)) (h : Holds s m
           low = omega arith;
           high = omega arith;
           here = λ e t k x p ee ek el st.
-              let u : List ℕ = unifiedHeader e k (length x + 17) in
-              let ulen : length u ≡ 5 = length-unified e k (length x + 17) in
-              let rest : part (base + 5) (length p) mem ≡ p = part-right base 5 (length p) mem u p ulen (ap (λ (n : ℕ). part base n mem) (sym (length-append u p ∙ ap (λ (n : ℕ). n + length p) ulen)) ∙ st .here) in
-              let same : header ≡ maskedHeader e k (length x + 17) m = rw (ee, ek, el) in
-              let head : part base 5 (splice base header mem) ≡ maskedHeader e k (length x + 17) m = ap (λ (n : ℕ). part base n (splice base header mem)) (sym five) ∙ splice-here base header mem fits ∙ same in
+              let u : List ℕ = unifiedHeader e k (length x + sealedTail) in
+              let ulen : length u ≡ sealedHead = length-unified e k (length x + sealedTail) in
+              let rest : part (base + sealedHead) (length p) mem ≡ p = part-right base sealedHead (length p) mem u p ulen (ap (λ (n : ℕ). part base n mem) (sym (length-append u p ∙ ap (λ (n : ℕ). n + length p) ulen)) ∙ st .here) in
+              let same : header ≡ maskedHeader e k (length x + sealedTail) m = rw (ee, ek, el) in
+              let head : part base sealedHead (splice base header mem) ≡ maskedHeader e k (length x + sealedTail) m = ap (λ (n : ℕ). part base n (splice base header mem)) (sym five) ∙ splice-here base header mem fits ∙ same in
               record {
                 size = length-sealed e t k x m p (st .sound .part) ∙ sym (length-waits e t k x p (st .sound .part));
                 stands = record {
                   sound = st .sound;
-                  here = ap (λ (n : ℕ). part base n (splice base header mem)) (length-append (maskedHeader e k (length x + 17) m) p ∙ ap (λ (n : ℕ). n + length p) (length-masked e k (length x + 17) m))
-                      ∙ part-join base 5 (length p) (splice base header mem) (maskedHeader e k (length x + 17) m) p head (out .after (base + 5) (length p) (omega arith) ∙ rest);
+                  here = ap (λ (n : ℕ). part base n (splice base header mem)) (length-append (maskedHeader e k (length x + sealedTail) m) p ∙ ap (λ (n : ℕ). n + length p) (length-masked e k (length x + sealedTail) m))
+                      ∙ part-join base sealedHead (length p) (splice base header mem) (maskedHeader e k (length x + sealedTail) m) p head (out .after (base + sealedHead) (length p) (omega arith) ∙ rest);
                 };
               };
         }
@@ -211,9 +211,9 @@ module _ (s : Sending) (mem : List ℕ) (ds : List (List Queued)) (h : Holds s m
       let size : length v ≡ s .waiting .length = eqb-true (length v) (s .waiting .length) (both-right (isAsked s (length mem)) _ b) in
       let asks : isAsked s (length mem) ≡ true = both-left (isAsked s (length mem)) _ b in
       let any : s .waiting .any ≡ true = both-right (isHeld s) _ (both-right (isReady (s .queue) (length mem)) _ asks) in
-      rw (if-true (splice (s .waiting .slot * s .queue .mtu + s .waiting .start + 5) v mem) mem b, if-true (firstOf (putWith v) ds) ds b) (put-in-holds s mem ds h any v size))
+      rw (if-true (splice (s .waiting .slot * s .queue .mtu + s .waiting .start + sealedHead) v mem) mem b, if-true (firstOf (putWith v) ds) ds b) (put-in-holds s mem ds h any v size))
       (λ b.
-      rw (if-false (splice (s .waiting .slot * s .queue .mtu + s .waiting .start + 5) v mem) mem b, if-false (firstOf (putWith v) ds) ds b) h)
+      rw (if-false (splice (s .waiting .slot * s .queue .mtu + s .waiting .start + sealedHead) v mem) mem b, if-false (firstOf (putWith v) ds) ds b) h)
 
   pub seal-holds : (n : ℕ) (m : List ℕ) → Holds (sealedState (sealAnswer s (length mem) n) s mem .state)
       (sealedMemory (sealAnswer s (length mem) n) s m mem) (afterReply (sealAnswer s (length mem) n) m ds)
@@ -221,14 +221,14 @@ module _ (s : Sending) (mem : List ℕ) (ds : List (List Queued)) (h : Holds s m
   seal-holds n m =
       let a : SealAnswer = sealAnswer s (length mem) n in
       let header : List ℕ = maskedHeader (s .waiting .epoch) (s .waiting .number) (s .waiting .length) m in
-      let place : s .waiting .slot * s .queue .mtu + s .waiting .start + 5 - 5 ≡ s .waiting .slot * s .queue .mtu + s .waiting .start = omega arith in
+      let place : s .waiting .slot * s .queue .mtu + s .waiting .start + sealedHead - sealedHead ≡ s .waiting .slot * s .queue .mtu + s .waiting .start = omega arith in
       test-cases (isSealed a)
       (λ b.
       let any : s .waiting .any ≡ true = sealed-tests s (length mem) n b .0 in
-      rw (if-true (afterSealing s mem) s b, if-true (splice (s .waiting .slot * s .queue .mtu + s .waiting .start + 5 - 5) header mem) mem b, if-true (firstOf (sealWith m) ds) ds b)
+      rw (if-true (afterSealing s mem) s b, if-true (splice (s .waiting .slot * s .queue .mtu + s .waiting .start + sealedHead - sealedHead) header mem) mem b, if-true (firstOf (sealWith m) ds) ds b)
       (rw place (seal-in-holds s mem ds h any m)))
       (λ b.
-      rw (if-false (afterSealing s mem) s b, if-false (splice (s .waiting .slot * s .queue .mtu + s .waiting .start + 5 - 5) header mem) mem b, if-false (firstOf (sealWith m) ds) ds b) h)
+      rw (if-false (afterSealing s mem) s b, if-false (splice (s .waiting .slot * s .queue .mtu + s .waiting .start + sealedHead - sealedHead) header mem) mem b, if-false (firstOf (sealWith m) ds) ds b) h)
 
   pub seal-told : (n : ℕ) → sealAnswer s (length mem) n ≡ choose (waitsIn (flat ds)) (choose (eqb n (s .waiting .length)) reply.Done reply.NoQuestion) reply.NoQuestion
   unfolding sealAnswer

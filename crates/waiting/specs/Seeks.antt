@@ -12,7 +12,7 @@ use Rattle.base.specs.Bytes.{be, beAt, beAt-be, beAt-behind}
 use Rattle.base.specs.Choose.{choose, either, test-cases, if-true, if-false, both-true}
 use Rattle.base.specs.Parts.{part}
 use Rattle.record.specs.declared.Parsed.{Parsed}
-use Rattle.record.specs.Record.{isType, parsed, unifiedHeader}
+use Rattle.record.specs.Record.{plainHead, sealedHead, sealedTail, sealedOver, isType, parsed, unifiedHeader}
 use Rattle.queue.specs.declared.Queue.{Queue}
 use Rattle.queue.specs.Queue.{slotOf, InRange}
 use Rattle.queue.specs.Laid.{recordBytes, trailerOf, bytes-ciphertext, length-unified}
@@ -48,32 +48,32 @@ plain-kind t h = test-cases (isType t) (λ e. e) (λ e. absurd (false≢true (sy
 module _ (e t n : ℕ) (x r : List ℕ) (small : e < 65536) (short : n < 281474976710655) where
   -- what precedes the epoch
   abbrev front : List ℕ
-  front = unifiedHeader e n (length x + 17) ++ (x ++ t ∷ [])
+  front = unifiedHeader e n (length x + sealedTail) ++ (x ++ t ∷ [])
 
-  laid-as : unifiedHeader e n (length x + 17) ++ (x ++ trailerOf t e n) ++ r ≡ front ++ (be 2 e ++ (be 6 n ++ (be 8 0 ++ r)))
+  laid-as : unifiedHeader e n (length x + sealedTail) ++ (x ++ trailerOf t e n) ++ r ≡ front ++ (be 2 e ++ (be 6 n ++ (be 8 0 ++ r)))
   unfolding trailerOf
   laid-as = simp append-assoc
 
   length-front : length front ≡ length x + 6
-  length-front = simp length-append (omega (arith, length-unified e n (length x + 17)))
+  length-front = simp length-append (omega (arith, length-unified e n (length x + sealedTail)))
 
-  pub epoch-back : beAt 2 (unifiedHeader e n (length x + 17) ++ (x ++ trailerOf t e n) ++ r) (length x + 17 - 11) ≡ e
+  pub epoch-back : beAt 2 (unifiedHeader e n (length x + sealedTail) ++ (x ++ trailerOf t e n) ++ r) (length x + sealedTail - 11) ≡ e
   epoch-back =
-      ap (λ (d : List ℕ). beAt 2 d (length x + 17 - 11)) laid-as
+      ap (λ (d : List ℕ). beAt 2 d (length x + sealedTail - 11)) laid-as
       ∙ ap (beAt 2 (front ++ (be 2 e ++ (be 6 n ++ (be 8 0 ++ r))))) place
       ∙ beAt-behind 2 front (be 2 e ++ (be 6 n ++ (be 8 0 ++ r))) 0 ∙ beAt-be 2 e (be 6 n ++ (be 8 0 ++ r)) ∙ mod-eq-of-lt small
     where
-      place : length x + 17 - 11 ≡ length front + 0
+      place : length x + sealedTail - 11 ≡ length front + 0
       place = omega (arith, length-front)
 
-  pub number-back : beAt 6 (unifiedHeader e n (length x + 17) ++ (x ++ trailerOf t e n) ++ r) (length x + 17 - 9) ≡ n
+  pub number-back : beAt 6 (unifiedHeader e n (length x + sealedTail) ++ (x ++ trailerOf t e n) ++ r) (length x + sealedTail - 9) ≡ n
   number-back =
-      ap (λ (d : List ℕ). beAt 6 d (length x + 17 - 9)) laid-as
+      ap (λ (d : List ℕ). beAt 6 d (length x + sealedTail - 9)) laid-as
       ∙ ap (beAt 6 (front ++ (be 2 e ++ (be 6 n ++ (be 8 0 ++ r))))) place
       ∙ beAt-behind 6 front (be 2 e ++ (be 6 n ++ (be 8 0 ++ r))) 2
       ∙ beAt-behind 6 (be 2 e) (be 6 n ++ (be 8 0 ++ r)) 0 ∙ beAt-be 6 n (be 8 0 ++ r) ∙ mod-eq-of-lt (omega arith)
     where
-      place : length x + 17 - 9 ≡ length front + 2
+      place : length x + sealedTail - 9 ≡ length front + 2
       place = omega (arith, length-front)
 
 -- ---- a step
@@ -118,30 +118,30 @@ module _ (q : Queue) (mem : List ℕ) where
         ∙ ap (λ (p : Parsed). stepOf p (recordBytes 0 t n x ++ r) slot (searching i at)) (plain-back 0 t n x r refl (plain-kind t (s .kind)) (omega (arith, s .short)))
         ∙ ap (λ (k : ℕ). searching i k) size
       where
-        size : at + (13 + length x) ≡ at + length (recordBytes 0 t n x)
+        size : at + (plainHead + length x) ≡ at + length (recordBytes 0 t n x)
         size = omega (arith, length-plain t n x)
 
-    step-waits : (at e t n : ℕ) (x r : List ℕ) → at < getD (q .lengths) slot 0 → recordAt q mem slot at ≡ (unifiedHeader e n (length x + 17) ++ (x ++ trailerOf t e n)) ++ r
+    step-waits : (at e t n : ℕ) (x r : List ℕ) → at < getD (q .lengths) slot 0 → recordAt q mem slot at ≡ (unifiedHeader e n (length x + sealedTail) ++ (x ++ trailerOf t e n)) ++ r
         → Sealing e t n x (x ++ trailerOf t e n)
         → seekStep q mem (searching i at) ≡ record {
           done = true;
           datagram = i;
           offset = at;
-          found = record { any = true; slot = slot; start = at; length = length x + 17; epoch = e; number = n };
+          found = record { any = true; slot = slot; start = at; length = length x + sealedTail; epoch = e; number = n };
         }
     unfolding stepOf foundAt
     step-waits at e t n x r h g s =
-        let d : List ℕ = unifiedHeader e n (length x + 17) ++ (x ++ trailerOf t e n) ++ r in
+        let d : List ℕ = unifiedHeader e n (length x + sealedTail) ++ (x ++ trailerOf t e n) ++ r in
         let ne : e ≡ 0 → ⊥ = λ z. omega (arith, s .some) in
         let back = ap (λ (b : List ℕ). parsed (b ++ r)) (sym (bytes-ciphertext ne t n x)) ∙ sealed-back e t n x r ne (omega (arith, s .short)) in
         step-read at d h g
         ∙ ap (λ (p : Parsed). stepOf p d slot (searching i at)) back
-        ∙ if-true _ _ (both-true refl ∙ le-leb 17 (length x + 17) (omega arith))
+        ∙ if-true _ _ (both-true refl ∙ le-leb sealedTail (length x + sealedTail) (omega arith))
         ∙ λ j. record {
           done = true;
           datagram = i;
           offset = at;
-          found = record { any = true; slot = slot; start = at; length = length x + 17; epoch = epoch-back e t n x r (s .epoch) (s .number) j; number = number-back e t n x r (s .epoch) (s .number) j };
+          found = record { any = true; slot = slot; start = at; length = length x + sealedTail; epoch = epoch-back e t n x r (s .epoch) (s .number) j; number = number-back e t n x r (s .epoch) (s .number) j };
         }
 
     -- the rest of the datagram is what its records say
@@ -166,9 +166,9 @@ module _ (q : Queue) (mem : List ℕ) where
         ∙ walk n w two next (at + length b) k rs (omega arith) (l .1) a (omega arith)
     walk n w two next at (suc zero) (waits f t m x p ∷ rs) e l a h = absurd (omega arith)
     walk n w two next at (suc (suc k)) (waits f t m x p ∷ rs) e l a h =
-        let b : List ℕ = unifiedHeader f m (length x + 17) ++ p in
+        let b : List ℕ = unifiedHeader f m (length x + sealedTail) ++ p in
         let size = length-append b (bytes rs) in
-        let head : recordAt q mem slot at ≡ (unifiedHeader f m (length x + 17) ++ (x ++ trailerOf t f m)) ++ bytes rs = rest-bytes at (waits f t m x p ∷ rs) e l ∙ ap (λ (v : List ℕ). (unifiedHeader f m (length x + 17) ++ v) ++ bytes rs) (a .0) in
+        let head : recordAt q mem slot at ≡ (unifiedHeader f m (length x + sealedTail) ++ (x ++ trailerOf t f m)) ++ bytes rs = rest-bytes at (waits f t m x p ∷ rs) e l ∙ ap (λ (v : List ℕ). (unifiedHeader f m (length x + sealedTail) ++ v) ++ bytes rs) (a .0) in
         seek-on q mem (searching i at) (suc k) refl
         ∙ ap (seek (suc k) q mem)
         (step-waits at f t m x (bytes rs) (omega (arith, length-waits f t m x p (l .0 .sound .part))) head (subst (Sealing f t m x) (a .0) (l .0 .sound)))
@@ -176,7 +176,7 @@ module _ (q : Queue) (mem : List ℕ) where
           done = true;
           datagram = i;
           offset = at;
-          found = record { any = true; slot = slot; start = at; length = length x + 17; epoch = f; number = m };
+          found = record { any = true; slot = slot; start = at; length = length x + sealedTail; epoch = f; number = m };
         }) k refl
     walk n w two next at (suc k) (sealed f t m x o p ∷ rs) e l a h = absurd a
 
@@ -191,7 +191,7 @@ steps-two : (ds : List (List Queued)) → 2 ≤ steps ds
 steps-two [] = omega arith
 steps-two (d ∷ ds) = omega (arith, steps-two ds)
 
-lies-long : (mem : List ℕ) (base at : ℕ) (rs : List Queued) → Lies mem base at rs → 13 * length rs ≤ length (bytes rs)
+lies-long : (mem : List ℕ) (base at : ℕ) (rs : List Queued) → Lies mem base at rs → plainHead * length rs ≤ length (bytes rs)
 lies-long mem base at [] l = omega arith
 lies-long mem base at (r ∷ rs) l =
     omega (arith, lies-long mem base (at + length (bytesOf r)) rs (l .1), length-append (bytesOf r) (bytes rs), long r (l .0 .sound))
@@ -221,7 +221,7 @@ module _ (q : Queue) (mem : List ℕ) where
       → getD (q .lengths) (slotOf (q .first) (q .limit) i) 0 ≡ at + length (bytes rs) → Lies mem (slotOf (q .first) (q .limit) i * q .mtu) at rs
       → Rows q mem (i + 1) ds → InOrder (rs ++ flat ds) → waitsIn rs ≡ true → length rs + 1 + steps ds ≤ k → (w : Waiting)
       → seek k q mem (searching (nthOf (q .first) (q .limit) (oldestIn (slotOf (q .first) (q .limit) i) at rs w .slot))
-      (oldestIn (slotOf (q .first) (q .limit) i) at rs w .start + 5 + oldestIn (slotOf (q .first) (q .limit) i) at rs w .length))
+      (oldestIn (slotOf (q .first) (q .limit) i) at rs w .start + sealedHead + oldestIn (slotOf (q .first) (q .limit) i) at rs w .length))
       ≡ oldestIn (slotOf (q .first) (q .limit) i) at (firstIn (sealWith m) rs) (oldestOf (q .first) (q .limit) (i + 1) ds noWaiting)
   seek-in range i at k [] ds m low h e l r o y g w = absurd (false≢true y)
   seek-in range i at k (plain t n x ∷ rs) ds m low h e l r o y g w =
@@ -235,18 +235,18 @@ module _ (q : Queue) (mem : List ℕ) where
       let len = length-waits f t n x p (l .0 .sound .part) in
       let len′ = length-sealed f t n x m p (l .0 .sound .part) in
       let size = length-append (bytesOf (waits f t n x p)) (bytes rs) in
-      ap (λ (j : ℕ). seek k q mem (searching j (at + 5 + (length x + 17)))) (nth-slot (q .first) (q .limit) (range .first) i low)
+      ap (λ (j : ℕ). seek k q mem (searching j (at + sealedHead + (length x + sealedTail)))) (nth-slot (q .first) (q .limit) (range .first) i low)
       ∙ ap (λ (j : ℕ). seek k q mem (searching i j)) (over at (length x) (length (bytesOf (waits f t n x p))) len)
       ∙ walk q mem i (omega arith) (steps ds) (oldestOf (q .first) (q .limit) (i + 1) ds noWaiting) (steps-two ds)
       (λ j v. seek-rows (i + 1) j ds (omega arith) r (b .1) v) (at + length (bytesOf (waits f t n x p))) k rs (e ∙ omega arith) (l .1) (b .0) (omega arith)
       ∙ ap (λ (j : ℕ). oldestIn slot (at + j) rs (oldestOf (q .first) (q .limit) (i + 1) ds noWaiting)) (len ∙ sym len′)
     where
-      over : (at n b : ℕ) → b ≡ n + 22 → at + 5 + (n + 17) ≡ at + b
+      over : (at n b : ℕ) → b ≡ n + sealedOver → at + sealedHead + (n + sealedTail) ≡ at + b
       over at n b h = omega arith
 
   -- the search begun behind a record
   abbrev behind : Waiting → Search
-  behind w = searching (nthOf (q .first) (q .limit) (w .slot)) (w .start + 5 + w .length)
+  behind w = searching (nthOf (q .first) (q .limit) (w .slot)) (w .start + sealedHead + w .length)
 
   -- behind the oldest the search finds the next that waits: the oldest once this one is sealed
   pub seek-exact : InRange q → (i k : ℕ) (ds : List (List Queued)) (m : List ℕ) → i + length ds ≡ q .count → Rows q mem i ds → InOrder (flat ds) → waitsIn (flat ds) ≡ true → steps ds ≤ k

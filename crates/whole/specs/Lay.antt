@@ -9,7 +9,7 @@ use lib.ListN.{length, length-set}
 use borrow.Author.Tests.{eqb-true, eqb-false, le-leb, lt-leb}
 use Rattle.base.specs.Choose.{choose, either, by-test, test-cases, if-true, if-false, both-true}
 use Rattle.base.specs.Parts.{length-splice}
-use Rattle.record.specs.Record.{isType}
+use Rattle.record.specs.Record.{plainHead, sealedOver, isType}
 use Rattle.queue.specs.Queue.{tailOf, lastLen, placeOf, grown, laid, startOf, InRange, Ready, Fits, ready-again, placed, spot, laid-range, tail-laid}
 use Rattle.queue.specs.Laid.{recordLen, recordBytes, length-record, len-over, len-small}
 use Rattle.send_keys.specs.declared.SendKeys.{SendKeys}
@@ -91,7 +91,7 @@ pub record Able (k kind : ℕ) (body : List ℕ) (at : ℕ) (l : Laid) : Type 0 
 pub len-more : (e n : ℕ) → recordLen e (12 + n) ≡ n + recordLen e 12
 unfolding recordLen
 len-more e n =
-    test-cases (eqb e 0) (λ h. if-true _ _ h ∙ sum 13 ∙ sym (ap (λ (x : ℕ). n + x) (if-true _ _ h))) (λ h. if-false _ _ h ∙ sum 22 ∙ sym (ap (λ (x : ℕ). n + x) (if-false _ _ h)))
+    test-cases (eqb e 0) (λ h. if-true _ _ h ∙ sum plainHead ∙ sym (ap (λ (x : ℕ). n + x) (if-true _ _ h))) (λ h. if-false _ _ h ∙ sum sealedOver ∙ sym (ap (λ (x : ℕ). n + x) (if-false _ _ h)))
   where
     sum : (k : ℕ) → 12 + n + k ≡ n + (12 + k)
     sum k = omega arith

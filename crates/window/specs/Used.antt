@@ -1,5 +1,5 @@
--- The window follows the list of the numbers used: "highest used plus one, or 0", fresh and marked, for every width above 0.
--- Assumes nothing.
+-- The window follows the list of the numbers used: "highest used plus one, or 0", fresh and marked, for every width above 0
+-- and then at the width that it has. Assumes nothing.
 use mathlib.Core.Bool.{true}
 use mathlib.Core.List.{List, [], _∷_, List·Memᴰ as Mem, List·Memᴰ·head as here, List·Memᴰ·tail as there, List·Memᴰ·cases-cons as mem-cases}
 use mathlib.Core.Logic.{⊎-elim, _↔_}
@@ -12,8 +12,8 @@ use lib.Dec.{eqb}
 use Rattle.base.specs.Bits.{bit, bit-zero}
 use Rattle.base.specs.Choose.{choose, if-true, if-false, lt-or-ge}
 use Rattle.window.specs.declared.ReplayWindow.{ReplayWindow}
-use Rattle.window.specs.Window.{unmarked, Marked, isFresh, marking}
-use Rattle.window.specs.Laws.{after, verdict, fresh-is}
+use Rattle.window.specs.Window.{unmarked, MarkedOver, isFreshOver, markingOver, width, isFresh, marking}
+use Rattle.window.specs.Laws.{after-over, verdict-over, fresh-is-over}
 
 -- the highest number used plus one, or 0 if none was
 abbrev pub above : List ℕ → ℕ
@@ -40,58 +40,84 @@ highest-used n (k ∷ ns) =
     upper : above (k ∷ ns) ≤ n → above (n ∷ k ∷ ns) - 1 ≡ n
     upper l = omega arith
 
+-- ---- over any width
+
 -- the window holds the numbers used, as far as it reaches
-pub record Agrees (width : ℕ) (w : ReplayWindow) (used : List ℕ) : Type 0 where
+pub record AgreesOver (width : ℕ) (w : ReplayWindow) (used : List ℕ) : Type 0 where
   pub highest : w .«max_seq» ≡ above used - 1
-  pub marks : (n : ℕ) → above used ≤ n + width → Marked width w n ↔ Mem n used
+  pub marks : (n : ℕ) → above used ≤ n + width → MarkedOver width w n ↔ Mem n used
 
 module _ (width : ℕ) (wide : 0 < width) where
-  pub agrees-new : Agrees width unmarked []
-  agrees-new = record { highest = refl; marks = λ n l. (λ m. absurd (omega (arith, bit-zero (0 - n))), λ m. elim m [ ]) }
+  pub agrees-new-over : AgreesOver width unmarked []
+  agrees-new-over = record { highest = refl; marks = λ n l. (λ m. absurd (omega (arith, bit-zero (0 - n))), λ m. elim m [ ]) }
 
-  module _ {w : ReplayWindow} {used : List ℕ} (a : Agrees width w used) where
+  module _ {w : ReplayWindow} {used : List ℕ} (a : AgreesOver width w used) where
     -- marking a number is using it
-    pub agrees-marked : (n : ℕ) → Agrees width (marking width w n) (n ∷ used)
-    agrees-marked n =
-        let f = after width wide w n in
+    pub agrees-marked-over : (n : ℕ) → AgreesOver width (markingOver width w n) (n ∷ used)
+    agrees-marked-over n =
+        let f = after-over width wide w n in
         let h = a .highest in
-        let top : marking width w n .«max_seq» ≡ above (n ∷ used) - 1 = omega (arith, f .highest) in
+        let top : markingOver width w n .«max_seq» ≡ above (n ∷ used) - 1 = omega (arith, f .highest) in
         record {
           highest = top;
           marks = λ k l. (
             λ m. ⊎-elim (λ e. here e) (λ o. there (a .marks k (omega arith) .0 o)) (f .only k m),
-            λ m. ⊎-elim (λ (e : k ≡ n). subst (λ (x : ℕ). Marked width (marking width w n) x) (sym e) (f .itself (omega arith)))
+            λ m. ⊎-elim (λ (e : k ≡ n). subst (λ (x : ℕ). MarkedOver width (markingOver width w n) x) (sym e) (f .itself (omega arith)))
                 (λ (r : Mem k used). f .kept k (a .marks k (omega arith) .1 r) (omega arith)) (mem-cases m),
           );
         }
 
     -- a fresh number was not used
-    pub fresh-unused : (n : ℕ) → isFresh width w n ≡ true → Mem n used → ⊥
-    fresh-unused n e m =
-        let f = verdict width wide w n .fresh e in
+    pub fresh-unused-over : (n : ℕ) → isFreshOver width w n ≡ true → Mem n used → ⊥
+    fresh-unused-over n e m =
+        let f = verdict-over width wide w n .fresh e in
         let h = a .highest in
         let b = used-below used m in
         f .1 (a .marks n (omega (arith, f .0)) .1 m)
 
     -- one that was not used is fresh while the window reaches it
-    pub unused-fresh : (n : ℕ) → (Mem n used → ⊥) → above used ≤ n + width → isFresh width w n ≡ true
-    unused-fresh n unused l =
+    pub unused-fresh-over : (n : ℕ) → (Mem n used → ⊥) → above used ≤ n + width → isFreshOver width w n ≡ true
+    unused-fresh-over n unused l =
         let h = a .highest in
-        fresh-is width wide w n (omega arith) (λ m. unused (a .marks n l .0 m))
+        fresh-is-over width wide w n (omega arith) (λ m. unused (a .marks n l .0 m))
 
   -- bit 0 is the mark of the highest
   first-bit : (w : ReplayWindow) (k : ℕ) → k ≡ 0 → bit (w .window) k ≡ w .window % 2
   unfolding bit
   first-bit w k e = ap (λ (x : ℕ). w .window / 2 ^ x % 2) e ∙ ap (λ (x : ℕ). x % 2) (div-one (w .window))
 
-  pub expects : {w : ReplayWindow} (used : List ℕ) → Agrees width w used → expected w ≡ above used
+  pub expects-over : {w : ReplayWindow} (used : List ℕ) → AgreesOver width w used → expected w ≡ above used
   unfolding expected
-  expects {w} [] a =
+  expects-over {w} [] a =
       let h = a .highest in
       let unset : w .window % 2 ≡ 1 → ⊥ = λ e. elim (a .marks 0 (omega arith) .0 (omega arith, omega arith, first-bit w (w .«max_seq» - 0) (omega arith) ∙ e)) [ ] in
       if-false _ _ (ne-eqb _ _ unset)
-  expects {w} (n ∷ used) a =
+  expects-over {w} (n ∷ used) a =
       let h = a .highest in
       let m = a .marks (above (n ∷ used) - 1) (omega arith) .1 (highest-used n used) in
       let set : w .window % 2 ≡ 1 = sym (first-bit w (w .«max_seq» - (above (n ∷ used) - 1)) (omega arith)) ∙ m .2 in
       if-true _ _ (eq-eqb _ _ set) ∙ omega arith
+
+-- ---- at the width that it has
+
+abbrev pub Agrees : ReplayWindow → List ℕ → Type 0
+Agrees w used = AgreesOver width w used
+
+pub agrees-new : Agrees unmarked []
+agrees-new = agrees-new-over width (omega arith)
+
+module _ {w : ReplayWindow} {used : List ℕ} (a : Agrees w used) where
+  pub agrees-marked : (n : ℕ) → Agrees (marking w n) (n ∷ used)
+  unfolding marking
+  agrees-marked = agrees-marked-over width (omega arith) a
+
+  pub fresh-unused : (n : ℕ) → isFresh w n ≡ true → Mem n used → ⊥
+  unfolding isFresh
+  fresh-unused = fresh-unused-over width (omega arith) a
+
+  pub unused-fresh : (n : ℕ) → (Mem n used → ⊥) → above used ≤ n + width → isFresh w n ≡ true
+  unfolding isFresh
+  unused-fresh = unused-fresh-over width (omega arith) a
+
+pub expects : {w : ReplayWindow} (used : List ℕ) → Agrees w used → expected w ≡ above used
+expects = expects-over width (omega arith)

@@ -1,4 +1,5 @@
--- The replay window (RFC 9147, section 4.5.1; 01, "ReplayWindow"), over the width of its marks.
+-- The replay window (RFC 9147, section 4.5.1; 01, "ReplayWindow"): over any width of its marks, and at the width that it has. Whoever uses
+-- the window names only the second.
 use mathlib.Core.Bool.{Bool, true, false}
 use mathlib.Core.Path.{_≡_}
 use Prim.Native.Nat.{ℕ, _-_, _*_, _%_, _^_, _<_, _≤_}
@@ -8,27 +9,25 @@ use Rattle.base.specs.Bits.{bit}
 use Rattle.base.specs.Choose.{choose}
 use Rattle.window.specs.declared.ReplayWindow.{ReplayWindow}
 
--- how many numbers have a mark: the highest and those below it
-abbrev pub width : ℕ
-width = 64
-
 -- the window that an epoch begins with
 abbrev pub unmarked : ReplayWindow
 unmarked = record { «max_seq» = 0; window = 0 }
 
+-- ---- over any width
+
 -- n is marked: fewer than the width below the highest, or equal to it, with its bit set
-abbrev pub Marked : ℕ → ReplayWindow → ℕ → Type 0
-Marked width w n = (n ≤ w .«max_seq») × (w .«max_seq» - n < width) × (bit (w .window) (w .«max_seq» - n) ≡ 1)
+abbrev pub MarkedOver : ℕ → ReplayWindow → ℕ → Type 0
+MarkedOver width w n = (n ≤ w .«max_seq») × (w .«max_seq» - n < width) × (bit (w .window) (w .«max_seq» - n) ≡ 1)
 
 -- n is above the highest, or fewer than the width below it or equal to it with its mark clear
-unfoldable pub isFresh : ℕ → ReplayWindow → ℕ → Bool
-isFresh width w n =
+unfoldable pub isFreshOver : ℕ → ReplayWindow → ℕ → Bool
+isFreshOver width w n =
     choose (ltb (w .«max_seq») n) true
     (choose (ltb (w .«max_seq» - n) width) (eqb (bit (w .window) (w .«max_seq» - n)) 0) false)
 
 -- the window with n marked; one too old leaves it as it is
-unfoldable pub marking : ℕ → ReplayWindow → ℕ → ReplayWindow
-marking width w n =
+unfoldable pub markingOver : ℕ → ReplayWindow → ℕ → ReplayWindow
+markingOver width w n =
     choose (ltb (w .«max_seq») n)
     (choose (ltb (n - w .«max_seq») width)
     (record { «max_seq» = n; window = bitOr (w .window * 2 ^ (n - w .«max_seq») % 2 ^ width) 1 })
@@ -36,3 +35,22 @@ marking width w n =
     (choose (ltb (w .«max_seq» - n) width)
     (record { «max_seq» = w .«max_seq»; window = bitOr (w .window) (1 * 2 ^ (w .«max_seq» - n) % 2 ^ width) })
     w)
+
+-- ---- at the width that it has
+
+-- how many numbers have a mark: the highest and those below it
+abbrev pub width : ℕ
+width = 64
+
+abbrev pub Marked : ReplayWindow → ℕ → Type 0
+Marked w n = MarkedOver width w n
+
+-- "A number is fresh above the highest, or fewer than 64 below or equal with its mark clear"
+unfoldable pub isFresh : ReplayWindow → ℕ → Bool
+unfolding isFreshOver
+isFresh w n = isFreshOver width w n
+
+-- the window with n marked
+unfoldable pub marking : ReplayWindow → ℕ → ReplayWindow
+unfolding markingOver
+marking w n = markingOver width w n

@@ -1,6 +1,6 @@
 // The replay window, after window.rs.
 ghost use mathlib.Core.Path.{_≡_};
-ghost use Rattle.window.specs.Window.{width, unmarked, isFresh, marking};
+ghost use Rattle.window.specs.Window.{unmarked, isFresh, marking};
 
 // The highest number marked, and the marks of it and the 63 below it: bit k is the mark of max_seq - k.
 pub struct ReplayWindow {
@@ -21,7 +21,7 @@ impl ReplayWindow {
 
     // Whether a number is fresh: neither marked nor too old.
     pub fn check(self, seqno: u64) -> bool
-        ensures { λ r. ⌜ r ≡ isFresh width self seqno ⌝ }
+        ensures { λ r. ⌜ r ≡ isFresh self seqno ⌝ }
     {
         let top = self.max_seq;
         if top < seqno {
@@ -36,7 +36,7 @@ impl ReplayWindow {
 
     // The window with a number marked. Call it only once the record is opened.
     pub fn update(self, seqno: u64) -> Self
-        ensures { λ r. ⌜ r ≡ marking width self seqno ⌝ }
+        ensures { λ r. ⌜ r ≡ marking self seqno ⌝ }
     {
         let top = self.max_seq;
         if top < seqno {
@@ -65,7 +65,7 @@ impl ReplayWindow {
 
 // The window that the caller lends has a number marked, in place.
 pub fn mark(w: &mut ReplayWindow, seqno: u64)
-    ensures { λ _. ⌜ now (w .exit) ≡ marking width (now (w .entry)) seqno ⌝ }
+    ensures { λ _. ⌜ now (w .exit) ≡ marking (now (w .entry)) seqno ⌝ }
 {
     let v = *w;
     *w = v.update(seqno);

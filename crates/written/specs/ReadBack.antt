@@ -11,16 +11,16 @@ use Rattle.incoming.specs.Inner.{innerOf, inner-type}
 use Rattle.incoming.specs.declared.Inner.the-variants as inner
 use Rattle.record.specs.declared.Parsed.the-variants as read
 use Rattle.record.specs.Laws.{unified-back, unified-content, unified-rest, plaintext-back, plaintext-content, plaintext-rest}
-use Rattle.record.specs.Record.{isType, parsed, contentOf, restOf, plaintextHeader, unifiedHeader}
+use Rattle.record.specs.Record.{sealedHead, sealedTail, isType, parsed, contentOf, restOf, plaintextHeader, unifiedHeader}
 use Rattle.queue.specs.Laid.{recordBytes, trailerOf, bytes-plaintext, bytes-ciphertext, length-trailer}
 
 -- a record to be sealed, whatever follows it in its datagram
-module _ (e t n : ℕ) (x r : List ℕ) (sealed : e ≡ 0 → ⊥) (short : length x + 17 < 65536) where
+module _ (e t n : ℕ) (x r : List ℕ) (sealed : e ≡ 0 → ⊥) (short : length x + sealedTail < 65536) where
   -- content, type and room for the tag: what is lent to be sealed
   abbrev body : List ℕ
   body = x ++ trailerOf t e n
 
-  length-body : length body ≡ length x + 17
+  length-body : length body ≡ length x + sealedTail
   length-body = simp (length-append, length-trailer)
 
   fits : length body < 65536
@@ -28,7 +28,7 @@ module _ (e t n : ℕ) (x r : List ℕ) (sealed : e ≡ 0 → ⊥) (short : leng
 
   laid-as : recordBytes e t n x ++ r ≡ unifiedHeader e n (length body) ++ (body ++ r)
   laid-as =
-      ap (λ (d : List ℕ). d ++ r) (bytes-ciphertext sealed t n x) ∙ append-assoc (unifiedHeader e n (length x + 17)) body r
+      ap (λ (d : List ℕ). d ++ r) (bytes-ciphertext sealed t n x) ∙ append-assoc (unifiedHeader e n (length x + sealedTail)) body r
       ∙ ap (λ (k : ℕ). unifiedHeader e n k ++ (body ++ r)) (sym length-body)
 
   -- the low bits of its epoch and number, and its length with type and tag
@@ -36,8 +36,8 @@ module _ (e t n : ℕ) (x r : List ℕ) (sealed : e ≡ 0 → ⊥) (short : leng
     «epoch_bits» = e % 4;
     «s_flag» = true;
     «sequence_number» = n % 2 ^ 16;
-    «header_len» = 5;
-    length = length x + 17;
+    «header_len» = sealedHead;
+    length = length x + sealedTail;
   })
   sealed-back =
       ap parsed laid-as ∙ unified-back e n body r fits
@@ -45,7 +45,7 @@ module _ (e t n : ℕ) (x r : List ℕ) (sealed : e ≡ 0 → ⊥) (short : leng
         «epoch_bits» = e % 4;
         «s_flag» = true;
         «sequence_number» = n % 2 ^ 16;
-        «header_len» = 5;
+        «header_len» = sealedHead;
         length = length-body i;
       })
 
