@@ -13,8 +13,9 @@ ghost use Rattle.flight_words.specs.Words.{saved-at, flightOf, flatTo};
 ghost use Rattle.ack_steps.specs.Steps.{notesOf, tabled, noting, SendsAck, Flights, actedOn};
 use acks::NoteAnswer;
 use flight_words::SAVED;
-use send_keys::SendAnswer;
 use process_ack::Tally;
+use record::ACK;
+use send_keys::SendAnswer;
 use send_words::APPLICATION;
 use send_words::WORDS;
 
@@ -85,7 +86,7 @@ fn send_from(
     let start = 0;
     let end = 2 + n * 16;
     write_content(&mut buffer[start..end], n, epochs, numbers);
-    send_steps::send(w, ack_epoch(w), 26, &buffer[start..end], queue)
+    send_steps::send(w, ack_epoch(w), ACK, &buffer[start..end], queue)
 }
 
 fn send_noted(

@@ -5,8 +5,8 @@ ghost use lib.ListN.{length};
 ghost use Rattle.base.specs.Bytes.{be};
 ghost use Rattle.base.specs.Parts.{splice};
 ghost use Rattle.acks.specs.Acks.{pairOf};
-use send_keys::SendAnswer;
 use outgoing::Sending;
+use send_keys::SendAnswer;
 
 // Epochs and numbers of the records noted, in the order of noting.
 pub struct Notes {

@@ -3,8 +3,8 @@ ghost use mathlib.Core.Path.{_≡_};
 ghost use Prim.Native.Nat.{_*_, _≤_, _<_};
 ghost use lib.ListN.{length};
 ghost use Rattle.flight.specs.Flight.{counted, isKept};
-use send_keys::SendAnswer;
 use outgoing::Sending;
+use send_keys::SendAnswer;
 
 // A saved record: its content type, epoch, number and length; whether it was acknowledged; how many earlier numbers it remembers.
 pub struct Entry {

@@ -26,7 +26,9 @@ use link_words::WORDS;
 use opening_reply::Cancelled;
 use opening_reply::Opening;
 use record::Ciphertext;
+use record::PLAINTEXT_HEADER_LEN;
 use record::Parsed;
+use record::TAG_LEN;
 use recv_keys::Found;
 
 // What a reply to an opening question leads to: a step, and whether a number is marked, at which entry.
@@ -92,7 +94,7 @@ fn one_record(w: &[u64; WORDS], b: Datagram, d: &[u8]) -> Step
     ensures { λ t. ⌜ t ≡ stepOf (parsed (now (d .entry))) (keysOf (now (w .entry))) b ⌝ }
 {
     let p = record::parse(d);
-    let start = b.at + 13;
+    let start = b.at + PLAINTEXT_HEADER_LEN;
     match p {
         Parsed::End => datagram::end(b, Reading::End),
         Parsed::Incomplete => datagram::end(b, Reading::Incomplete),
@@ -227,7 +229,7 @@ fn open_yes(b: Datagram, a: Ask, number: u64, i: usize, len: usize, d: &[u8]) ->
     requires { ⌜ (i < 5) × (16 ≤ a .length) × (b .at + a .«header_len» + a .length ≤ 16384) ⌝ }
     ensures { λ r. ⌜ ((k : RecvKeys) → opens r k ≡ openedAt i (Opening.Yes len) k b a number (now (d .entry))) × (r .place < 5) ⌝ }
 {
-    if len == a.length - 16 {
+    if len == a.length - TAG_LEN {
         let start = b.at + a.header_len;
         let inner = incoming::find_inner_content_type(base::fragment(d, start, len));
         return Opened {

@@ -14,6 +14,8 @@ ghost use Rattle.message_steps.specs.Create.{pieceIn, Pieces, Creates};
 use flight_words::SAVED;
 use messages::Cut;
 use messages::Plan;
+use record::HANDSHAKE;
+use record::MAX_BODY;
 use send_keys::SendAnswer;
 use send_words::LIMIT;
 use send_words::MESSAGE;
@@ -49,7 +51,7 @@ fn message_answer(
     if !flight::has_room(saved, w[MTU] as usize, kept) {
         return SendAnswer::OutOfRange;
     }
-    if 16384 < n {
+    if MAX_BODY < n {
         return SendAnswer::BadRecord;
     }
     if !send_steps::is_keyed(w, epoch) {
@@ -81,14 +83,14 @@ fn send_piece(
     let seq = words::low(w[MESSAGE]);
     let n = 12 + size;
     let saved = f[SAVED] as usize;
-    let v = save_steps::save_answer(w, saved, memory.len(), kept.len(), epoch, 22, n);
+    let v = save_steps::save_answer(w, saved, memory.len(), kept.len(), epoch, HANDSHAKE, n);
     let a = v.answer;
     let p = v.place;
     if send_keys::is_done(a) {
         let from = saved * (w[MTU] as usize);
         let end = from + n;
         messages::write_content(&mut kept[from..end], kind, seq, body, at, size);
-        save_steps::lay_saved(w, f, p, epoch, 22, &kept[from..end], memory);
+        save_steps::lay_saved(w, f, p, epoch, HANDSHAKE, &kept[from..end], memory);
         return a;
     }
     a

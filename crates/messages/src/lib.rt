@@ -7,10 +7,11 @@ ghost use lib.Dec as tests;
 ghost use Rattle.queue.specs.Queue.{Tailed};
 ghost use Rattle.messages.specs.Cut.{epochOf, pieceSize, cutNext, planCount, planReach, Sound};
 use handshake::Header;
+use queue::Tail;
+use record::LAST_NUMBER;
+use send_keys::SendAnswer;
 ghost use Rattle.send_keys.specs.Keys.{used};
 ghost use Rattle.messages.specs.Message.{contentOf, planAnswer};
-use send_keys::SendAnswer;
-use queue::Tail;
 
 // What is left to cut: the queue's end, and the bytes of the body that are left.
 pub struct Cut {
@@ -128,10 +129,10 @@ fn is_over(next: u64, count: usize) -> bool
     requires { ⌜ count ≤ 13 ⌝ }
     ensures { λ r. ⌜ r ≡ tests.ltb 281474976710655 (next + count) ⌝ }
 {
-    if 281474976710655 < next {
+    if LAST_NUMBER < next {
         return true;
     }
-    281474976710655 < next + count as u64
+    LAST_NUMBER < next + count as u64
 }
 
 // Whether flight, queue and numbers have room for what was planned.

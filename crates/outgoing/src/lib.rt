@@ -3,7 +3,6 @@ ghost use mathlib.Core.Path.{_≡_};
 ghost use Prim.Native.Nat.{_<_};
 ghost use lib.ListN.{length};
 ghost use Rattle.send_keys.specs.declared.SendKeys.{SendKeys};
-ghost use Rattle.record.specs.Record.{isType};
 ghost use Rattle.outgoing.specs.State.{noWaiting, isContentType, isAllowed};
 use queue::Queue;
 use send_keys::SendAnswer;
@@ -50,29 +49,17 @@ pub fn no_waiting() -> Waiting
     }
 }
 
-fn is_plaintext_type(t: u8) -> bool
-    ensures { λ r. ⌜ r ≡ isType t ⌝ }
-{
-    if t == 21 {
-        return true;
-    }
-    if t == 22 {
-        return true;
-    }
-    t == 26
-}
-
 // Whether a record of this type may be sent in an epoch: application data is never in plaintext.
 fn is_content_type(epoch: u16, t: u8) -> bool
     ensures { λ r. ⌜ r ≡ isContentType epoch t ⌝ }
 {
-    if is_plaintext_type(t) {
+    if record::is_type(t) {
         return true;
     }
     if epoch == 0 {
         return false;
     }
-    t == 23
+    t == record::APPLICATION_DATA
 }
 
 // Whether type and length are allowed.
@@ -80,10 +67,9 @@ pub fn is_allowed(mtu: usize, epoch: u16, t: u8, n: usize) -> bool
     ensures { λ r. ⌜ r ≡ isAllowed mtu epoch t n ⌝ }
 {
     if is_content_type(epoch, t) {
-        if n <= 16384 {
+        if n <= record::MAX_BODY {
             return queue::record_len(epoch, n) <= mtu;
         }
     }
     false
 }
-

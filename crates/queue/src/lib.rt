@@ -7,6 +7,10 @@ ghost use Rattle.base.specs.Parts.{splice};
 ghost use Rattle.record.specs.Record.{plaintextHeader, unifiedHeader};
 ghost use Rattle.queue.specs.Queue.{isSetting, slotOf, placeOf, Tailed};
 ghost use Rattle.queue.specs.Laid.{trailerOf, recordLen, recordBytes};
+use record::PLAINTEXT_HEADER_LEN;
+use record::SEALED_HEADER_LEN;
+use record::SEALED_OVERHEAD;
+use record::SEALED_TAIL_LEN;
 
 // Settings, the ring's first slot, how many datagrams wait in it, whether the last is closed to further records, and the length
 // of the datagram in each slot.
@@ -144,7 +148,7 @@ pub fn copy_short(src: &[u8], dst: &mut [u8])
 }
 
 // What follows the content of a record that waits for its sealing: its type, and in the tag's place its epoch and number.
-fn trailer(content_type: u8, epoch: u16, number: u64) -> [u8; 17]
+fn trailer(content_type: u8, epoch: u16, number: u64) -> [u8; SEALED_TAIL_LEN]
     ensures { λ r. ⌜ r ≡ trailerOf «content_type» epoch number ⌝ }
 {
     [
@@ -174,7 +178,7 @@ fn lay_plaintext(d: &mut [u8], at: usize, content_type: u8, number: u64, content
     ensures { λ _. ⌜ now (d .exit) ≡ splice at (plaintextHeader «content_type» number (length (now (content .entry))) ++ now (content .entry)) (now (d .entry)) ⌝ }
 {
     let n = content.len();
-    let inner = at + 13;
+    let inner = at + PLAINTEXT_HEADER_LEN;
     let end = inner + n;
     let header = headers::plaintext_header(content_type, number, n as u16);
     copy(&header, &mut d[at..inner]);
@@ -194,10 +198,10 @@ fn lay_ciphertext(
     ensures { λ _. ⌜ now (d .exit) ≡ splice at (unifiedHeader epoch number (length (now (content .entry)) + 17) ++ (now (content .entry) ++ trailerOf «content_type» epoch number)) (now (d .entry)) ⌝ }
 {
     let n = content.len();
-    let inner = at + 5;
+    let inner = at + SEALED_HEADER_LEN;
     let end = inner + n;
-    let after = end + 17;
-    let header = headers::unified_header(epoch, number, (n + 17) as u16);
+    let after = end + SEALED_TAIL_LEN;
+    let header = headers::unified_header(epoch, number, (n + SEALED_TAIL_LEN) as u16);
     let behind = trailer(content_type, epoch, number);
     copy(&header, &mut d[at..inner]);
     copy_short(content, &mut d[inner..end]);
@@ -210,9 +214,9 @@ pub fn record_len(epoch: u16, n: usize) -> usize
     ensures { λ r. ⌜ r ≡ recordLen epoch n ⌝ }
 {
     if epoch == 0 {
-        return n + 13;
+        return n + PLAINTEXT_HEADER_LEN;
     }
-    n + 22
+    n + SEALED_OVERHEAD
 }
 
 // A record written from a place on: epoch 0 in plaintext, any other to be sealed.

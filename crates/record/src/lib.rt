@@ -23,6 +23,26 @@ pub const DTLS1_2: [u8; 2] = [0xFE, 0xFD];
 
 // Bytes of a plaintext header: type 1, version 2, epoch 2, number 6, length 2.
 pub const PLAINTEXT_HEADER_LEN: usize = 13;
+// A sealed header as it is written: flags, two number bytes, two length bytes.
+pub const SEALED_HEADER_LEN: usize = 5;
+
+pub const TAG_LEN: usize = 16;
+// What a sealed record has behind its content: the type and the tag.
+pub const SEALED_TAIL_LEN: usize = 1 + TAG_LEN;
+// What sealing adds to a content.
+pub const SEALED_OVERHEAD: usize = SEALED_HEADER_LEN + SEALED_TAIL_LEN;
+// The largest body.
+pub const MAX_BODY: usize = 16384;
+// 2^48 - 1: no record is sent under it.
+pub const LAST_NUMBER: u64 = 281474976710655;
+
+pub const ALERT: u8 = 21;
+
+pub const HANDSHAKE: u8 = 22;
+
+pub const APPLICATION_DATA: u8 = 23;
+
+pub const ACK: u8 = 26;
 
 pub struct Plaintext {
     pub content_type: u8,
@@ -104,16 +124,17 @@ fn parse_ciphertext(d: &[u8], flags: u8) -> Parsed
     })
 }
 
-fn is_type(t: u8) -> bool
+// The types that a plaintext record may have.
+pub fn is_type(t: u8) -> bool
     ensures { λ r. ⌜ r ≡ isType t ⌝ }
 {
-    if t == 21 {
+    if t == ALERT {
         return true;
     }
-    if t == 22 {
+    if t == HANDSHAKE {
         return true;
     }
-    t == 26
+    t == ACK
 }
 
 fn is_version(a: u8, b: u8) -> bool

@@ -10,9 +10,11 @@ ghost use Rattle.resend.specs.Tests.{remembers, hasRoom, joined, surveye
 ghost use Rattle.resend.specs.Resend.{canRemember, newEntry, newTable, sentEntry, sentTable};
 use flight::Entry;
 use flight::Flight;
-use send_keys::SendAnswer;
 use outgoing::Sending;
 use queue::Tail;
+use record::HANDSHAKE;
+use record::LAST_NUMBER;
+use send_keys::SendAnswer;
 
 pub struct Resent {
     pub answer: SendAnswer,
@@ -40,7 +42,7 @@ pub struct Survey {
 fn remembers(e: Entry) -> bool
     ensures { λ r. ⌜ r ≡ remembers e ⌝ }
 {
-    if e.content_type == 22 {
+    if e.content_type == HANDSHAKE {
         return 2 <= e.epoch;
     }
     false
@@ -117,10 +119,10 @@ pub fn is_over(next: u64, count: usize) -> bool
     if count == 0 {
         return false;
     }
-    if 281474976710655 < next {
+    if LAST_NUMBER < next {
         return true;
     }
-    281474976710655 < next + count as u64
+    LAST_NUMBER < next + count as u64
 }
 
 // Whether a record's present number is to be remembered, and a cell is free for it.

@@ -12,8 +12,8 @@ ghost use Rattle.flight_words.specs.Words as flights;
 ghost use Rattle.save_steps.specs.Save.{fullAnswer, Judged, Adds, Saves};
 use flight::Entry;
 use flight_words::SAVED;
-use send_keys::SendAnswer;
 use queue::Place;
+use send_keys::SendAnswer;
 use send_steps::Verdict;
 use send_words::MTU;
 

@@ -12,6 +12,7 @@ ghost use Rattle.send_words.specs.Words.{queueOf, stateOf};
 ghost use Rattle.send_words.specs.Partly.{Partly};
 ghost use Rattle.seal_steps.specs.Settles.{settled};
 use outgoing::Waiting;
+use record::SEALED_HEADER_LEN;
 use sealing::Question;
 use sealing::SealAnswer;
 use sealing::SealQuestion;
@@ -72,7 +73,7 @@ fn part_start(w: &[u64; WORDS]) -> usize
     requires { ⌜ Held (stateOf (now w)) ⌝ }
     ensures { λ r. ⌜ r ≡ partStart (stateOf (now (w .entry))) ⌝ }
 {
-    w[SEALING_SLOT] as usize * w[MTU] as usize + w[SEALING_START] as usize + 5
+    w[SEALING_SLOT] as usize * w[MTU] as usize + w[SEALING_START] as usize + SEALED_HEADER_LEN
 }
 
 // Whether a sealing is asked for and the queue is lent whole.
@@ -225,7 +226,7 @@ fn behind_oldest(w: &[u64; WORDS]) -> Search
     Search {
         done: false,
         datagram: nth,
-        offset: w[SEALING_START] as usize + 5 + w[SEALING_LENGTH] as usize,
+        offset: w[SEALING_START] as usize + SEALED_HEADER_LEN + w[SEALING_LENGTH] as usize,
         found: found,
     }
 }
@@ -254,7 +255,7 @@ fn reply(w: &mut [u64; WORDS], mask: [u8; 2], memory: &mut [u8])
 {
     let x = send_words::waiting_of(w);
     let inner = part_start(w);
-    let from = inner - 5;
+    let from = inner - SEALED_HEADER_LEN;
     let next = seek_from(w, memory, behind_oldest(w));
     let header = sealing::masked_header(x.epoch, x.number, x.length as u16, mask);
     queue::copy(&header, &mut memory[from..inner]);

@@ -7,6 +7,18 @@ ghost use Rattle.sealing.specs.Seek.{nthOf, beyond, passed, stepOf};
 ghost use Rattle.sealing.specs.Sealing.{refusal, isSpan, nothingAsked, maskedHeader, isSealed};
 use outgoing::Sending;
 use outgoing::Waiting;
+use record::LAST_NUMBER;
+use record::PLAINTEXT_HEADER_LEN;
+use record::SEALED_HEADER_LEN;
+use record::SEALED_TAIL_LEN;
+use record::TAG_LEN;
+
+// Of a record with n bytes behind its header, the tag begins at n less this, and the number in its place two bytes on.
+const TAG_BEHIND: usize = TAG_LEN - SEALED_HEADER_LEN;
+
+const NUMBER_BEHIND: usize = TAG_BEHIND - 2;
+// Where a plaintext header has its length.
+const LENGTH_AT: usize = PLAINTEXT_HEADER_LEN - 2;
 
 // A search for the next record that waits: whether it is over, the datagram and the offset that it has come to, what it found.
 pub struct Search {
@@ -33,7 +45,7 @@ pub enum SealQuestion {
 pub struct Question {
     pub question: SealQuestion,
     pub nonce: [u8; 12],
-    pub header: [u8; 5],
+    pub header: [u8; SEALED_HEADER_LEN],
 }
 
 pub enum SealAnswer {
@@ -81,18 +93,18 @@ fn found_at(d: &[u8], slot: usize, c: Search) -> Search
     ensures { λ t. ⌜ t ≡ stepOf (parsed (now (d .entry))) (now (d .entry)) slot c ⌝ }
 {
     let size = d.len();
-    if size < 5 {
+    if size < SEALED_HEADER_LEN {
         return go_beyond(c);
     }
     let n = base::be16(d, 3) as usize;
-    if size - 5 < n {
+    if size - SEALED_HEADER_LEN < n {
         return go_beyond(c);
     }
-    if n < 17 {
+    if n < SEALED_TAIL_LEN {
         return go_beyond(c);
     }
-    let epoch = base::be16(d, n - 11) as u16;
-    let number = base::be48(d, n - 9);
+    let epoch = base::be16(d, n - TAG_BEHIND) as u16;
+    let number = base::be48(d, n - NUMBER_BEHIND);
     Search {
         done: true,
         datagram: c.datagram,
@@ -117,7 +129,7 @@ fn go_past(c: Search, n: usize) -> Search
     Search {
         done: false,
         datagram: c.datagram,
-        offset: c.offset + (13 + n),
+        offset: c.offset + (PLAINTEXT_HEADER_LEN + n),
         found: found,
     }
 }
@@ -128,11 +140,11 @@ fn plain_at(d: &[u8], slot: usize, c: Search) -> Search
     ensures { λ t. ⌜ t ≡ stepOf (parsed (now (d .entry))) (now (d .entry)) slot c ⌝ }
 {
     let size = d.len();
-    if size < 13 {
+    if size < PLAINTEXT_HEADER_LEN {
         return go_beyond(c);
     }
-    let n = base::be16(d, 11) as usize;
-    if size - 13 < n {
+    let n = base::be16(d, LENGTH_AT) as usize;
+    if size - PLAINTEXT_HEADER_LEN < n {
         return go_beyond(c);
     }
     go_past(c, n)
@@ -167,7 +179,7 @@ pub fn is_span(w: Waiting, mtu: usize, limit: usize) -> bool
     if limit <= w.slot {
         return false;
     }
-    if w.length < 17 {
+    if w.length < SEALED_TAIL_LEN {
         return false;
     }
     if mtu < w.start {
@@ -176,10 +188,10 @@ pub fn is_span(w: Waiting, mtu: usize, limit: usize) -> bool
     if mtu < w.length {
         return false;
     }
-    if mtu < w.start + 5 + w.length {
+    if mtu < w.start + SEALED_HEADER_LEN + w.length {
         return false;
     }
-    w.number < 281474976710655
+    w.number < LAST_NUMBER
 }
 
 pub fn nothing(q: SealQuestion) -> Question
@@ -188,14 +200,14 @@ pub fn nothing(q: SealQuestion) -> Question
     Question {
         question: q,
         nonce: [0; 12],
-        header: [0; 5],
+        header: [0; SEALED_HEADER_LEN],
     }
 }
 
 // ---- the reply
 
 // The header of a record with the mask on its number.
-pub fn masked_header(epoch: u16, number: u64, length: u16, mask: [u8; 2]) -> [u8; 5]
+pub fn masked_header(epoch: u16, number: u64, length: u16, mask: [u8; 2]) -> [u8; SEALED_HEADER_LEN]
     ensures { λ r. ⌜ r ≡ maskedHeader epoch number length mask ⌝ }
 {
     [

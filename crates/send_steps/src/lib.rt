@@ -10,10 +10,12 @@ ghost use Rattle.send_words.specs.Words.{queueOf, stateOf};
 ghost use Rattle.send_words.specs.Partly.{Partly, withWaiting};
 ghost use Rattle.send_steps.specs.Steps.{endAt, waits, Judged, Lays};
 ghost use Rattle.send_steps.specs.Sends.{Sends};
-use send_keys::SendAnswer;
 use outgoing::Waiting;
 use queue::Place;
 use queue::Tail;
+use record::LAST_NUMBER;
+use record::SEALED_TAIL_LEN;
+use send_keys::SendAnswer;
 use send_words::APPLICATION;
 use send_words::APPLICATION_NEXT;
 use send_words::CLOSED;
@@ -185,7 +187,7 @@ pub fn send_answer(w: &[u64; WORDS], room: usize, epoch: u16, t: u8, n: usize) -
     if w[LIMIT] as usize <= p.datagram {
         return refused(SendAnswer::QueueFull);
     }
-    if 281474976710655 <= next_of(w, epoch) {
+    if LAST_NUMBER <= next_of(w, epoch) {
         return refused(SendAnswer::NumbersSpent);
     }
     Verdict {
@@ -232,7 +234,7 @@ fn wait_for(w: &mut [u64; WORDS], epoch: u16, n: usize, slot: usize, start: usiz
             any: true,
             slot: slot,
             start: start,
-            length: n + 17,
+            length: n + SEALED_TAIL_LEN,
             epoch: epoch,
             number: number,
         },
