@@ -1,4 +1,4 @@
-//! Links the driver with the static library of the Rattle crate `leaves`, and the timer with that of `link`.
+//! Links the driver with the static library of the Rattle crate `leaves`, and the timer with that of `huskelapse`.
 
 use std::env;
 
@@ -9,8 +9,8 @@ fn main() {
     println!("cargo:rustc-link-arg-bin=compare={lib}");
     println!("cargo:rerun-if-changed={lib}");
     println!("cargo:rerun-if-env-changed=LEAVES_LIB");
-    let links = env::var("LINK_LIBS").unwrap_or(folder);
-    println!("cargo:rerun-if-env-changed=LINK_LIBS");
-    println!("cargo:rustc-link-arg-bin=bench={links}/liblink.a");
-    println!("cargo:rerun-if-changed={links}/liblink.a");
+    let links = env::var("HUSKELAPSE_LIB").unwrap_or(folder);
+    println!("cargo:rerun-if-env-changed=HUSKELAPSE_LIB");
+    println!("cargo:rustc-link-arg-bin=bench={links}/libhuskelapse.a");
+    println!("cargo:rerun-if-changed={links}/libhuskelapse.a");
 }
