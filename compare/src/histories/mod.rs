@@ -1,4 +1,4 @@
-//! Whole histories of receiving: their steps, and what the Rust answers to them as lines of text.
+//! Whole histories of receiving: their steps, and what the Rust answers to them as lines.
 //! compare/README.md has the layout of the lines.
 
 pub mod between;
@@ -8,7 +8,6 @@ pub mod reference;
 
 pub use crate::crypto::script::Reply;
 use crate::beside::Line;
-use crate::leaves::hex;
 
 /// A step of a history.
 #[derive(Debug, Clone, PartialEq, Eq)]
@@ -89,7 +88,7 @@ impl Answer {
         }
     }
 
-    pub fn line(&self, letter: char) -> String {
+    pub fn bytes(&self) -> Vec<u8> {
         let mut bytes = vec![self.refusal, self.kind, self.reason];
         bytes.extend_from_slice(&self.epoch.to_be_bytes());
         bytes.extend_from_slice(&self.number.to_be_bytes());
@@ -98,7 +97,7 @@ impl Answer {
         bytes.extend_from_slice(&self.nonce);
         bytes.extend_from_slice(&(self.shown.len() as u16).to_be_bytes());
         bytes.extend_from_slice(&self.shown);
-        format!("{letter} {}", hex(&bytes))
+        bytes
     }
 }
 
@@ -122,8 +121,9 @@ impl Run {
             self.handed.push(answer.clone());
         }
         self.lines.push(Line {
-            asked: format!("{letter} {}", hex(input)),
-            answered: answer.line(letter),
+            letter,
+            asked: input.to_vec(),
+            answered: answer.bytes(),
         });
     }
 }

@@ -146,6 +146,7 @@ fn main() -> ExitCode {
     let mut lines = Vec::new();
     let mut failures = 0;
     for leaf in LEAVES {
+        eprintln!("leaves: {} {}", leaf.letter, leaf.name);
         let mut comparison = Comparison {
             leaf,
             answers: Answers {
