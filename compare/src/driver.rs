@@ -83,8 +83,11 @@ pub fn many<T: Tally>(
     });
     let mut sum = T::default();
     tallies?.iter().for_each(|tally| sum.add(tally));
-    let differs = many.differs.into_inner();
-    Ok(((differs < total).then_some(differs), sum))
+    let differs = Some(many.differs.into_inner()).filter(|history| *history < total);
+    if let Some(history) = differs {
+        eprintln!("{what}: history {history} differs; looking for the smallest that does");
+    }
+    Ok((differs, sum))
 }
 
 /// As many as the environment says, else as the machine has processors.

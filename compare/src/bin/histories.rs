@@ -37,63 +37,72 @@ fn without(history: &History, step: usize, taken: Range<usize>, first: usize) ->
     other
 }
 
+/// Takes whole records from the front of a datagram, with the replies to them; then from its end.
+fn cut(side: &dyn Answers, history: &mut History, step: usize) -> io::Result<()> {
+    let Step::Datagram { bytes, replies } = &history.steps[step] else {
+        return Ok(());
+    };
+    let (length, asked) = (bytes.len().min(500), replies.len().min(3));
+    let fronts = (0..=asked).flat_map(|n| (1..=length).rev().map(move |m| (0..m, n)));
+    for (taken, replies) in fronts {
+        let other = without(history, step, taken, replies);
+        if try_instead(side, history, other)? {
+            break;
+        }
+    }
+    for end in 0..length {
+        let other = without(history, step, end..usize::MAX, 0);
+        if try_instead(side, history, other)? {
+            break;
+        }
+    }
+    Ok(())
+}
+
+/// Takes parts of a datagram out, long ones first.
+fn thin(side: &dyn Answers, history: &mut History, step: usize) -> io::Result<()> {
+    let mut size = 64;
+    while size > 0 {
+        let mut at = 0;
+        while let Step::Datagram { bytes, .. } = &history.steps[step]
+            && at + size <= bytes.len()
+        {
+            let other = without(history, step, at..at + size, 0);
+            if !try_instead(side, history, other)? {
+                at += size;
+            }
+        }
+        size /= 2;
+    }
+    Ok(())
+}
+
+/// Takes the last replies about a datagram away.
+fn forget_replies(side: &dyn Answers, history: &mut History, step: usize) -> io::Result<()> {
+    loop {
+        let mut other = history.clone();
+        if let Step::Datagram { replies, .. } = &mut other.steps[step] {
+            replies.pop();
+        }
+        if !try_instead(side, history, other)? {
+            return Ok(());
+        }
+    }
+}
+
 /// Drops steps, then bytes of datagrams, for as long as the history differs.
 fn shrink(side: &dyn Answers, mut history: History) -> io::Result<History> {
     loop {
         let before = history.clone();
-        let (min_protected, between) = (history.min_protected, history.between);
+        let mut other = history.clone();
         beside::drop_steps(&mut history.steps, |steps| {
-            let other = History {
-                min_protected,
-                between,
-                steps: steps.to_vec(),
-            };
+            other.steps = steps.to_vec();
             fails(side, &other)
         })?;
         for i in 0..history.steps.len() {
-            let Step::Datagram { bytes, replies } = &history.steps[i] else {
-                continue;
-            };
-            let (length, asked) = (bytes.len(), replies.len());
-            // Whole records from the front, with the replies to them; then from the end.
-            let fronts =
-                (0..=asked.min(3)).flat_map(|n| (1..=length.min(500)).rev().map(move |m| (m, n)));
-            for (bytes, replies) in fronts {
-                let other = without(&history, i, 0..bytes, replies);
-                if try_instead(side, &mut history, other)? {
-                    break;
-                }
-            }
-            for cut in 0..length.min(500) {
-                let other = without(&history, i, cut..usize::MAX, 0);
-                if try_instead(side, &mut history, other)? {
-                    break;
-                }
-            }
-            let mut size = 64;
-            while size > 0 {
-                let mut at = 0;
-                while let Step::Datagram { bytes, .. } = &history.steps[i]
-                    && at + size <= bytes.len()
-                {
-                    let other = without(&history, i, at..at + size, 0);
-                    if !try_instead(side, &mut history, other)? {
-                        at += size;
-                    }
-                }
-                size /= 2;
-            }
-            while let Step::Datagram { replies, .. } = &history.steps[i]
-                && !replies.is_empty()
-            {
-                let mut other = history.clone();
-                if let Step::Datagram { replies, .. } = &mut other.steps[i] {
-                    replies.pop();
-                }
-                if !try_instead(side, &mut history, other)? {
-                    break;
-                }
-            }
+            cut(side, &mut history, i)?;
+            thin(side, &mut history, i)?;
+            forget_replies(side, &mut history, i)?;
         }
         if history == before {
             return Ok(history);

@@ -6,8 +6,8 @@ pub mod generate;
 pub mod limits;
 pub mod reference;
 
-pub use crate::crypto::script::Reply;
 use crate::beside::Line;
+pub use crate::crypto::script::Reply;
 
 /// A step of a history.
 #[derive(Debug, Clone, PartialEq, Eq)]

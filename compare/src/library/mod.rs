@@ -44,6 +44,9 @@ impl Answers for Sending {
     }
 }
 
+/// The kind of an answer where a call that does the work of two, or the same in place, does not do what they do.
+const OTHERWISE: u8 = 255;
+
 /// The bytes of a step, read from the front.
 struct Input<'a>(&'a [u8]);
 

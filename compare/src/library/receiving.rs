@@ -2,7 +2,7 @@
 
 use huskelapse::ffi::{self, LinkReading, RECEIVING_WORDS};
 
-use super::{Input, part};
+use super::{Input, OTHERWISE, part};
 use crate::histories::{Answer, DROPPED, END};
 
 /// A datagram has at most so many bytes.
@@ -23,6 +23,8 @@ pub struct Host {
     datagram: Vec<u8>,
     /// Where the protected part lies that an opening question which waits asks about, and its length.
     opening: Option<(usize, usize)>,
+    /// What `link_begin_read` said of the datagram just begun, and the words that it left.
+    at_once: Option<(LinkReading, [u64; RECEIVING_WORDS])>,
 }
 
 impl Host {
@@ -31,6 +33,7 @@ impl Host {
             state: [0; RECEIVING_WORDS],
             datagram: Vec::new(),
             opening: None,
+            at_once: None,
         };
         host.fresh(16);
         host
@@ -38,6 +41,9 @@ impl Host {
 
     pub fn step(&mut self, letter: char, input: &[u8]) -> Answer {
         let mut bytes = Input(input);
+        if letter != 'r' {
+            self.at_once = None;
+        }
         let state = &mut self.state;
         match letter {
             'f' => self.fresh(bytes.u8() as usize),
@@ -83,19 +89,34 @@ impl Host {
         Answer::default()
     }
 
-    /// A datagram that is refused does not take the place of the one before.
+    /// A datagram that is refused does not take the place of the one before. What `link_begin_read` does is looked at beside.
     fn begin(&mut self, datagram: &[u8]) -> Answer {
-        let answer = told(unsafe { ffi::link_begin(&mut self.state, datagram.len()) });
-        if datagram.len() <= LONGEST {
+        let (d, n) = (datagram.as_ptr(), datagram.len());
+        let mut state = self.state;
+        let first = unsafe { ffi::link_begin_read(&mut state, d, n) };
+        let answer = unsafe { ffi::link_begin(&mut self.state, n) };
+        let refused = match first.kind {
+            ffi::REFUSED => first.refusal,
+            _ => 0,
+        };
+        if refused != answer || answer != 0 && state != self.state {
+            return Answer::kind(OTHERWISE);
+        }
+        if n <= LONGEST {
             self.datagram = datagram.to_vec();
             self.opening = None;
+            self.at_once = Some((first, state));
         }
-        answer
+        told(answer)
     }
 
     fn read(&mut self) -> Answer {
         let d = &self.datagram;
         let reading = unsafe { ffi::link_read(&mut self.state, d.as_ptr(), d.len()) };
+        let at_once = self.at_once.take();
+        if at_once.is_some_and(|at_once| at_once != (reading, self.state)) {
+            return Answer::kind(OTHERWISE);
+        }
         self.reading(reading)
     }
 

@@ -1,8 +1,8 @@
 //! The sending side with flight and noted records.
 
-use huskelapse::ffi::{self, FLIGHT_NUMBERS, FLIGHT_WORDS, NOTES, SENDING_WORDS};
+use huskelapse::ffi::{self, FLIGHT_NUMBERS, FLIGHT_WORDS, LinkTake, NOTES, SENDING_WORDS};
 
-use super::{Input, part};
+use super::{Input, OTHERWISE, part};
 use crate::sendings::{Answer, NOTHING, QUESTION};
 
 /// What lent memory and a lent buffer have at first.
@@ -66,9 +66,7 @@ impl Host {
         let mut bytes = Input(input);
         match letter {
             'f' => self.fresh(bytes),
-            'k' => refused(unsafe {
-                ffi::link_key_send(&mut self.state, bytes.u16(), &bytes.take())
-            }),
+            'k' => self.key(bytes.u16(), bytes.take()),
             'u' => self.set_number(bytes.u16(), bytes.u64()),
             'g' => self.set_message(bytes.u16()),
             'd' => self.send(bytes),
@@ -95,6 +93,10 @@ impl Host {
         self.note_count = [0];
         unsafe { ffi::link_flight(&mut self.flight, &mut self.numbers) };
         refused(unsafe { ffi::link_sending(&mut self.state, mtu, limit) })
+    }
+
+    fn key(&mut self, epoch: u16, iv: [u8; 12]) -> Answer {
+        refused(unsafe { ffi::link_key_send(&mut self.state, epoch, &iv) })
     }
 
     /// The next number of an epoch under which nothing waits, as if those before had been used.
@@ -213,7 +215,10 @@ impl Host {
     fn question(&mut self) -> Answer {
         let q = unsafe { ffi::link_sealing(&self.state) };
         Answer {
-            kind: if q.kind == ffi::SEAL { QUESTION } else { q.kind },
+            kind: match q.kind {
+                ffi::SEAL => QUESTION,
+                kind => kind,
+            },
             epoch: q.epoch,
             number: q.number,
             start: q.start,
@@ -236,11 +241,33 @@ impl Host {
         refused(unsafe { ffi::link_sealed(state, n, mask[0], mask[1], queue, room) })
     }
 
+    /// Whether `link_take_in_place` does the same from the words before; where the buffer was too small, it takes.
+    fn taken_alike(&self, before: &[u64; SENDING_WORDS], t: LinkTake, buffer: &[u8]) -> bool {
+        let mut state = *before;
+        let (queue, room) = (self.queue.as_ptr(), self.queue.len());
+        let p = unsafe { ffi::link_take_in_place(&mut state, queue, room) };
+        if t.refusal == 16 {
+            return p.kind == ffi::TAKEN && p.length == t.length;
+        }
+        let datagram = part(&self.queue, p.start, p.length);
+        let length = if t.kind == ffi::TAKEN { t.length } else { 0 };
+        (p.kind, p.refusal) == (t.kind, t.refusal)
+            && datagram == part(buffer, 0, length)
+            && state == self.state
+    }
+
     fn take(&mut self, length: usize) -> Answer {
         let mut buffer = vec![UNTOUCHED; length];
         let (queue, room) = (self.queue.as_ptr(), self.queue.len());
+        let before = self.state;
         let state = &mut self.state;
         let t = unsafe { ffi::link_take(state, buffer.as_mut_ptr(), length, queue, room) };
+        if !self.taken_alike(&before, t, &buffer) {
+            return Answer {
+                kind: OTHERWISE,
+                ..Answer::default()
+            };
+        }
         Answer {
             kind: t.kind,
             length: t.length,
