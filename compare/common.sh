@@ -80,6 +80,16 @@ quietly() {
     fi
 }
 
+# Runs rt, says which crates it has proved as it goes, and shows all that it wrote if it fails.
+proving() {
+    mkdir -p "$built"
+    if ! (cd "$root" && rt "$@") 2>&1 | tee "$built/log" | { grep --line-buffered -E '^rt: [a-z_]+ proved \([0-9]+ s\)' >&2 || true; }; then
+        cat "$built/log" >&2
+        say "failed: rt $*; $built/log has what it wrote"
+        exit 2
+    fi
+}
+
 # Names what is to be compared, whole: what the environment names, or what rt makes.
 name() {
     local made=$root/target/$2
@@ -87,7 +97,7 @@ name() {
         made=$(realpath "${!1}")
     else
         say "proving and building target/$2 (rt ${*:3}), which takes minutes the first time"
-        (cd "$root" && quietly rt "${@:3}")
+        proving "${@:3}"
     fi
     export "$1=$made"
 }

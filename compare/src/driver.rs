@@ -84,8 +84,10 @@ pub fn many<T: Tally>(
     let mut sum = T::default();
     tallies?.iter().for_each(|tally| sum.add(tally));
     let differs = Some(many.differs.into_inner()).filter(|history| *history < total);
-    if let Some(history) = differs {
-        eprintln!("{what}: history {history} differs; looking for the smallest that does");
+    let seconds = many.begun.elapsed().as_secs();
+    match differs {
+        Some(n) => eprintln!("{what}: history {n} differs; looking for the smallest that does"),
+        None => eprintln!("{what}: all {total} histories agree, {seconds} s"),
     }
     Ok((differs, sum))
 }
@@ -110,7 +112,7 @@ impl Many<'_> {
             }
             let numbers = from..self.total.min(from + CHUNK);
             let count = numbers.end - numbers.start;
-            let unfinished = Unfinished(self);
+            let unfinished = Unfinished(self, from);
             let differs = chunk(numbers, &mut tally)?;
             std::mem::forget(unfinished);
             match differs {
@@ -133,11 +135,14 @@ impl Many<'_> {
     }
 }
 
-/// A chunk that ends by an error or a panic ends the run: no thread begins another.
-struct Unfinished<'a>(&'a Many<'a>);
+/// A chunk, with its first number, that ends by an error or a panic ends the run: no thread begins another.
+struct Unfinished<'a>(&'a Many<'a>, u64);
 
 impl Drop for Unfinished<'_> {
     fn drop(&mut self) {
-        self.0.next.store(self.0.total, SeqCst);
+        let Self(many, from) = self;
+        many.next.store(many.total, SeqCst);
+        let last = many.total.min(*from + CHUNK) - 1;
+        eprintln!("{}: stopped at histories {from} to {last}", many.what);
     }
 }

@@ -89,7 +89,8 @@ impl Answer {
     }
 
     pub fn bytes(&self) -> Vec<u8> {
-        let mut bytes = vec![self.refusal, self.kind, self.reason];
+        let mut bytes = Vec::with_capacity(30 + self.shown.len());
+        bytes.extend_from_slice(&[self.refusal, self.kind, self.reason]);
         bytes.extend_from_slice(&self.epoch.to_be_bytes());
         bytes.extend_from_slice(&self.number.to_be_bytes());
         bytes.push(self.content_type);

@@ -132,7 +132,8 @@ impl Answer {
     }
 
     pub fn bytes(&self) -> Vec<u8> {
-        let mut bytes = vec![self.refusal, self.kind];
+        let mut bytes = Vec::with_capacity(35 + self.shown.len());
+        bytes.extend_from_slice(&[self.refusal, self.kind]);
         bytes.extend_from_slice(&self.epoch.to_be_bytes());
         bytes.extend_from_slice(&self.number.to_be_bytes());
         bytes.extend_from_slice(&(self.start as u16).to_be_bytes());
