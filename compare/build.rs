@@ -1,16 +1,12 @@
-//! Links the driver with the static library of the Rattle crate `leaves`, and the timer with that of `link`.
+//! Links the driver of the leaves with the static library of the Rattle crate `leaves`.
 
 use std::env;
 
 fn main() {
     let root = env::var("CARGO_MANIFEST_DIR").unwrap();
-    let folder = format!("{root}/../target/staticlib");
-    let lib = env::var("LEAVES_LIB").unwrap_or_else(|_| format!("{folder}/libleaves.a"));
+    let made = format!("{root}/../target/staticlib/libleaves.a");
+    let lib = env::var("LEAVES_LIB").unwrap_or(made);
     println!("cargo:rustc-link-arg-bin=compare={lib}");
     println!("cargo:rerun-if-changed={lib}");
     println!("cargo:rerun-if-env-changed=LEAVES_LIB");
-    let links = env::var("LINK_LIBS").unwrap_or(folder);
-    println!("cargo:rerun-if-env-changed=LINK_LIBS");
-    println!("cargo:rustc-link-arg-bin=bench={links}/liblink.a");
-    println!("cargo:rerun-if-changed={links}/liblink.a");
 }

@@ -16,10 +16,15 @@ files=(
 )
 
 missing=0
+features=()
+
+say() {
+    echo "$(basename "$0"): $1" >&2
+}
 
 # Says what is missing, and goes on to the next check.
 lacks() {
-    echo "$(basename "$0"): $1" >&2
+    say "$1"
     missing=1
 }
 
@@ -46,15 +51,13 @@ check_rust() {
     done
 }
 
-# What makes the library and the programs that the environment does not name.
+# What makes the libraries and programs that the environment does not name by these variables.
 check_rattle() {
-    if [ -n "${LEAVES_LIB:-}" ] && [ -n "${READINGS:-}" ] && [ -n "${SENDINGS:-}" ]; then
-        return
-    fi
-    command -v rt >/dev/null || lacks "rt is missing: install the Rattle kit"
-    local crate
-    for crate in "$@"; do
-        [ -d "$root/crates/$crate" ] || lacks "the crate $crate is missing in $root/crates"
+    local variable
+    for variable in "$@"; do
+        if [ -z "${!variable:-}" ] && ! command -v rt >/dev/null; then
+            lacks "rt is missing: install the Rattle kit, or set $variable"
+        fi
     done
 }
 
@@ -72,7 +75,17 @@ quietly() {
     mkdir -p "$built"
     if ! "$@" >"$built/log" 2>&1; then
         cat "$built/log" >&2
-        echo "$(basename "$0"): failed: $1 $2" >&2
+        say "failed: $1 $2; $built/log has what it wrote"
+        exit 2
+    fi
+}
+
+# Runs rt, says which crates it has proved as it goes, and shows all that it wrote if it fails.
+proving() {
+    mkdir -p "$built"
+    if ! (cd "$root" && rt "$@") 2>&1 | tee "$built/log" | { grep --line-buffered -E '^rt: [a-z_]+ proved \([0-9]+ s\)' >&2 || true; }; then
+        cat "$built/log" >&2
+        say "failed: rt $*; $built/log has what it wrote"
         exit 2
     fi
 }
@@ -83,14 +96,24 @@ name() {
     if [ -n "${!1:-}" ]; then
         made=$(realpath "${!1}")
     else
-        (cd "$root" && quietly rt "${@:3}")
+        say "proving and building target/$2 (rt ${*:3}), which takes minutes the first time"
+        proving "${@:3}"
     fi
     export "$1=$made"
 }
 
-# Builds one of the programs.
+# The library that hosts link: what is built links it too.
+link_library() {
+    library=$("$root/include/library") || exit 2
+    HUSKELAPSE_LIB=$(realpath "$(dirname "$library")")
+    export HUSKELAPSE_LIB
+    features=(--features library)
+}
+
+# Builds programs.
 build() {
-    local file copy
+    local file copy bins=()
+    say "building $* (cargo build), which takes about a minute the first time"
     for file in "${files[@]}"; do
         copy=$built/dimpl/$file
         if ! cmp -s "$source/$file" "$copy"; then
@@ -100,7 +123,10 @@ build() {
     done
     # A lock from other versions of the packages would stop an offline build.
     rm -f "$here/Cargo.lock"
-    quietly cargo build --release --offline --bin "$1" \
+    for file in "$@"; do
+        bins+=(--bin "$file")
+    done
+    quietly cargo build --release --offline "${bins[@]}" "${features[@]}" \
         --manifest-path "$here/Cargo.toml" --target-dir "$built" \
         --config 'source.crates-io.replace-with="debian"' \
         --config "source.debian.directory=\"$(crates_of nom)\""

@@ -1,4 +1,4 @@
-/* The record link's C interface: `rt staticlib link` makes its static library, target/staticlib/liblink.a.
+/* The record link's C interface: `rt staticlib huskelapse` makes its static library, target/staticlib/libhuskelapse.a.
  * Plain functions over memory that the host lends: no allocation, no global state, no requirement on the caller but that each pointer
  * leads to what its type or the length beside it says, and that no two of them overlap. A state is words whose meaning the library
  * keeps; whatever stands in them, a call ends with an answer, and refuses by 12 what is no state. Refusals have the numbers of the

@@ -11,17 +11,17 @@ fn main() {
     let folder = env::var_os("HUSKELAPSE_LIB").map(PathBuf::from).unwrap_or_else(|| {
         PathBuf::from(env::var_os("CARGO_MANIFEST_DIR").unwrap()).join("../target/staticlib")
     });
-    let library = folder.join("liblink.a");
+    let library = folder.join("libhuskelapse.a");
     if !library.is_file() {
         stop(&format!(
-            "{} is missing: made by `rt staticlib link` in the repository's root (rt is the Rattle kit), \
+            "{} is missing: made by `rt staticlib huskelapse` in the repository's root (rt is the Rattle kit), \
              or set HUSKELAPSE_LIB to the folder that holds it",
             library.display()
         ));
     }
     println!("cargo:rustc-link-search=native={}", folder.display());
     println!("cargo:rerun-if-changed={}", library.display());
-    println!("cargo:rustc-link-lib=static=link");
+    println!("cargo:rustc-link-lib=static=huskelapse");
 }
 
 fn stop(why: &str) -> ! {

@@ -1,48 +1,107 @@
-//! Runs a Rattle program on scripts, and compares its answers with those expected.
+//! Asks the Rattle the steps of histories, and compares its answers with those expected.
 
 use std::io::{self, Write};
 use std::process::{Command, Stdio};
 
-/// A script is at most this long; a program reads 65,536 bytes.
+use crate::leaves::hex;
+
+/// A script is at most this long as text; a program reads 65,536 bytes.
 pub const MOST: usize = 60_000;
 
-/// One line of a script, and the line that answers it.
+/// One step of a script, and its answer. As text each is the letter, a space and the bytes in lowercase hexadecimal.
 #[derive(Debug, Clone, PartialEq, Eq)]
 pub struct Line {
-    pub asked: String,
-    pub answered: String,
+    pub letter: char,
+    pub asked: Vec<u8>,
+    pub answered: Vec<u8>,
 }
 
 impl Line {
+    /// A step given as text.
+    pub fn unanswered(step: &str) -> Self {
+        let letter = step.chars().next().expect("a step has a letter");
+        Self {
+            letter,
+            asked: bytes(step, letter),
+            answered: Vec::new(),
+        }
+    }
+
+    pub fn step(&self) -> String {
+        format!("{} {}", self.letter, hex(&self.asked))
+    }
+
+    pub fn answer(&self) -> String {
+        format!("{} {}", self.letter, hex(&self.answered))
+    }
+
+    /// How long the step is as text, with its newline.
+    pub fn length(&self) -> usize {
+        3 + 2 * self.asked.len()
+    }
+
     /// 01's number of a refusal, or 0: the first byte of every answer.
     pub fn refusal(&self) -> usize {
-        usize::from_str_radix(&self.answered[2..4], 16).unwrap()
+        self.answered[0] as usize
     }
 }
 
 pub fn script(lines: &[Line]) -> String {
-    lines.iter().map(|line| line.asked.clone() + "\n").collect()
+    lines.iter().map(|line| line.step() + "\n").collect()
 }
 
-/// What the program answers to a script.
-pub fn answers(program: &str, script: &str) -> io::Result<Vec<String>> {
-    let mut child = Command::new(program)
-        .stdin(Stdio::piped())
-        .stdout(Stdio::piped())
-        .spawn()?;
-    // The program reads to the end before it writes.
-    child.stdin.take().unwrap().write_all(script.as_bytes())?;
-    let output = child.wait_with_output()?;
-    if !output.status.success() {
-        return Err(io::Error::other(format!("{program}: {}", output.status)));
+/// How long a script is as text.
+pub fn length(lines: &[Line]) -> usize {
+    lines.iter().map(Line::length).sum()
+}
+
+/// Who answers the steps of a script: the library in this process, or a program.
+pub trait Answers: Sync {
+    /// What is answered to each step, nothing where there is no answer. The steps begin with a fresh state.
+    fn answers(&self, lines: &[Line]) -> io::Result<Vec<Vec<u8>>>;
+}
+
+/// A Rattle program that reads a script and writes an answer a line.
+pub struct Program(pub String);
+
+impl Answers for Program {
+    fn answers(&self, lines: &[Line]) -> io::Result<Vec<Vec<u8>>> {
+        let Self(program) = self;
+        let mut child = Command::new(program)
+            .stdin(Stdio::piped())
+            .stdout(Stdio::piped())
+            .spawn()
+            .map_err(|error| io::Error::other(format!("{program}: {error}")))?;
+        // The program reads to the end before it writes.
+        let mut stdin = child.stdin.take().unwrap();
+        stdin.write_all(script(lines).as_bytes())?;
+        drop(stdin);
+        let output = child.wait_with_output()?;
+        if !output.status.success() {
+            return Err(io::Error::other(format!("{program}: {}", output.status)));
+        }
+        let text = String::from_utf8_lossy(&output.stdout);
+        let said = text.lines().zip(lines);
+        Ok(said.map(|(text, line)| bytes(text, line.letter)).collect())
     }
-    let text = String::from_utf8_lossy(&output.stdout);
-    Ok(text.lines().map(str::to_string).collect())
 }
 
-/// The first line that is answered differently, and how.
-pub fn differs(program: &str, lines: &[Line]) -> io::Result<Option<(usize, String)>> {
-    let mut found = answers(program, &script(lines))?.into_iter();
+/// The bytes of a line with this letter, nothing if it has another form.
+fn bytes(text: &str, letter: char) -> Vec<u8> {
+    let digits = text
+        .strip_prefix(letter)
+        .and_then(|rest| rest.strip_prefix(' '));
+    let digits = digits.unwrap_or_default().as_bytes();
+    let pairs = digits.chunks(2).map(|pair| {
+        let pair = std::str::from_utf8(pair).ok()?;
+        u8::from_str_radix(pair, 16).ok()
+    });
+    pairs.collect::<Option<Vec<u8>>>().unwrap_or_default()
+}
+
+/// The first step that is answered differently, and how.
+pub fn differs(side: &dyn Answers, lines: &[Line]) -> io::Result<Option<(usize, Vec<u8>)>> {
+    let mut found = side.answers(lines)?.into_iter();
     for (i, line) in lines.iter().enumerate() {
         let answer = found.next().unwrap_or_default();
         if answer != line.answered {
@@ -53,8 +112,8 @@ pub fn differs(program: &str, lines: &[Line]) -> io::Result<Option<(usize, Strin
 }
 
 /// Whether a history, if it is not too long, is answered differently.
-pub fn fails(program: &str, lines: &[Line]) -> io::Result<bool> {
-    Ok(script(lines).len() <= MOST && differs(program, lines)?.is_some())
+pub fn fails(side: &dyn Answers, lines: &[Line]) -> io::Result<bool> {
+    Ok(length(lines) <= MOST && differs(side, lines)?.is_some())
 }
 
 /// Drops steps for as long as the history fails.
@@ -79,59 +138,51 @@ pub fn drop_steps<S: Clone>(
     Ok(())
 }
 
-/// Prints a history up to the line that is answered differently.
-pub fn report(program: &str, what: &str, lines: &[Line]) -> io::Result<()> {
+/// Prints a history up to the step that is answered differently.
+pub fn report(side: &dyn Answers, what: &str, lines: &[Line]) -> io::Result<()> {
     println!("{what}: the answers differ");
-    let (at, found) = differs(program, lines)?.unwrap();
+    let (at, found) = differs(side, lines)?.unwrap();
     for line in &lines[..=at] {
-        println!("  step    {}", line.asked);
-        println!("  Rust    {}", line.answered);
+        println!("  step    {}", line.step());
+        println!("  Rust    {}", line.answer());
     }
-    println!("  Rattle  {found}");
+    println!("  Rattle  {} {}", lines[at].letter, hex(&found));
     Ok(())
 }
 
-/// Histories whose scripts fit in one run of the program.
-pub struct Batch<H> {
-    histories: Vec<H>,
+/// Histories, known by their numbers, whose scripts fit in one run of a program.
+#[derive(Default)]
+pub struct Batch {
     lines: Vec<Line>,
     length: usize,
     /// The history of each line.
-    owner: Vec<usize>,
+    owner: Vec<u64>,
 }
 
-impl<H> Default for Batch<H> {
-    fn default() -> Self {
-        Self {
-            histories: Vec::new(),
-            lines: Vec::new(),
-            length: 0,
-            owner: Vec::new(),
-        }
-    }
-}
-
-impl<H> Batch<H> {
+impl Batch {
     /// Adds a history; if there is no room, compares those before it.
-    pub fn add(&mut self, program: &str, history: H, lines: Vec<Line>) -> io::Result<Option<H>> {
-        let length = script(&lines).len();
+    pub fn add(
+        &mut self,
+        side: &dyn Answers,
+        history: u64,
+        lines: Vec<Line>,
+    ) -> io::Result<Option<u64>> {
+        let length = length(&lines);
         assert!(length <= MOST, "a history of {length} bytes");
         let mut failed = None;
         if self.length + length > MOST {
-            failed = self.compare(program)?;
+            failed = self.compare(side)?;
         }
         self.length += length;
-        self.owner
-            .extend(lines.iter().map(|_| self.histories.len()));
+        self.owner.extend(lines.iter().map(|_| history));
         self.lines.extend(lines);
-        self.histories.push(history);
         Ok(failed)
     }
 
     /// The first history that is answered differently; then there are none.
-    pub fn compare(&mut self, program: &str) -> io::Result<Option<H>> {
-        let mut batch = std::mem::take(self);
-        let differs = differs(program, &batch.lines)?;
-        Ok(differs.map(|(line, _)| batch.histories.swap_remove(batch.owner[line])))
+    pub fn compare(&mut self, side: &dyn Answers) -> io::Result<Option<u64>> {
+        let batch = std::mem::take(self);
+        let differs = differs(side, &batch.lines)?;
+        Ok(differs.map(|(line, _)| batch.owner[line]))
     }
 }

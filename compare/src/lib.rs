@@ -35,7 +35,10 @@ pub use rng::SeededRng;
 pub mod beside;
 pub mod dice;
 pub mod differences;
+pub mod driver;
 pub mod ends;
 pub mod histories;
 pub mod leaves;
+#[cfg(feature = "library")]
+pub mod library;
 pub mod sendings;

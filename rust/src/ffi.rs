@@ -1,4 +1,4 @@
-//! The C interface as include/huskelapse.h declares it.
+//! The C interface as include/huskelapse.h declares it. Hosts use the safe interface over it; the repository's own drivers call it as C does.
 
 pub const RECEIVING_WORDS: usize = 39;
 pub const SENDING_WORDS: usize = 39;
@@ -21,6 +21,7 @@ pub const EMPTY: u8 = 1;
 pub const TAKEN: u8 = 2;
 
 #[repr(C)]
+#[derive(Clone, Copy, Debug, PartialEq, Eq)]
 pub struct LinkReading {
     pub kind: u8,
     pub refusal: u8,
@@ -34,6 +35,7 @@ pub struct LinkReading {
 }
 
 #[repr(C)]
+#[derive(Clone, Copy, Debug, PartialEq, Eq)]
 pub struct LinkSealing {
     pub kind: u8,
     pub refusal: u8,
@@ -46,6 +48,7 @@ pub struct LinkSealing {
 }
 
 #[repr(C)]
+#[derive(Clone, Copy, Debug, PartialEq, Eq)]
 pub struct LinkTake {
     pub kind: u8,
     pub refusal: u8,
@@ -53,6 +56,7 @@ pub struct LinkTake {
 }
 
 #[repr(C)]
+#[derive(Clone, Copy, Debug, PartialEq, Eq)]
 pub struct LinkPart {
     pub kind: u8,
     pub refusal: u8,
@@ -66,6 +70,7 @@ extern "C" {
     pub fn link_remove_receive(s: *mut [u64; RECEIVING_WORDS], epoch: u16) -> u8;
     pub fn link_enable_peer_encryption(s: *mut [u64; RECEIVING_WORDS]) -> u8;
     pub fn link_release_application_data(s: *mut [u64; RECEIVING_WORDS]) -> u8;
+    pub fn link_begin(s: *mut [u64; RECEIVING_WORDS], n: usize) -> u8;
     pub fn link_begin_read(s: *mut [u64; RECEIVING_WORDS], d: *const u8, n: usize) -> LinkReading;
     pub fn link_read(s: *mut [u64; RECEIVING_WORDS], d: *const u8, n: usize) -> LinkReading;
     pub fn link_mask(s: *mut [u64; RECEIVING_WORDS], mask_0: u8, mask_1: u8, d: *mut u8, n: usize) -> LinkReading;
@@ -164,4 +169,5 @@ const _: () = {
     assert!(std::mem::size_of::<LinkReading>() == 56);
     assert!(std::mem::size_of::<LinkSealing>() == 56);
     assert!(std::mem::size_of::<LinkTake>() == 16);
+    assert!(std::mem::size_of::<LinkPart>() == 24);
 };

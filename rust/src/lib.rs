@@ -37,7 +37,8 @@
 #![warn(missing_docs)]
 
 mod cipher;
-mod ffi;
+#[doc(hidden)]
+pub mod ffi;
 mod receiver;
 mod refusal;
 mod sender;

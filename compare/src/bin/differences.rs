@@ -1,11 +1,13 @@
 //! Prints the smallest inputs found at which the Rust differs, with what both do.
 //!
-//! differences READINGS SENDINGS COUNT SEED
+//! differences COUNT SEED [SENDINGS READINGS]
 
 use std::process::ExitCode;
-use std::{env, io, panic};
+use std::{io, panic};
 
+use dimpl::beside::Answers;
 use dimpl::differences::{Found, receiving, sending};
+use dimpl::{driver, library};
 
 fn print(title: &str, found: &[Found]) {
     println!("{title}");
@@ -17,27 +19,21 @@ fn print(title: &str, found: &[Found]) {
     }
 }
 
-fn all(readings: &str, sendings: &str, count: u64, seed: u64) -> io::Result<()> {
-    print("receiving", &receiving::all(readings)?);
-    print("sending", &sending::all(sendings, count, seed)?);
+fn all(sends: &dyn Answers, receives: &dyn Answers, count: u64, seed: u64) -> io::Result<bool> {
+    print("receiving", &receiving::all(receives)?);
+    print("sending", &sending::all(sends, count, seed)?);
     print("a number sealed twice", &[sending::sealed_twice()]);
-    Ok(())
+    Ok(true)
 }
 
 fn main() -> ExitCode {
-    let args: Vec<String> = env::args().skip(1).collect();
-    let [readings, sendings, count, seed] = &args[..] else {
-        eprintln!("usage: differences READINGS SENDINGS COUNT SEED");
+    let Some((count, seed, programs)) = driver::arguments(2) else {
+        eprintln!("usage: differences COUNT SEED [SENDINGS READINGS]");
         return ExitCode::from(2);
     };
     // The Rust's panics are answers.
     panic::set_hook(Box::new(|_| {}));
-    let (count, seed) = (count.parse().unwrap_or(0), seed.parse().unwrap_or(0));
-    match all(readings, sendings, count, seed) {
-        Ok(()) => ExitCode::SUCCESS,
-        Err(error) => {
-            eprintln!("differences: {error}");
-            ExitCode::from(2)
-        }
-    }
+    let sends = library::sending(programs.first());
+    let receives = library::receiving(programs.last());
+    driver::exit("differences", all(&*sends, &*receives, count, seed))
 }

@@ -1,37 +1,37 @@
-//! Runs random histories of two ends through the Rust and through the Rattle programs `sendings` and
-//! `readings`, and compares the answers.
+//! Runs random histories of two ends through the Rust and through the library, or the Rattle programs
+//! `sendings` and `readings`, and compares the answers.
 //!
-//! ends SENDINGS READINGS COUNT SEED
+//! ends COUNT SEED [SENDINGS READINGS]
 
+use std::io;
 use std::process::ExitCode;
-use std::rc::Rc;
-use std::{env, io};
 
-use dimpl::beside::{self, Batch, Line};
+use dimpl::beside::{self, Answers, Batch, Line};
 use dimpl::dice::Dice;
 use dimpl::ends::generate::random;
 use dimpl::ends::{self, History, Met, Run, Step};
-use dimpl::sendings;
+use dimpl::{driver, library, sendings};
 
-struct Programs {
-    sendings: String,
-    readings: String,
+struct Sides {
+    sending: Box<dyn Answers>,
+    receiving: Box<dyn Answers>,
 }
 
-impl Programs {
-    /// The scripts of a run, each with its program and its name.
-    fn scripts<'a>(&'a self, run: &'a Run) -> [(&'a str, &'static str, &'a [Line]); 4] {
+impl Sides {
+    /// The scripts of a run, each with who answers it and its name.
+    fn scripts<'a>(&'a self, run: &'a Run) -> [(&'a dyn Answers, &'static str, &'a [Line]); 4] {
+        let (sending, receiving) = (&*self.sending, &*self.receiving);
         [
-            (&self.sendings, "end 0, sending", &run.sending[0]),
-            (&self.readings, "end 0, receiving", &run.receiving[0]),
-            (&self.sendings, "end 1, sending", &run.sending[1]),
-            (&self.readings, "end 1, receiving", &run.receiving[1]),
+            (sending, "end 0, sending", &run.sending[0]),
+            (receiving, "end 0, receiving", &run.receiving[0]),
+            (sending, "end 1, sending", &run.sending[1]),
+            (receiving, "end 1, receiving", &run.receiving[1]),
         ]
     }
 
     fn fails(&self, history: &History) -> io::Result<bool> {
-        for (program, _, lines) in self.scripts(&ends::run(history)) {
-            if beside::fails(program, lines)? {
+        for (side, _, lines) in self.scripts(&ends::run(history)) {
+            if beside::fails(side, lines)? {
                 return Ok(true);
             }
         }
@@ -75,9 +75,9 @@ impl Programs {
         for (end, step) in &history.steps {
             println!("  {end} {step:?}");
         }
-        for (program, name, lines) in self.scripts(&ends::run(history)) {
-            if beside::fails(program, lines)? {
-                return beside::report(program, name, lines);
+        for (side, name, lines) in self.scripts(&ends::run(history)) {
+            if beside::fails(side, lines)? {
+                return beside::report(side, name, lines);
             }
         }
         Ok(())
@@ -92,50 +92,84 @@ fn content(step: &mut Step) -> Option<&mut sendings::Bytes> {
     }
 }
 
-fn compare(programs: &Programs, count: u64, seed: u64) -> io::Result<bool> {
-    let (mut steps, mut lines, mut met) = (0, 0, Met::default());
-    let mut sending = Batch::default();
-    let mut receiving = Batch::default();
-    let mut failed = None;
+#[derive(Default)]
+struct Tally {
+    steps: usize,
+    lines: usize,
+    met: Met,
+}
+
+impl driver::Tally for Tally {
+    fn add(&mut self, other: &Self) {
+        self.steps += other.steps;
+        self.lines += other.lines;
+        self.met.add(&other.met);
+    }
+}
+
+/// Histories whose scripts are compared together.
+#[derive(Default)]
+struct Batches {
+    sending: Batch,
+    receiving: Batch,
+}
+
+impl Batches {
+    fn add(&mut self, sides: &Sides, history: u64, run: Run) -> io::Result<Option<u64>> {
+        let (sending, receiving) = (&*sides.sending, &*sides.receiving);
+        let mut differs = Vec::new();
+        for lines in run.sending {
+            differs.extend(self.sending.add(sending, history, lines)?);
+        }
+        for lines in run.receiving {
+            differs.extend(self.receiving.add(receiving, history, lines)?);
+        }
+        if !differs.is_empty() {
+            // One before it may differ in what is not yet compared.
+            differs.extend(self.compare(sides)?);
+        }
+        Ok(differs.into_iter().min())
+    }
+
+    fn compare(&mut self, sides: &Sides) -> io::Result<Option<u64>> {
+        let sending = self.sending.compare(&*sides.sending)?;
+        let receiving = self.receiving.compare(&*sides.receiving)?;
+        Ok(sending.into_iter().chain(receiving).min())
+    }
+}
+
+fn compare(sides: &Sides, count: u64, seed: u64) -> io::Result<bool> {
     let beyond = count / 4;
-    'all: for i in 0..count + beyond {
-        // Each history has its own random numbers.
-        let mut dice = Dice::new(seed << 32 ^ i);
-        let history = Rc::new(random(&mut dice, i < count));
-        let run = ends::run(&history);
-        steps += history.steps.len();
-        let refused = |n: &usize| *n != 16 && *n != 22 && run.met.sent.refusals[*n] > 0;
-        let first = (12..24).find(refused);
-        assert!(i >= count || first.is_none(), "refused by {first:?}");
-        met.add(&run.met);
-        for (program, _, script) in programs.scripts(&run) {
-            lines += script.len();
-            let batch = match program == programs.sendings {
-                true => &mut sending,
-                false => &mut receiving,
-            };
-            failed = batch.add(program, history.clone(), script.to_vec())?;
-            if failed.is_some() {
-                break 'all;
+    let total = count + beyond;
+    // Each history has its own random numbers.
+    let history = |i: u64| random(&mut Dice::new(seed << 32 ^ i), i < count);
+    let (differs, tally) = driver::many("two ends", total, |numbers, tally: &mut Tally| {
+        let mut batches = Batches::default();
+        for i in numbers {
+            let history = history(i);
+            let run = ends::run(&history);
+            let refused = |n: &usize| *n != 16 && *n != 22 && run.met.sent.refusals[*n] > 0;
+            let first = (12..24).find(refused);
+            assert!(i >= count || first.is_none(), "refused by {first:?}");
+            tally.steps += history.steps.len();
+            tally.lines += run.lines();
+            tally.met.add(&run.met);
+            if let Some(differs) = batches.add(sides, i, run)? {
+                return Ok(Some(differs));
             }
         }
-    }
-    if failed.is_none() {
-        failed = sending.compare(&programs.sendings)?;
-    }
-    if failed.is_none() {
-        failed = receiving.compare(&programs.readings)?;
-    }
-    if let Some(history) = failed {
-        let history = programs.shrink(history.as_ref().clone())?;
-        programs.report(&history)?;
+        batches.compare(sides)
+    })?;
+    if let Some(i) = differs {
+        let history = sides.shrink(history(i))?;
+        sides.report(&history)?;
         return Ok(false);
     }
+    let Tally { steps, lines, met } = &tally;
     println!(
-        "{} histories of two ends agree: {count} in the domain, {beyond} with refusals (SEED {seed}), {steps} steps, {lines} answers",
-        count + beyond
+        "{total} histories of two ends agree: {count} in the domain, {beyond} with refusals (SEED {seed}), {steps} steps, {lines} answers"
     );
-    print(&met);
+    print(met);
     Ok(true)
 }
 
@@ -182,22 +216,13 @@ fn print(met: &Met) {
 }
 
 fn main() -> ExitCode {
-    let args: Vec<String> = env::args().skip(1).collect();
-    let numbers: Vec<u64> = args.iter().skip(2).filter_map(|a| a.parse().ok()).collect();
-    let ([count, seed], 4) = (numbers[..].try_into().unwrap_or([0, 0]), args.len()) else {
-        eprintln!("usage: ends SENDINGS READINGS COUNT SEED");
+    let Some((count, seed, programs)) = driver::arguments(2) else {
+        eprintln!("usage: ends COUNT SEED [SENDINGS READINGS]");
         return ExitCode::from(2);
     };
-    let programs = Programs {
-        sendings: args[0].clone(),
-        readings: args[1].clone(),
+    let sides = Sides {
+        sending: library::sending(programs.first()),
+        receiving: library::receiving(programs.last()),
     };
-    match compare(&programs, count, seed) {
-        Ok(true) => ExitCode::SUCCESS,
-        Ok(false) => ExitCode::FAILURE,
-        Err(error) => {
-            eprintln!("ends: {error}");
-            ExitCode::from(2)
-        }
-    }
+    driver::exit("ends", compare(&sides, count, seed))
 }

@@ -1,24 +1,25 @@
-//! Runs random histories of receiving through the Rust and through the Rattle program `readings`,
-//! and compares the answers.
+//! Runs random histories of receiving through the Rust and through the library, or the Rattle program
+//! `readings`, and compares the answers.
 //!
-//! histories PROGRAM COUNT SEED
+//! histories COUNT SEED [PROGRAM]
 
+use std::io;
 use std::ops::Range;
 use std::process::ExitCode;
-use std::{env, io};
 
-use dimpl::beside::{self, Batch};
+use dimpl::beside::{self, Answers, Batch};
 use dimpl::dice::Dice;
 use dimpl::histories::generate::random;
-use dimpl::histories::{History, Step, between, limits, reference};
+use dimpl::histories::{History, Run, Step, between, limits, reference};
+use dimpl::{driver, library};
 
-fn fails(program: &str, history: &History) -> io::Result<bool> {
-    beside::fails(program, &reference::run(history).lines)
+fn fails(side: &dyn Answers, history: &History) -> io::Result<bool> {
+    beside::fails(side, &reference::run(history).lines)
 }
 
 /// Takes the smaller history, if it differs too.
-fn try_instead(program: &str, current: &mut History, other: History) -> io::Result<bool> {
-    let smaller = other != *current && fails(program, &other)?;
+fn try_instead(side: &dyn Answers, current: &mut History, other: History) -> io::Result<bool> {
+    let smaller = other != *current && fails(side, &other)?;
     if smaller {
         *current = other;
     }
@@ -36,63 +37,72 @@ fn without(history: &History, step: usize, taken: Range<usize>, first: usize) ->
     other
 }
 
+/// Takes whole records from the front of a datagram, with the replies to them; then from its end.
+fn cut(side: &dyn Answers, history: &mut History, step: usize) -> io::Result<()> {
+    let Step::Datagram { bytes, replies } = &history.steps[step] else {
+        return Ok(());
+    };
+    let (length, asked) = (bytes.len().min(500), replies.len().min(3));
+    let fronts = (0..=asked).flat_map(|n| (1..=length).rev().map(move |m| (0..m, n)));
+    for (taken, replies) in fronts {
+        let other = without(history, step, taken, replies);
+        if try_instead(side, history, other)? {
+            break;
+        }
+    }
+    for end in 0..length {
+        let other = without(history, step, end..usize::MAX, 0);
+        if try_instead(side, history, other)? {
+            break;
+        }
+    }
+    Ok(())
+}
+
+/// Takes parts of a datagram out, long ones first.
+fn thin(side: &dyn Answers, history: &mut History, step: usize) -> io::Result<()> {
+    let mut size = 64;
+    while size > 0 {
+        let mut at = 0;
+        while let Step::Datagram { bytes, .. } = &history.steps[step]
+            && at + size <= bytes.len()
+        {
+            let other = without(history, step, at..at + size, 0);
+            if !try_instead(side, history, other)? {
+                at += size;
+            }
+        }
+        size /= 2;
+    }
+    Ok(())
+}
+
+/// Takes the last replies about a datagram away.
+fn forget_replies(side: &dyn Answers, history: &mut History, step: usize) -> io::Result<()> {
+    loop {
+        let mut other = history.clone();
+        if let Step::Datagram { replies, .. } = &mut other.steps[step] {
+            replies.pop();
+        }
+        if !try_instead(side, history, other)? {
+            return Ok(());
+        }
+    }
+}
+
 /// Drops steps, then bytes of datagrams, for as long as the history differs.
-fn shrink(program: &str, mut history: History) -> io::Result<History> {
+fn shrink(side: &dyn Answers, mut history: History) -> io::Result<History> {
     loop {
         let before = history.clone();
-        let (min_protected, between) = (history.min_protected, history.between);
+        let mut other = history.clone();
         beside::drop_steps(&mut history.steps, |steps| {
-            let other = History {
-                min_protected,
-                between,
-                steps: steps.to_vec(),
-            };
-            fails(program, &other)
+            other.steps = steps.to_vec();
+            fails(side, &other)
         })?;
         for i in 0..history.steps.len() {
-            let Step::Datagram { bytes, replies } = &history.steps[i] else {
-                continue;
-            };
-            let (length, asked) = (bytes.len(), replies.len());
-            // Whole records from the front, with the replies to them; then from the end.
-            let fronts =
-                (0..=asked.min(3)).flat_map(|n| (1..=length.min(500)).rev().map(move |m| (m, n)));
-            for (bytes, replies) in fronts {
-                let other = without(&history, i, 0..bytes, replies);
-                if try_instead(program, &mut history, other)? {
-                    break;
-                }
-            }
-            for cut in 0..length.min(500) {
-                let other = without(&history, i, cut..usize::MAX, 0);
-                if try_instead(program, &mut history, other)? {
-                    break;
-                }
-            }
-            let mut size = 64;
-            while size > 0 {
-                let mut at = 0;
-                while let Step::Datagram { bytes, .. } = &history.steps[i]
-                    && at + size <= bytes.len()
-                {
-                    let other = without(&history, i, at..at + size, 0);
-                    if !try_instead(program, &mut history, other)? {
-                        at += size;
-                    }
-                }
-                size /= 2;
-            }
-            while let Step::Datagram { replies, .. } = &history.steps[i]
-                && !replies.is_empty()
-            {
-                let mut other = history.clone();
-                if let Step::Datagram { replies, .. } = &mut other.steps[i] {
-                    replies.pop();
-                }
-                if !try_instead(program, &mut history, other)? {
-                    break;
-                }
-            }
+            cut(side, &mut history, i)?;
+            thin(side, &mut history, i)?;
+            forget_replies(side, &mut history, i)?;
         }
         if history == before {
             return Ok(history);
@@ -100,83 +110,107 @@ fn shrink(program: &str, mut history: History) -> io::Result<History> {
     }
 }
 
-fn main() -> ExitCode {
-    let args: Vec<String> = env::args().skip(1).collect();
-    let numbers: Vec<u64> = args.iter().skip(1).filter_map(|a| a.parse().ok()).collect();
-    let ([count, seed], 3) = (numbers[..].try_into().unwrap_or([0, 0]), args.len()) else {
-        eprintln!("usage: histories PROGRAM COUNT SEED");
-        return ExitCode::from(2);
-    };
-    match compare(&args[0], count, seed) {
-        Ok(true) => ExitCode::SUCCESS,
-        Ok(false) => ExitCode::FAILURE,
-        Err(error) => {
-            eprintln!("histories: {error}");
-            ExitCode::from(2)
+#[derive(Default)]
+struct Tally {
+    steps: usize,
+    kinds: [u64; 10],
+    reasons: [u64; 12],
+    refusals: [u64; 24],
+    early: usize,
+}
+
+impl Tally {
+    fn count(&mut self, run: &Run) {
+        self.steps += run.lines.len();
+        self.early += between::at_questions(&run.lines);
+        for line in &run.lines {
+            self.refusals[line.refusal()] += 1;
+        }
+        self.sum(&run.kinds, &run.reasons, &[0; 24]);
+    }
+
+    fn sum(&mut self, kinds: &[u64], reasons: &[u64], refusals: &[u64]) {
+        let sums = self.kinds.iter_mut().chain(&mut self.reasons);
+        let sums = sums.chain(&mut self.refusals);
+        let more = kinds.iter().chain(reasons).chain(refusals);
+        sums.zip(more).for_each(|(sum, n)| *sum += n);
+    }
+
+    fn print(&self) {
+        let names = [
+            "end",
+            "fault 2",
+            "fault 3",
+            "dropped",
+            "plaintext",
+            "unopened",
+            "opened",
+            "mask question",
+            "opening question",
+        ];
+        for (name, n) in names.iter().zip(&self.kinds[1..]) {
+            println!("  {name:<18} {n:>9}");
+        }
+        for (reason, n) in self.reasons.iter().enumerate().skip(4) {
+            println!("  dropped by {reason:<7} {n:>9}");
+        }
+        println!(
+            "  keyed, removed or released while a question waits {:>9}",
+            self.early
+        );
+        for refusal in [1, 13, 15, 23] {
+            println!("  refused by {refusal:<7} {:>9}", self.refusals[refusal]);
         }
     }
 }
 
-fn compare(program: &str, count: u64, seed: u64) -> io::Result<bool> {
-    let mut histories = limits::all();
-    histories.extend(limits::longest());
-    let fixed = histories.len();
+impl driver::Tally for Tally {
+    fn add(&mut self, other: &Self) {
+        self.steps += other.steps;
+        self.early += other.early;
+        self.sum(&other.kinds, &other.reasons, &other.refusals);
+    }
+}
+
+fn compare(side: &dyn Answers, count: u64, seed: u64) -> io::Result<bool> {
+    let mut fixed = limits::all();
+    fixed.extend(limits::longest());
+    let at_limits = fixed.len() as u64;
+    let total = at_limits + count;
     // Each history has its own random numbers.
-    histories.extend((0..count).map(|i| random(&mut Dice::new(seed << 32 ^ i))));
-    let (mut steps, mut kinds, mut reasons, mut refusals) = (0, [0; 10], [0; 12], [0; 24]);
-    let mut early = 0;
-    let mut batch = Batch::default();
-    let mut failed = None;
-    let total = histories.len();
-    for history in histories {
-        let run = reference::run(&history);
-        steps += run.lines.len();
-        for (sum, n) in kinds.iter_mut().zip(run.kinds) {
-            *sum += n;
+    let history = |i: u64| match fixed.get(i as usize) {
+        Some(history) => history.clone(),
+        None => random(&mut Dice::new(seed << 32 ^ (i - at_limits))),
+    };
+    let (differs, tally) = driver::many("receiving", total, |numbers, tally: &mut Tally| {
+        let mut batch = Batch::default();
+        for i in numbers {
+            let run = reference::run(&history(i));
+            tally.count(&run);
+            if let Some(differs) = batch.add(side, i, run.lines)? {
+                return Ok(Some(differs));
+            }
         }
-        for (sum, n) in reasons.iter_mut().zip(run.reasons) {
-            *sum += n;
-        }
-        for line in &run.lines {
-            refusals[line.refusal()] += 1;
-        }
-        early += between::at_questions(&run.lines);
-        failed = batch.add(program, history, run.lines)?;
-        if failed.is_some() {
-            break;
-        }
-    }
-    if failed.is_none() {
-        failed = batch.compare(program)?;
-    }
-    if let Some(history) = failed {
-        let history = shrink(program, history)?;
-        beside::report(program, "histories", &reference::run(&history).lines)?;
+        batch.compare(side)
+    })?;
+    if let Some(i) = differs {
+        let history = shrink(side, history(i))?;
+        beside::report(side, "histories", &reference::run(&history).lines)?;
         return Ok(false);
     }
+    let steps = tally.steps;
     println!(
-        "{total} histories of receiving agree: {fixed} at the limits, {count} random (SEED {seed}), {steps} steps"
+        "{total} histories of receiving agree: {at_limits} at the limits, {count} random (SEED {seed}), {steps} steps"
     );
-    let names = [
-        "end",
-        "fault 2",
-        "fault 3",
-        "dropped",
-        "plaintext",
-        "unopened",
-        "opened",
-        "mask question",
-        "opening question",
-    ];
-    for (name, n) in names.iter().zip(&kinds[1..]) {
-        println!("  {name:<18} {n:>9}");
-    }
-    for (reason, n) in reasons.iter().enumerate().skip(4) {
-        println!("  dropped by {reason:<7} {n:>9}");
-    }
-    println!("  keyed, removed or released while a question waits {early:>9}");
-    for refusal in [1, 13, 15, 23] {
-        println!("  refused by {refusal:<7} {:>9}", refusals[refusal]);
-    }
+    tally.print();
     Ok(true)
+}
+
+fn main() -> ExitCode {
+    let Some((count, seed, programs)) = driver::arguments(1) else {
+        eprintln!("usage: histories COUNT SEED [PROGRAM]");
+        return ExitCode::from(2);
+    };
+    let side = library::receiving(programs.first());
+    driver::exit("histories", compare(&*side, count, seed))
 }

@@ -61,7 +61,7 @@ fn write_histories(
         }
         stdin += &script;
         for line in lines {
-            writeln!(stdout, "{}", line.answered)?;
+            writeln!(stdout, "{}", line.answer())?;
         }
     }
     fs::write(folder.join("stdin"), stdin)?;

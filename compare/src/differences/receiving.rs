@@ -4,7 +4,7 @@ use std::io;
 use std::sync::Arc;
 
 use super::Found;
-use crate::beside;
+use crate::beside::{Answers, Line};
 use crate::buffer::Buf;
 use crate::crypto::script;
 use crate::dtls13::engine::Engine;
@@ -14,7 +14,7 @@ use crate::leaves::hex;
 use crate::types::Dtls13CipherSuite;
 use crate::{Config, DtlsCertificate};
 
-/// An input in words, what the Rust does with it, and the steps of the program.
+/// An input in words, what the Rust does with it, and the steps here.
 struct Case {
     input: &'static str,
     rust: String,
@@ -153,30 +153,27 @@ fn stored() -> Case {
     }
 }
 
-/// What the program answers to the last of the steps.
-fn here(program: &str, steps: &[String]) -> io::Result<String> {
-    let answers = beside::answers(program, &(steps.join("\n") + "\n"))?;
-    let last = answers.last().cloned().unwrap_or_default();
-    let byte = |i: usize| {
-        last.get(i..i + 2)
-            .and_then(|b| u8::from_str_radix(b, 16).ok())
-    };
-    Ok(match (byte(2), byte(4), byte(6)) {
-        (Some(0), Some(4), Some(reason)) => format!("dropped by {reason}"),
-        (Some(0), Some(1), _) => "the end of the datagram".to_string(),
-        (Some(0), Some(8), _) => "the mask is asked".to_string(),
-        (Some(0), Some(_), _) => "a reading".to_string(),
-        (Some(refusal), ..) => format!("refused by {refusal}"),
-        _ => "no answer".to_string(),
+/// What is answered to the last of the steps.
+fn here(side: &dyn Answers, steps: &[String]) -> io::Result<String> {
+    let lines: Vec<Line> = steps.iter().map(|step| Line::unanswered(step)).collect();
+    let answers = side.answers(&lines)?;
+    let last = answers.last().map_or(&[][..], |answer| answer);
+    Ok(match last {
+        [0, 4, reason, ..] => format!("dropped by {reason}"),
+        [0, 1, ..] => "the end of the datagram".to_string(),
+        [0, 8, ..] => "the mask is asked".to_string(),
+        [0, ..] => "a reading".to_string(),
+        [refusal, ..] => format!("refused by {refusal}"),
+        [] => "no answer".to_string(),
     })
 }
 
-pub fn all(program: &str) -> io::Result<Vec<Found>> {
+pub fn all(side: &dyn Answers) -> io::Result<Vec<Found>> {
     let mut cases = records();
     cases.extend([fifth_epoch(), keyed_again(), released(), fault(), stored()]);
     let found = cases.into_iter().map(|case| {
         Ok(Found {
-            here: here(program, &case.steps)?,
+            here: here(side, &case.steps)?,
             input: case.input.to_string(),
             rust: case.rust,
         })

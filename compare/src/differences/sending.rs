@@ -4,7 +4,7 @@ use std::collections::BTreeMap;
 use std::io;
 
 use super::Found;
-use crate::beside;
+use crate::beside::{self, Answers};
 use crate::crypto::script;
 use crate::dice::Dice;
 use crate::dtls13::engine::probe::Sending;
@@ -216,7 +216,7 @@ fn describe(history: &History) -> String {
 }
 
 /// Each kind of refused call met in random histories, with the smallest history found.
-pub fn all(program: &str, count: u64, seed: u64) -> io::Result<Vec<Found>> {
+pub fn all(side: &dyn Answers, count: u64, seed: u64) -> io::Result<Vec<Found>> {
     let mut kinds: BTreeMap<Kind, History> = BTreeMap::new();
     for i in 0..count {
         let random = generate::random(&mut Dice::new(seed << 32 ^ i));
@@ -238,7 +238,7 @@ pub fn all(program: &str, count: u64, seed: u64) -> io::Result<Vec<Found>> {
         viewed.steps.insert(last, Step::View);
         viewed.steps.push(Step::View);
         let lines = reference::run(&viewed).lines;
-        let differs = beside::differs(program, &lines)?;
+        let differs = beside::differs(side, &lines)?;
         let mut rust = vec![kind.outcome.clone()];
         rust.extend(kind.changed.iter().map(|word| word.to_string()));
         found.push(Found {
@@ -246,7 +246,7 @@ pub fn all(program: &str, count: u64, seed: u64) -> io::Result<Vec<Found>> {
             rust: rust.join("; "),
             here: match differs {
                 None => format!("{}, nothing changes", kind.refusal),
-                Some((_, answer)) => format!("not {}: {answer}", kind.refusal),
+                Some((_, answer)) => format!("not {}: {}", kind.refusal, hex(&answer)),
             },
         });
     }

@@ -1,12 +1,12 @@
 //! Whole histories of two ends and the link between them: their steps, and what the Rust answers to
-//! them as lines of text. The lines are those of `sendings` and `histories`.
+//! them as lines. The lines are those of `sendings` and `histories`.
 //!
 //! An end is one `Engine` that sends and receives. Here its sending and its receiving state are
 //! apart, each with its script. The cipher opens what it has sealed (`crypto/script.rs`).
 
 pub mod generate;
 
-use crate::beside::Line;
+use crate::beside::{self, Line};
 use crate::crypto::{script, stub};
 use crate::dtls13::engine::probe::Saved;
 use crate::histories::reference::Receiver;
@@ -106,6 +106,14 @@ pub struct Run {
     pub met: Met,
 }
 
+impl Run {
+    /// How many lines there are in all.
+    pub fn lines(&self) -> usize {
+        let scripts = self.sending.iter().chain(&self.receiving);
+        scripts.map(Vec::len).sum()
+    }
+}
+
 struct End {
     world: World,
     receiver: Receiver,
@@ -166,14 +174,13 @@ impl Ends {
 
     /// The longest script so far, with about what is to come of what is queued and on its way.
     pub fn longest(&self) -> usize {
-        let length = |lines: &[Line]| lines.iter().map(|line| line.asked.len() + 1).sum::<usize>();
         let queued = |end: usize| self.world(end).sending().lengths.iter().sum::<usize>();
         let lengths = [0, 1].map(|i| {
             let end = &self.ends[i];
             let on_way: usize = end.on_way.iter().map(Vec::len).sum();
-            let sending = length(&end.world.run().lines) + 2 * queued(i);
+            let sending = beside::length(&end.world.run().lines) + 2 * queued(i);
             // Each byte is in the datagram and in what was opened.
-            let receiving = length(&end.receiver.run.lines) + 4 * (queued(1 - i) + on_way);
+            let receiving = beside::length(&end.receiver.run.lines) + 4 * (queued(1 - i) + on_way);
             sending.max(receiving)
         });
         lengths[0].max(lengths[1])

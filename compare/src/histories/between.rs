@@ -6,7 +6,7 @@
 //! from behind a datagram to the last question of it, where they must do the same.
 
 use super::*;
-use crate::beside::script;
+use crate::beside;
 use crate::dice::Dice;
 
 /// What the lines so far have done.
@@ -17,33 +17,33 @@ struct State {
     encryption: bool,
     released: bool,
     /// The answer that asked the question that waits, and its kind.
-    question: Option<(u8, String)>,
+    question: Option<(u8, Vec<u8>)>,
 }
 
-/// The number at a place of a line's bytes.
-fn number(line: &str, at: usize, digits: usize) -> u16 {
-    u16::from_str_radix(&line[2 + at..2 + at + digits], 16).unwrap()
+/// The epoch at a place of a line's bytes.
+fn epoch(bytes: &[u8], at: usize) -> u16 {
+    u16::from_be_bytes([bytes[at], bytes[at + 1]])
 }
 
 impl State {
     fn follow(&mut self, line: &Line) {
-        match line.asked.as_bytes()[0] {
-            b'f' => *self = Self::default(),
-            b'k' => {
-                self.highest = number(&line.asked, 0, 4);
+        match line.letter {
+            'f' => *self = Self::default(),
+            'k' => {
+                self.highest = epoch(&line.asked, 0);
                 self.keyed.push(self.highest);
             }
-            b'x' => {
-                let epoch = number(&line.asked, 0, 4);
+            'x' => {
+                let epoch = epoch(&line.asked, 0);
                 self.keyed.retain(|keyed| *keyed != epoch);
             }
-            b'e' => self.encryption = true,
-            b'l' => self.released = true,
-            b'b' => self.question = None,
-            b'r' | b'm' | b'o' => {
-                let kind = number(&line.answered, 2, 2) as u8;
+            'e' => self.encryption = true,
+            'l' => self.released = true,
+            'b' => self.question = None,
+            'r' | 'm' | 'o' => {
+                let kind = kind(line);
                 let asks = matches!(kind, MASK | OPENING);
-                self.question = asks.then(|| (kind, line.answered[1..].to_string()));
+                self.question = asks.then(|| (kind, line.answered.clone()));
             }
             _ => {}
         }
@@ -91,8 +91,9 @@ impl State {
             8 => {
                 let (_, answer) = self.question.as_ref()?;
                 return Some(Line {
-                    asked: "r ".to_string(),
-                    answered: format!("r{answer}"),
+                    letter: 'r',
+                    asked: Vec::new(),
+                    answered: answer.clone(),
                 });
             }
             9 if room && dice.once_in(40) => refused('b', &[0x2F; 16_385], 1),
@@ -103,16 +104,15 @@ impl State {
 }
 
 fn kind(line: &Line) -> u8 {
-    number(&line.answered, 2, 2) as u8
+    line.answered[1]
 }
 
 /// The last question of the datagram that ends the lines, if nothing is read behind its replies.
 fn last_question(lines: &[Line]) -> Option<usize> {
     let asks = |line: &Line| matches!(kind(line), MASK | OPENING);
-    let letter = |line: &Line| line.asked.as_bytes()[0];
-    let begun = lines.iter().rposition(|line| letter(line) == b'b')?;
+    let begun = lines.iter().rposition(|line| line.letter == 'b')?;
     let last = begun + lines[begun..].iter().rposition(asks)?;
-    let quiet = |line: &Line| letter(line) != b'r' || kind(line) == END;
+    let quiet = |line: &Line| line.letter != 'r' || kind(line) == END;
     lines[last + 1..].iter().all(quiet).then_some(last)
 }
 
@@ -122,12 +122,12 @@ fn moved(lines: Vec<Line>, dice: &mut Dice) -> Vec<Line> {
     // The question of the datagram just read, and how many calls are moved there.
     let mut place = None;
     for line in lines {
-        let letter = line.asked.as_bytes()[0];
+        let letter = line.letter;
         let moves = match (letter, place) {
-            (b'k' | b'l', Some(_)) => true,
-            (b'x', Some((at, _))) => {
+            ('k' | 'l', Some(_)) => true,
+            ('x', Some((at, _))) => {
                 let asked: &Line = &all[at];
-                number(&line.asked, 0, 4) != number(&asked.answered, 6, 4)
+                epoch(&line.asked, 0) != epoch(&asked.answered, 3)
             }
             _ => false,
         };
@@ -139,7 +139,7 @@ fn moved(lines: Vec<Line>, dice: &mut Dice) -> Vec<Line> {
         }
         all.push(line);
         place = match letter {
-            b'd' => last_question(&all).map(|at| (at, 0)),
+            'd' => last_question(&all).map(|at| (at, 0)),
             _ => None,
         };
     }
@@ -150,7 +150,7 @@ fn moved(lines: Vec<Line>, dice: &mut Dice) -> Vec<Line> {
 pub fn add(lines: Vec<Line>, seed: u64) -> Vec<Line> {
     let mut dice = Dice::new(seed);
     let lines = moved(lines, &mut dice);
-    let mut room = script(&lines).len() < 15_000;
+    let mut room = beside::length(&lines) < 15_000;
     let mut state = State::default();
     let mut all = Vec::new();
     for line in lines {
@@ -160,7 +160,7 @@ pub fn add(lines: Vec<Line>, seed: u64) -> Vec<Line> {
             let Some(call) = state.call(&mut dice, room) else {
                 continue;
             };
-            room = room && call.asked.len() < 100;
+            room = room && call.length() <= 100;
             all.push(call);
         }
     }
@@ -172,7 +172,7 @@ pub fn at_questions(lines: &[Line]) -> usize {
     let mut state = State::default();
     let mut count = 0;
     for line in lines {
-        let changes = matches!(line.asked.as_bytes()[0], b'k' | b'x' | b'l');
+        let changes = matches!(line.letter, 'k' | 'x' | 'l');
         count += (changes && line.refusal() == 0 && state.question.is_some()) as usize;
         if line.refusal() == 0 || !changes {
             state.follow(line);

@@ -1,4 +1,4 @@
-//! Whole histories of receiving: their steps, and what the Rust answers to them as lines of text.
+//! Whole histories of receiving: their steps, and what the Rust answers to them as lines.
 //! compare/README.md has the layout of the lines.
 
 pub mod between;
@@ -6,9 +6,8 @@ pub mod generate;
 pub mod limits;
 pub mod reference;
 
-pub use crate::crypto::script::Reply;
 use crate::beside::Line;
-use crate::leaves::hex;
+pub use crate::crypto::script::Reply;
 
 /// A step of a history.
 #[derive(Debug, Clone, PartialEq, Eq)]
@@ -89,8 +88,9 @@ impl Answer {
         }
     }
 
-    pub fn line(&self, letter: char) -> String {
-        let mut bytes = vec![self.refusal, self.kind, self.reason];
+    pub fn bytes(&self) -> Vec<u8> {
+        let mut bytes = Vec::with_capacity(30 + self.shown.len());
+        bytes.extend_from_slice(&[self.refusal, self.kind, self.reason]);
         bytes.extend_from_slice(&self.epoch.to_be_bytes());
         bytes.extend_from_slice(&self.number.to_be_bytes());
         bytes.push(self.content_type);
@@ -98,7 +98,7 @@ impl Answer {
         bytes.extend_from_slice(&self.nonce);
         bytes.extend_from_slice(&(self.shown.len() as u16).to_be_bytes());
         bytes.extend_from_slice(&self.shown);
-        format!("{letter} {}", hex(&bytes))
+        bytes
     }
 }
 
@@ -122,8 +122,9 @@ impl Run {
             self.handed.push(answer.clone());
         }
         self.lines.push(Line {
-            asked: format!("{letter} {}", hex(input)),
-            answered: answer.line(letter),
+            letter,
+            asked: input.to_vec(),
+            answered: answer.bytes(),
         });
     }
 }

@@ -1,4 +1,4 @@
-//! Whole histories of sending: their steps, and what the Rust answers to them as lines of text.
+//! Whole histories of sending: their steps, and what the Rust answers to them as lines.
 //! compare/README.md has the layout of the lines.
 
 pub mod generate;
@@ -7,7 +7,6 @@ pub mod reference;
 pub mod rules;
 
 use crate::beside::Line;
-use crate::leaves::hex;
 
 /// Bytes given by their number and a pattern that is repeated.
 #[derive(Debug, Clone, PartialEq, Eq)]
@@ -132,8 +131,9 @@ impl Answer {
         }
     }
 
-    fn line(&self, letter: char) -> String {
-        let mut bytes = vec![self.refusal, self.kind];
+    pub fn bytes(&self) -> Vec<u8> {
+        let mut bytes = Vec::with_capacity(35 + self.shown.len());
+        bytes.extend_from_slice(&[self.refusal, self.kind]);
         bytes.extend_from_slice(&self.epoch.to_be_bytes());
         bytes.extend_from_slice(&self.number.to_be_bytes());
         bytes.extend_from_slice(&(self.start as u16).to_be_bytes());
@@ -142,7 +142,7 @@ impl Answer {
         bytes.extend_from_slice(&self.header);
         bytes.extend_from_slice(&(self.shown.len() as u16).to_be_bytes());
         bytes.extend_from_slice(&self.shown);
-        format!("{letter} {}", hex(&bytes))
+        bytes
     }
 }
 
@@ -195,8 +195,9 @@ impl Run {
     fn say(&mut self, letter: char, input: &[u8], answer: Answer) {
         self.tally.refusals[answer.refusal as usize] += 1;
         self.lines.push(Line {
-            asked: format!("{letter} {}", hex(input)),
-            answered: answer.line(letter),
+            letter,
+            asked: input.to_vec(),
+            answered: answer.bytes(),
         });
     }
 }

@@ -7,7 +7,6 @@
 mod agree;
 mod clock;
 mod inputs;
-mod link;
 mod place;
 mod rattle;
 mod rust;

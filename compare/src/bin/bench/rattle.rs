@@ -2,38 +2,43 @@
 
 use std::hint::black_box;
 
+use huskelapse::ffi::*;
+
 use crate::clock::{time, time_in_rows};
 use crate::inputs::*;
-use crate::link::*;
 
 /// The receive side: epochs 2 and 3 keyed, the peer encrypts, application data released.
-fn receiving() -> LinkReceiving {
-    let mut s = [0; 39];
-    link_receiving(&mut s, 16);
-    link_key_receive(&mut s, 2, &IV);
-    link_key_receive(&mut s, 3, &IV);
-    link_enable_peer_encryption(&mut s);
-    link_release_application_data(&mut s);
+fn receiving() -> [u64; RECEIVING_WORDS] {
+    let mut s = [0; RECEIVING_WORDS];
+    unsafe {
+        link_receiving(&mut s, 16);
+        link_key_receive(&mut s, 2, &IV);
+        link_key_receive(&mut s, 3, &IV);
+        link_enable_peer_encryption(&mut s);
+        link_release_application_data(&mut s);
+    }
     s
 }
 
 /// The sending side, the flight and their memory.
 pub struct Host {
-    s: LinkSending,
-    f: LinkFlight,
-    numbers: LinkNumbers,
+    s: [u64; SENDING_WORDS],
+    f: [u64; FLIGHT_WORDS],
+    numbers: [u64; FLIGHT_NUMBERS],
     queue: Vec<u8>,
     kept: Vec<u8>,
 }
 
 impl Host {
     pub fn new() -> Host {
-        let mut s = [0; 39];
-        link_sending(&mut s, MTU, QUEUE);
-        link_key_send(&mut s, 2, &IV);
-        link_key_send(&mut s, 3, &IV);
-        let (mut f, mut numbers) = ([0; 73], [0; 384]);
-        link_flight(&mut f, &mut numbers);
+        let mut s = [0; SENDING_WORDS];
+        let (mut f, mut numbers) = ([0; FLIGHT_WORDS], [0; FLIGHT_NUMBERS]);
+        unsafe {
+            link_sending(&mut s, MTU, QUEUE);
+            link_key_send(&mut s, 2, &IV);
+            link_key_send(&mut s, 3, &IV);
+            link_flight(&mut f, &mut numbers);
+        }
         let (queue, kept) = (vec![0xAA; QUEUE * MTU], vec![0; FLIGHT * MTU]);
         Host {
             s,
@@ -72,9 +77,14 @@ impl Host {
         }
     }
 
+    #[inline]
+    fn begin_flight(&mut self) {
+        unsafe { link_begin_flight(&mut self.f) };
+    }
+
     /// A new flight, its records sent and saved in epoch 2.
     pub fn send_flight(&mut self, content: &[u8]) {
-        link_begin_flight(&mut self.f);
+        self.begin_flight();
         let (q, room) = (self.queue.as_mut_ptr(), self.queue.len());
         let (k, k_len) = (self.kept.as_mut_ptr(), self.kept.len());
         let (c, n) = (content.as_ptr(), content.len());
@@ -118,12 +128,17 @@ impl Host {
     #[inline]
     pub fn seal_all(&mut self) {
         loop {
-            let ask = link_sealing(&self.s);
+            let ask = self.ask();
             if ask.kind != 2 {
                 return;
             }
             self.sealed(&ask);
         }
+    }
+
+    #[inline]
+    fn ask(&self) -> LinkSealing {
+        unsafe { link_sealing(&self.s) }
     }
 
     #[inline]
@@ -182,7 +197,7 @@ pub fn send(n: usize, count: u32) -> f64 {
     let mut out = [0; MTU];
     time(count, |_| {
         let sent = host.send_record(black_box(&content));
-        let ask = link_sealing(&host.s);
+        let ask = host.ask();
         let sealed = host.sealed(&ask);
         let taken = host.take(&mut out);
         assert!(sent == 0 && sealed == 0 && taken.kind == 2 && taken.length == n + 22);
@@ -195,7 +210,7 @@ pub fn send_in_place(n: usize, count: u32) -> f64 {
     let content = vec![0x55; n];
     time(count, |_| {
         let sent = host.send_record(black_box(&content));
-        let ask = link_sealing(&host.s);
+        let ask = host.ask();
         let sealed = host.sealed(&ask);
         let taken = host.take_in_place();
         assert!(sent == 0 && sealed == 0 && taken.kind == 2 && taken.length == n + 22);
@@ -207,7 +222,7 @@ pub fn message(count: u32) -> f64 {
     let mut host = Host::new();
     let body = vec![0x55; 16384];
     time(count, |_| {
-        link_begin_flight(&mut host.f);
+        host.begin_flight();
         let sent = host.send_message(black_box(&body));
         assert!(sent == 0 && host.take_all() == 12);
     })

@@ -5,6 +5,7 @@
 use std::env;
 use std::ops::Range;
 use std::process::ExitCode;
+use std::time::Instant;
 
 use dimpl::SeededRng;
 use dimpl::leaves::{LEAVES, Leaf, hex, named};
@@ -135,6 +136,31 @@ impl Comparison<'_> {
     }
 }
 
+/// A leaf asked all its short inputs, those at its limits and random ones.
+fn ask(leaf: &Leaf, count: u64, seed: u64) -> Comparison<'_> {
+    eprintln!("leaves: {} {}", leaf.letter, leaf.name);
+    let mut comparison = Comparison {
+        leaf,
+        answers: Answers {
+            rust: Vec::new(),
+            rattle: Vec::new(),
+        },
+        count: 0,
+        failed: None,
+    };
+    (leaf.short)(&mut |input| comparison.input(input));
+    (leaf.limits)(&mut |input| comparison.input(input));
+    // Each leaf has its own random numbers, so that one leaf's do not move another's.
+    let mut rng = SeededRng::new(Some(seed ^ (leaf.letter as u64) << 56));
+    for _ in 0..count {
+        if comparison.failed.is_some() {
+            break;
+        }
+        comparison.input(&(leaf.random)(&mut rng, MOST));
+    }
+    comparison
+}
+
 fn main() -> ExitCode {
     let args: Vec<String> = env::args().skip(1).collect();
     let numbers: Vec<u64> = args.iter().filter_map(|arg| arg.parse().ok()).collect();
@@ -143,28 +169,11 @@ fn main() -> ExitCode {
         return ExitCode::from(2);
     };
 
+    let begun = Instant::now();
     let mut lines = Vec::new();
     let mut failures = 0;
     for leaf in LEAVES {
-        let mut comparison = Comparison {
-            leaf,
-            answers: Answers {
-                rust: Vec::new(),
-                rattle: Vec::new(),
-            },
-            count: 0,
-            failed: None,
-        };
-        (leaf.short)(&mut |input| comparison.input(input));
-        (leaf.limits)(&mut |input| comparison.input(input));
-        // Each leaf has its own random numbers, so that one leaf's do not move another's.
-        let mut rng = SeededRng::new(Some(seed ^ (leaf.letter as u64) << 56));
-        for _ in 0..count {
-            if comparison.failed.is_some() {
-                break;
-            }
-            comparison.input(&(leaf.random)(&mut rng, MOST));
-        }
+        let mut comparison = ask(leaf, count, seed);
         if let Some(input) = comparison.failed.take() {
             comparison.report(input);
             failures += 1;
@@ -174,6 +183,7 @@ fn main() -> ExitCode {
             leaf.letter, leaf.name, comparison.count
         ));
     }
+    eprintln!("leaves: all asked, {} s", begun.elapsed().as_secs());
 
     for line in lines {
         println!("{line}");
