@@ -6,7 +6,7 @@
 enum { LONGEST = 17000, WORDS = 39, TAG = 16 };
 #define LAST_NUMBER 0xFFFFFFFFFFFFu
 
-/* The words (crates/link_words/specs/Words.antt). */
+/* The words (crates/recv_words/specs/Words.antt). */
 enum { W_COUNT = 15, W_HIGHEST, W_ENCRYPTION, W_RELEASED, W_MIN, W_SIZE, W_CURSOR, W_READINGS, W_ASKED, W_EPOCH, W_TWO, W_HEADER,
     W_LENGTH, W_NUMBER, W_IVS };
 

@@ -9,7 +9,7 @@ use crate::histories::{Answer, DROPPED, END};
 const LONGEST: usize = 16_384;
 const TAG_LEN: usize = 16;
 
-/// The words that the step `w` sets; crates/link_words says what every word is. Five of each: the epochs keyed, and of
+/// The words that the step `w` sets; crates/recv_words says what every word is. Five of each: the epochs keyed, and of
 /// their windows the highest number and the marks of it and the 63 below it.
 const EPOCHS: usize = 0;
 const HIGHEST: usize = 5;

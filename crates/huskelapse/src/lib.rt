@@ -1,14 +1,14 @@
-// The link's C interface, one static library for hosts: each call of link_receiving, link_sending, link_flight and link_acks as a C
+// The link's C interface, one static library for hosts: each call of recv_calls, send_calls, flight_calls and ack_calls as a C
 // function with the same contract. The library keeps no state.
-ghost use Rattle.link_receiving.specs.Calls as receive;
-ghost use Rattle.link_sending.specs.Calls as sends;
-ghost use Rattle.link_flight.specs.Calls as flights;
-ghost use Rattle.link_acks.specs.Calls as acks;
-use link_receiving::LinkReading;
-use link_sending::LinkPart;
-use link_sending::LinkSealing;
-use link_sending::LinkTake;
-use link_words::WORDS;
+ghost use Rattle.recv_calls.specs.Calls as receive;
+ghost use Rattle.send_calls.specs.Calls as sends;
+ghost use Rattle.flight_calls.specs.Calls as flights;
+ghost use Rattle.ack_calls.specs.Calls as acks;
+use recv_calls::LinkReading;
+use recv_words::WORDS;
+use send_calls::LinkPart;
+use send_calls::LinkSealing;
+use send_calls::LinkTake;
 
 // ---- receiving
 
@@ -16,56 +16,56 @@ use link_words::WORDS;
 pub extern "C" fn link_receiving(w: &mut [u64; WORDS], min_protected: usize) -> u8
     ensures { λ r. ⌜ receive.FreshCall r (now (w .exit)) «min_protected» ⌝ }
 {
-    link_receiving::fresh(w, min_protected)
+    recv_calls::fresh(w, min_protected)
 }
 
 #[no_mangle]
 pub extern "C" fn link_key_receive(w: &mut [u64; WORDS], epoch: u16, iv: &[u8; 12]) -> u8
     ensures { λ r. ⌜ receive.KeyReceiveCall r (now (w .exit)) (now (w .entry)) epoch (now (iv .entry)) ⌝ }
 {
-    link_receiving::key_receive(w, epoch, iv)
+    recv_calls::key_receive(w, epoch, iv)
 }
 
 #[no_mangle]
 pub extern "C" fn link_remove_receive(w: &mut [u64; WORDS], epoch: u16) -> u8
     ensures { λ r. ⌜ receive.RemoveReceiveCall r (now (w .exit)) (now (w .entry)) epoch ⌝ }
 {
-    link_receiving::remove_receive(w, epoch)
+    recv_calls::remove_receive(w, epoch)
 }
 
 #[no_mangle]
 pub extern "C" fn link_enable_peer_encryption(w: &mut [u64; WORDS]) -> u8
     ensures { λ r. ⌜ receive.EnablePeerEncryptionCall r (now (w .exit)) (now (w .entry)) ⌝ }
 {
-    link_receiving::enable_peer_encryption(w)
+    recv_calls::enable_peer_encryption(w)
 }
 
 #[no_mangle]
 pub extern "C" fn link_release_application_data(w: &mut [u64; WORDS]) -> u8
     ensures { λ r. ⌜ receive.ReleaseApplicationDataCall r (now (w .exit)) (now (w .entry)) ⌝ }
 {
-    link_receiving::release_application_data(w)
+    recv_calls::release_application_data(w)
 }
 
 #[no_mangle]
 pub extern "C" fn link_begin(w: &mut [u64; WORDS], n: usize) -> u8
     ensures { λ r. ⌜ receive.BeginCall r (now (w .exit)) (now (w .entry)) n ⌝ }
 {
-    link_receiving::begin(w, n)
+    recv_calls::begin(w, n)
 }
 
 #[no_mangle]
 pub extern "C" fn link_read(w: &mut [u64; WORDS], d: &[u8]) -> LinkReading
     ensures { λ r. ⌜ receive.ReadCall r (now (w .exit)) (now (w .entry)) (now (d .entry)) ⌝ }
 {
-    link_receiving::read(w, d)
+    recv_calls::read(w, d)
 }
 
 #[no_mangle]
 pub extern "C" fn link_begin_read(w: &mut [u64; WORDS], d: &[u8]) -> LinkReading
     ensures { λ r. ⌜ receive.BeginReadCall r (now (w .exit)) (now (w .entry)) (now (d .entry)) ⌝ }
 {
-    link_receiving::begin_read(w, d)
+    recv_calls::begin_read(w, d)
 }
 
 #[no_mangle]
@@ -77,7 +77,7 @@ pub extern "C" fn link_mask(
 ) -> LinkReading
     ensures { λ r. ⌜ receive.MaskCall r (now (w .exit)) (now (w .entry)) «mask_0» «mask_1» (now (d .exit)) (now (d .entry)) ⌝ }
 {
-    link_receiving::mask(w, mask_0, mask_1, d)
+    recv_calls::mask(w, mask_0, mask_1, d)
 }
 
 #[no_mangle]
@@ -89,7 +89,7 @@ pub extern "C" fn link_opened(
 ) -> LinkReading
     ensures { λ r. ⌜ receive.OpenedCall r (now (w .exit)) (now (w .entry)) opened length (now (d .entry)) ⌝ }
 {
-    link_receiving::opened(w, opened, length, d)
+    recv_calls::opened(w, opened, length, d)
 }
 
 // ---- sending
@@ -98,14 +98,14 @@ pub extern "C" fn link_opened(
 pub extern "C" fn link_sending(w: &mut [u64; send_words::WORDS], mtu: usize, limit: usize) -> u8
     ensures { λ r. ⌜ sends.FreshCall r (now (w .exit)) mtu limit ⌝ }
 {
-    link_sending::fresh(w, mtu, limit)
+    send_calls::fresh(w, mtu, limit)
 }
 
 #[no_mangle]
 pub extern "C" fn link_key_send(w: &mut [u64; send_words::WORDS], epoch: u16, iv: &[u8; 12]) -> u8
     ensures { λ r. ⌜ sends.KeySendCall r (now (w .exit)) (now (w .entry)) epoch (now (iv .entry)) ⌝ }
 {
-    link_sending::key_send(w, epoch, iv)
+    send_calls::key_send(w, epoch, iv)
 }
 
 #[no_mangle]
@@ -118,14 +118,14 @@ pub extern "C" fn link_send(
 ) -> u8
     ensures { λ r. ⌜ sends.SendCall r (now (w .exit)) (now (w .entry)) epoch «content_type» (now (content .entry)) (now (queue .exit)) (now (queue .entry)) ⌝ }
 {
-    link_sending::send(w, epoch, content_type, content, queue)
+    send_calls::send(w, epoch, content_type, content, queue)
 }
 
 #[no_mangle]
 pub extern "C" fn link_sealing(w: &[u64; send_words::WORDS]) -> LinkSealing
     ensures { λ r. ⌜ sends.SealingCall r (now (w .entry)) ⌝ }
 {
-    link_sending::sealing(w)
+    send_calls::sealing(w)
 }
 
 #[no_mangle]
@@ -138,7 +138,7 @@ pub extern "C" fn link_sealed(
 ) -> u8
     ensures { λ r. ⌜ sends.SealedCall r (now (w .exit)) (now (w .entry)) length «mask_0» «mask_1» (now (queue .exit)) (now (queue .entry)) ⌝ }
 {
-    link_sending::sealed(w, length, mask_0, mask_1, queue)
+    send_calls::sealed(w, length, mask_0, mask_1, queue)
 }
 
 #[no_mangle]
@@ -149,14 +149,14 @@ pub extern "C" fn link_take(
 ) -> LinkTake
     ensures { λ r. ⌜ sends.TakeCall r (now (w .exit)) (now (w .entry)) (now (buffer .exit)) (now (buffer .entry)) (now (queue .entry)) ⌝ }
 {
-    link_sending::take(w, buffer, queue)
+    send_calls::take(w, buffer, queue)
 }
 
 #[no_mangle]
 pub extern "C" fn link_take_in_place(w: &mut [u64; send_words::WORDS], queue: &[u8]) -> LinkPart
     ensures { λ r. ⌜ sends.TakeInPlaceCall r (now (w .exit)) (now (w .entry)) (now (queue .entry)) ⌝ }
 {
-    link_sending::take_in_place(w, queue)
+    send_calls::take_in_place(w, queue)
 }
 
 // ---- saved records and handshake messages
@@ -165,14 +165,14 @@ pub extern "C" fn link_take_in_place(w: &mut [u64; send_words::WORDS], queue: &[
 pub extern "C" fn link_flight(f: &mut [u64; flight_words::WORDS], numbers: &mut [u64; 384])
     ensures { λ _. ⌜ flights.FreshCall (now (f .exit)) (now (numbers .exit)) ⌝ }
 {
-    link_flight::fresh(f, numbers)
+    flight_calls::fresh(f, numbers)
 }
 
 #[no_mangle]
 pub extern "C" fn link_begin_flight(f: &mut [u64; flight_words::WORDS]) -> u8
     ensures { λ r. ⌜ flights.BeginFlightCall r (now (f .exit)) (now (f .entry)) ⌝ }
 {
-    link_flight::begin_flight(f)
+    flight_calls::begin_flight(f)
 }
 
 #[no_mangle]
@@ -188,7 +188,7 @@ pub extern "C" fn link_send_saved(
 ) -> u8
     ensures { λ r. ⌜ flights.SendSavedCall r (now (w .exit)) (now (w .entry)) (now (f .exit)) (now (f .entry)) (now (numbers .exit)) (now (numbers .entry)) epoch «content_type» (now (content .entry)) (now (queue .exit)) (now (queue .entry)) (now (kept .exit)) (now (kept .entry)) ⌝ }
 {
-    link_flight::send_saved(w, f, numbers, epoch, content_type, content, queue, kept)
+    flight_calls::send_saved(w, f, numbers, epoch, content_type, content, queue, kept)
 }
 
 #[no_mangle]
@@ -203,7 +203,7 @@ pub extern "C" fn link_create_handshake(
 ) -> u8
     ensures { λ r. ⌜ flights.CreateHandshakeCall r (now (w .exit)) (now (w .entry)) (now (f .exit)) (now (f .entry)) (now (numbers .exit)) (now (numbers .entry)) kind (now (body .entry)) (now (queue .exit)) (now (queue .entry)) (now (kept .exit)) (now (kept .entry)) ⌝ }
 {
-    link_flight::create_handshake(w, f, numbers, kind, body, queue, kept)
+    flight_calls::create_handshake(w, f, numbers, kind, body, queue, kept)
 }
 
 // ---- resends and ACKs
@@ -218,7 +218,7 @@ pub extern "C" fn link_resend(
 ) -> u8
     ensures { λ r. ⌜ acks.ResendCall r (now (w .exit)) (now (w .entry)) (now (f .exit)) (now (f .entry)) (now (numbers .exit)) (now (numbers .entry)) (now (kept .entry)) (now (queue .exit)) (now (queue .entry)) ⌝ }
 {
-    link_acks::resend(w, f, numbers, kept, queue)
+    ack_calls::resend(w, f, numbers, kept, queue)
 }
 
 #[no_mangle]
@@ -229,7 +229,7 @@ pub extern "C" fn link_process_ack(
 ) -> u8
     ensures { λ r. ⌜ acks.ProcessAckCall r (now (f .exit)) (now (f .entry)) (now (numbers .exit)) (now (numbers .entry)) (now (content .entry)) ⌝ }
 {
-    link_acks::process_ack(f, numbers, content)
+    ack_calls::process_ack(f, numbers, content)
 }
 
 #[no_mangle]
@@ -242,7 +242,7 @@ pub extern "C" fn link_note(
 ) -> u8
     ensures { λ r. ⌜ acks.NoteCall r (acks.notesOf (now (count .exit)) (now (epochs .exit)) (now (numbers .exit))) (acks.notesOf (now (count .entry)) (now (epochs .entry)) (now (numbers .entry))) epoch number ⌝ }
 {
-    link_acks::note(count, epochs, numbers, epoch, number)
+    ack_calls::note(count, epochs, numbers, epoch, number)
 }
 
 #[no_mangle]
@@ -255,5 +255,5 @@ pub extern "C" fn link_send_ack(
 ) -> u8
     ensures { λ r. ⌜ acks.SendAckCall r (now (w .exit)) (now (w .entry)) (acks.notesOf (now (count .exit)) (now (epochs .exit)) (now (numbers .exit))) (acks.notesOf (now (count .entry)) (now (epochs .entry)) (now (numbers .entry))) (now (queue .exit)) (now (queue .entry)) ⌝ }
 {
-    link_acks::send_ack(w, count, epochs, numbers, queue)
+    ack_calls::send_ack(w, count, epochs, numbers, queue)
 }
