@@ -2,7 +2,10 @@
 use mathlib.Core.Bool.{true, false}
 use Prim.Native.Nat.{ℕ}
 use Rattle.window.specs.declared.ReplayWindow.{ReplayWindow}
+use Rattle.record.specs.declared.Ciphertext.{Ciphertext}
 use Rattle.record.specs.declared.Parsed.{Parsed}
+use Rattle.record.specs.declared.Plaintext.{Plaintext}
+use Rattle.record.specs.Record.{plainHead}
 use Rattle.record.specs.declared.Parsed.the-variants as parse
 use Rattle.handshake.specs.declared.ParsedHeader.{ParsedHeader}
 use Rattle.handshake.specs.declared.ParsedHeader.the-variants as header
@@ -31,20 +34,19 @@ bare kind head len = record {
   length = len;
 }
 
-abbrev pub flatParsed : Parsed → LeavesParsed
-flatParsed parse.End = bare 0 0 0
-flatParsed parse.Incomplete = bare 1 0 0
-flatParsed (parse.Invalid n) = bare 2 13 n
-flatParsed (parse.Plaintext p) = record {
+abbrev pub flatPlaintext : Plaintext → LeavesParsed
+flatPlaintext p = record {
   kind = 3;
   «content_type» = p .«content_type»;
   «epoch_bits» = 0;
   «s_flag» = false;
   «sequence_number» = p .«sequence_number»;
-  «header_len» = 13;
+  «header_len» = plainHead;
   length = p .length;
 }
-flatParsed (parse.Ciphertext c) = record {
+
+abbrev pub flatCiphertext : Ciphertext → LeavesParsed
+flatCiphertext c = record {
   kind = 4;
   «content_type» = 0;
   «epoch_bits» = c .«epoch_bits»;
@@ -53,6 +55,13 @@ flatParsed (parse.Ciphertext c) = record {
   «header_len» = c .«header_len»;
   length = c .length;
 }
+
+abbrev pub flatParsed : Parsed → LeavesParsed
+flatParsed parse.End = bare 0 0 0
+flatParsed parse.Incomplete = bare 1 0 0
+flatParsed (parse.Invalid n) = bare 2 plainHead n
+flatParsed (parse.Plaintext p) = flatPlaintext p
+flatParsed (parse.Ciphertext c) = flatCiphertext c
 
 abbrev pub flatHeader : ParsedHeader → LeavesHeader
 flatHeader header.Incomplete = record { found = false; «msg_type» = 0; length = 0; «message_seq» = 0; «fragment_offset» = 0; «fragment_length» = 0 }

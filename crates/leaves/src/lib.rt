@@ -6,11 +6,14 @@ ghost use Rattle.dtls_aead.specs.Nonce.{nonceOf};
 ghost use Rattle.record.specs.Record.{parsed, plaintextHeader, unifiedHeader};
 ghost use Rattle.handshake.specs.Header.{headerBytes, parseHeader};
 ghost use Rattle.incoming.specs.Inner.{innerOf};
-ghost use Rattle.leaves.specs.Flat.{windowOf, flatWindow, flatParsed, flatHeader, flatInner};
+ghost use Rattle.leaves.specs.Flat.{windowOf, flatWindow, bare, flatPlaintext, flatCiphertext, flatParsed, flatHeader, flatInner};
 use handshake::Header;
 use handshake::ParsedHeader;
 use incoming::Inner;
+use record::Ciphertext;
+use record::PLAINTEXT_HEADER_LEN;
 use record::Parsed;
+use record::Plaintext;
 use window::ReplayWindow;
 
 #[repr(C)]
@@ -121,51 +124,59 @@ pub extern "C" fn leaves_nonce_xor(iv: LeavesNonce, seq: u64) -> LeavesNonce
     LeavesNonce { bytes: n }
 }
 
+// An answer without a record: the header's length and the length where it has them.
+fn bare(kind: u8, header_len: usize, length: usize) -> LeavesParsed
+    ensures { λ r. ⌜ r ≡ bare kind «header_len» length ⌝ }
+{
+    LeavesParsed {
+        kind: kind,
+        content_type: 0,
+        epoch_bits: 0,
+        s_flag: false,
+        sequence_number: 0,
+        header_len: header_len,
+        length: length,
+    }
+}
+
+fn flat_plaintext(p: Plaintext) -> LeavesParsed
+    ensures { λ r. ⌜ r ≡ flatPlaintext p ⌝ }
+{
+    LeavesParsed {
+        kind: 3,
+        content_type: p.content_type,
+        epoch_bits: 0,
+        s_flag: false,
+        sequence_number: p.sequence_number,
+        header_len: PLAINTEXT_HEADER_LEN,
+        length: p.length,
+    }
+}
+
+fn flat_ciphertext(c: Ciphertext) -> LeavesParsed
+    ensures { λ r. ⌜ r ≡ flatCiphertext c ⌝ }
+{
+    LeavesParsed {
+        kind: 4,
+        content_type: 0,
+        epoch_bits: c.epoch_bits,
+        s_flag: c.s_flag,
+        sequence_number: c.sequence_number,
+        header_len: c.header_len,
+        length: c.length,
+    }
+}
+
 // The answer flat: one struct for every kind.
 fn flat_parsed(p: Parsed) -> LeavesParsed
     ensures { λ r. ⌜ r ≡ flatParsed p ⌝ }
 {
-    let mut kind: u8 = 0;
-    let mut content_type: u8 = 0;
-    let mut epoch_bits: u8 = 0;
-    let mut s_flag = false;
-    let mut sequence_number: u64 = 0;
-    let mut header_len: usize = 0;
-    let mut length: usize = 0;
     match p {
-        Parsed::End => {}
-        Parsed::Incomplete => {
-            kind = 1;
-        }
-        Parsed::Invalid(n) => {
-            kind = 2;
-            header_len = 13;
-            length = n;
-        }
-        Parsed::Plaintext(r) => {
-            kind = 3;
-            content_type = r.content_type;
-            sequence_number = r.sequence_number;
-            header_len = 13;
-            length = r.length;
-        }
-        Parsed::Ciphertext(r) => {
-            kind = 4;
-            epoch_bits = r.epoch_bits;
-            s_flag = r.s_flag;
-            sequence_number = r.sequence_number;
-            header_len = r.header_len;
-            length = r.length;
-        }
-    }
-    LeavesParsed {
-        kind: kind,
-        content_type: content_type,
-        epoch_bits: epoch_bits,
-        s_flag: s_flag,
-        sequence_number: sequence_number,
-        header_len: header_len,
-        length: length,
+        Parsed::End => bare(0, 0, 0),
+        Parsed::Incomplete => bare(1, 0, 0),
+        Parsed::Invalid(n) => bare(2, PLAINTEXT_HEADER_LEN, n),
+        Parsed::Plaintext(r) => flat_plaintext(r),
+        Parsed::Ciphertext(r) => flat_ciphertext(r),
     }
 }
 
