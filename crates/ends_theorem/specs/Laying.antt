@@ -21,7 +21,8 @@ use Rattle.flight.specs.declared.Flight.{Flight}
 use Rattle.flight.specs.declared.Saved.{Saved}
 use Rattle.flight.specs.Save.{saveAnswer, saveState, saveQueue}
 use Rattle.messages.specs.Cut.{epochOf, overhead, size-rest}
-use Rattle.messages.specs.Message.{contentOf, Laid, pieceOf, sendAll, numbered, beginning, messageState, messageQueue, length-content}
+use Rattle.outgoing.specs.State.{numbered}
+use Rattle.messages.specs.Message.{contentOf, Laid, pieceOf, sendAll, beginning, messageState, messageQueue, length-content}
 use Rattle.waiting_laws.specs.Calls.{Stores}
 use Rattle.waiting_laws.specs.Pieces.{allSent, numbered-holds, afterMessage}
 use Rattle.waiting_laws.specs.Queued.{Queued, plain, waits, sealed, bytesOf, flat, Holds}

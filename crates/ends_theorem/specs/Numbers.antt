@@ -11,7 +11,7 @@ use native.Mathlib.Omega.{arith}
 use Rattle.base.specs.Choose.{choose, both, either, if-true, if-false, by-test, test-cases, either-true, either-false}
 use Rattle.send_keys.specs.declared.SendAnswer.{SendAnswer}
 use Rattle.send_keys.specs.declared.SendKeys.{SendKeys}
-use Rattle.send_keys.specs.Keys.{isUsable, isKeyed, nextOf, used, sealedUpTo, keyAnswer, begun, keyed, next-plaintext, next-handshake, next-application, used-next}
+use Rattle.send_keys.specs.Keys.{isUsable, isKeyed, nextOf, used, sealedUpTo, keyAnswer, begun, keyed, next-plaintext, next-handshake, next-application, used-next, withHandshake, withApplication}
 use Rattle.history_theorem.specs.Account.{upd}
 use Rattle.history_theorem.specs.Claim.{Once}
 use Rattle.history_theorem.specs.Lists.{upd-same, upd-other, upd-by, mem-by, either-cases, both-cases}
@@ -118,8 +118,8 @@ Behind k e x j = ((x ≡ e) × (nextOf j x ≡ 0)) ⊎ ((x ≡ e → ⊥) × (is
 pub keyed-next : (k : SendKeys) (e : ℕ) (iv : List ℕ) → NewEpoch k e → (x : ℕ) → isUsable (keyed k e iv) x ≡ true → Behind k e x (keyed k e iv)
 unfolding keyed isUsable nextOf
 keyed-next k e iv new x =
-    let two : SendKeys = record { «plaintext_next» = k .«plaintext_next»; handshake = begun e iv; application = k .application } in
-    let later : SendKeys = record { «plaintext_next» = k .«plaintext_next»; handshake = k .handshake; application = begun e iv } in
+    let two : SendKeys = withHandshake k (begun e iv) in
+    let later : SendKeys = withApplication k (begun e iv) in
     by-test (λ j. isUsable j x ≡ true → Behind k e x j)
     (λ t u.
     let is : e ≡ 2 = eqb-true _ _ t in

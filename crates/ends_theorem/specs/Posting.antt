@@ -22,22 +22,8 @@ use Rattle.flight.specs.Save.{saveAnswer, save-safe}
 use Rattle.messages.specs.declared.Cut.{Cut}
 use Rattle.messages.specs.Cut as cut
 use Rattle.messages.specs.Cut.{epochOf, sizeIn, cutNext}
-use Rattle.messages.specs.Message.{
-  contentOf,
-  Laid,
-  sendAll,
-  firstCut,
-  numbered,
-  beginning,
-  sentAll,
-  messageAnswer,
-  messageState,
-  messageQueue,
-  messageKept,
-  length-content,
-  all-more,
-  all-last,
-}
+use Rattle.outgoing.specs.State.{numbered}
+use Rattle.messages.specs.Message.{contentOf, Laid, sendAll, firstCut, beginning, sentAll, messageAnswer, messageState, messageQueue, messageKept, length-content, all-more, all-last}
 use Rattle.acks.specs.declared.Notes.{Notes}
 use Rattle.waiting_laws.specs.Calls.{Stores, message·, only}
 use Rattle.waiting_laws.specs.Pieces.{numbered-holds}

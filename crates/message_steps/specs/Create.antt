@@ -9,7 +9,8 @@ use Rattle.send_keys.specs.declared.SendAnswer.{SendAnswer}
 use Rattle.flight.specs.Flight.{counted}
 use Rattle.flight.specs.Save.{saveState}
 use Rattle.messages.specs.Cut.{epochOf}
-use Rattle.messages.specs.Message.{Laid, contentOf, pieceOf, numbered, beginning, sendAll, messageAnswer, messageState, messageQueue, messageKept, message-counted, length-content, laid-same}
+use Rattle.outgoing.specs.State.{numbered}
+use Rattle.messages.specs.Message.{Laid, contentOf, pieceOf, beginning, sendAll, messageAnswer, messageState, messageQueue, messageKept, message-counted, length-content, laid-same}
 use Rattle.words.specs.Fields.{firstOf, by-words, low-back}
 use Rattle.send_words.specs.Words.{words, message-at, lowsFrom, stateOf, isFlat}
 use Rattle.send_words.specs.Partly.{Partly}

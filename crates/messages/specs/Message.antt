@@ -7,6 +7,7 @@ use native.Mathlib.Omega.{arith}
 use lib.Dec.{ltb, leb, eqb}
 use lib.ListN.{length, length-append, length-take, length-drop}
 use borrow.Author.Tests.{ltb-false, leb-true, leb-false, eq-eqb, ne-eqb}
+use Rattle.outgoing.specs.State.{numbered}
 use Rattle.base.specs.Choose.{choose, by-test, both-left, if-true, if-false}
 use Rattle.base.specs.Parts.{part}
 use Rattle.handshake.specs.Header.{headerBytes, length-header}
@@ -86,9 +87,6 @@ messageAnswer s f room kept kind n =
     KeysAbsent))
     OutOfRange)
     OutOfRange
-
-abbrev pub numbered : Sending → ℕ → Sending
-numbered s n = record { queue = s .queue; waiting = s .waiting; keys = s .keys; «message_seq» = n }
 
 abbrev pub beginning : Sending → Flight → List ℕ → List ℕ → Laid
 beginning s f q m = record { saved = record { answer = Done; state = s; flight = f }; queue = q; kept = m }

@@ -21,7 +21,7 @@ use Rattle.outgoing.specs.declared.Sending.{Sending}
 use Rattle.send_keys.specs.declared.SendAnswer.{SendAnswer}
 use Rattle.send_keys.specs.declared.SendAnswer.the-variants.{Done, OutOfRange, BadEpoch, BadRecord, KeysAbsent, QueueFull, NumbersSpent}
 use Rattle.outgoing.specs.declared.Sent.{Sent}
-use Rattle.outgoing.specs.State.{isAllowed}
+use Rattle.outgoing.specs.State.{isAllowed, withQueue, withWaiting, withKeys}
 
 -- where a record with a content of n bytes goes
 abbrev pub spotOf : Sending → ℕ → ℕ → Place
@@ -47,14 +47,12 @@ waitsBehind s e n p =
       number = nextOf (s .keys) e;
     })
 
--- the state with one record more: queued, waiting to be sealed if it is not plaintext, its number used
+-- the state with one record more at a place: queued, waiting to be sealed if it is not plaintext, its number used
+abbrev pub laidAt : Sending → ℕ → ℕ → Place → Sending
+laidAt s e n p = withWaiting (withKeys (withQueue s (laid (s .queue) p (recordLen e n))) (used (s .keys) e)) (waitsBehind s e n p)
+
 unfoldable pub laidState : Sending → ℕ → ℕ → Sending
-laidState s e n = record {
-  queue = laid (s .queue) (spotOf s e n) (recordLen e n);
-  waiting = waitsBehind s e n (spotOf s e n);
-  keys = used (s .keys) e;
-  «message_seq» = s .«message_seq»;
-}
+laidState s e n = laidAt s e n (spotOf s e n)
 
 unfoldable pub laidMemory : Sending → ℕ → ℕ → List ℕ → List ℕ → List ℕ
 laidMemory s e t x q = splice (startOf (s .queue) (spotOf s e (length x))) (recordBytes e t (nextOf (s .keys) e) x) q

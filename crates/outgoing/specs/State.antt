@@ -6,6 +6,7 @@ use Prim.Native.Nat.{ℕ, _≤_}
 use borrow.Author.Tests.{leb-true}
 use lib.Dec.{leb, eqb}
 use lib.ListN.{replicate}
+use Rattle.queue.specs.declared.Queue.{Queue}
 use Rattle.base.specs.Choose.{choose, both, either, both-left, both-right}
 use Rattle.record.specs.Record.{isType}
 use Rattle.queue.specs.Queue.{isSetting, isSound}
@@ -47,6 +48,16 @@ isAllowed mtu e t n = both (isContentType e t) (both (leb n 16384) (leb (recordL
 pub allowed-short : (mtu e t n : ℕ) → isAllowed mtu e t n ≡ true → n ≤ 16384
 unfolding isAllowed
 allowed-short mtu e t n h = leb-true n 16384 (both-left (leb n 16384) _ (both-right (isContentType e t) _ h))
+
+-- a state with a part put anew
+abbrev pub withQueue : Sending → Queue → Sending
+withQueue s q = record { queue = q; waiting = s .waiting; keys = s .keys; «message_seq» = s .«message_seq» }
+
+abbrev pub withWaiting : Sending → Waiting → Sending
+withWaiting s x = record { queue = s .queue; waiting = x; keys = s .keys; «message_seq» = s .«message_seq» }
+
+abbrev pub numbered : Sending → ℕ → Sending
+numbered s n = record { queue = s .queue; waiting = s .waiting; keys = s .keys; «message_seq» = n }
 
 abbrev pub withKeys : Sending → SendKeys → Sending
 withKeys s k = record { queue = s .queue; waiting = s .waiting; keys = k; «message_seq» = s .«message_seq» }

@@ -1,5 +1,6 @@
 -- The queue of datagrams (01, "Datagrams to send"): ranges, the ring of slots, and where a record goes. Its laws. Assumes nothing.
 use mathlib.Core.Bool.{Bool, true, false, false≢true}
+use mathlib.Core.List.{List}
 use mathlib.Core.Path.{_≡_, refl, ap, _∙_}
 use Prim.Native.Nat.{ℕ, _+_, _-_, _*_, _<_, _≤_}
 use native.Mathlib.Nat.{mul-le-mul, mul-le-mul-right}
@@ -48,16 +49,16 @@ placeOf mtu t n = choose (joins mtu t n) (record { datagram = t .count - 1; offs
 unfoldable pub grown : Place → ℕ → Tail
 grown p n = record { used = p .offset + n; joinable = true; count = p .datagram + 1 }
 
+-- a queue with another front, and with another end
+abbrev pub withFront : Queue → ℕ → ℕ → Queue
+withFront q first count = record { mtu = q .mtu; limit = q .limit; first = first; count = count; closed = q .closed; lengths = q .lengths }
+
+abbrev pub withEnd : Queue → ℕ → Bool → List ℕ → Queue
+withEnd q count closed lengths = record { mtu = q .mtu; limit = q .limit; first = q .first; count = count; closed = closed; lengths = lengths }
+
 -- the queue with a record of n bytes at a place; a new datagram "ends the closed state"
 unfoldable pub laid : Queue → Place → ℕ → Queue
-laid q p n = record {
-  mtu = q .mtu;
-  limit = q .limit;
-  first = q .first;
-  count = p .datagram + 1;
-  closed = false;
-  lengths = set (q .lengths) (slotOf (q .first) (q .limit) (p .datagram)) (p .offset + n);
-}
+laid q p n = withEnd q (p .datagram + 1) false (set (q .lengths) (slotOf (q .first) (q .limit) (p .datagram)) (p .offset + n))
 
 -- the first byte of a record at a place
 unfoldable pub startOf : Queue → Place → ℕ

@@ -8,13 +8,13 @@ use lib.Dec.{ltb, leb, eqb}
 use borrow.Author.Tests.{leb-true, eqb-true, eqb-false}
 use Rattle.base.specs.Choose.{choose, both, by-test, test-cases, both-left}
 use Rattle.queue.specs.declared.Tail.{Tail}
-use Rattle.queue.specs.Queue.{isReady, tailOf, placeOf, grown, placed, Tailed, InRange, Ready, ready}
+use Rattle.queue.specs.Queue.{isReady, tailOf, placeOf, grown, placed, Tailed, InRange, Ready, ready, withEnd}
 use Rattle.queue.specs.Laid.{recordLen}
 use Rattle.send_keys.specs.declared.SendKeys.{SendKeys}
 use Rattle.send_keys.specs.Answer.{isDone}
 use Rattle.send_keys.specs.Keys.{isUsable, isKeyed, nextOf}
 use Rattle.outgoing.specs.declared.Sending.{Sending}
-use Rattle.outgoing.specs.State.{isAllowed, allowed-short}
+use Rattle.outgoing.specs.State.{isAllowed, allowed-short, withQueue}
 use Rattle.outgoing.specs.Send.{allowed-fits}
 use Rattle.flight.specs.declared.Entry.{Entry}
 use Rattle.flight.specs.declared.Flight.{Flight}
@@ -99,12 +99,7 @@ anySpent k f = choose (isSpent k f 0) true (choose (isSpent k f 2) true (isSpent
 
 -- "closes the datagram"
 unfoldable pub closedState : Sending → Sending
-closedState s = record {
-  queue = record { mtu = s .queue .mtu; limit = s .queue .limit; first = s .queue .first; count = s .queue .count; closed = true; lengths = s .queue .lengths };
-  waiting = s .waiting;
-  keys = s .keys;
-  «message_seq» = s .«message_seq»;
-}
+closedState s = withQueue s (withEnd (s .queue) (s .queue .count) true (s .queue .lengths))
 
 -- 19, 20
 unfoldable pub fitAnswer : Sending → Flight → SendAnswer

@@ -5,9 +5,10 @@ use mathlib.Core.Path.{_≡_, refl, sym, ap, _∙_}
 use Prim.Native.Nat.{ℕ, _+_, _≤_}
 use borrow.Author.Tests.{eq-eqb, ne-eqb}
 use lib.ListN.{length, set}
+use Rattle.outgoing.specs.State.{withKeys, withWaiting}
 use Rattle.base.specs.Choose.{if-true, if-false, both-left, both-true}
 use Rattle.send_keys.specs.declared.SendKeys.{SendKeys}
-use Rattle.send_keys.specs.Keys.{withSealed, sealedUpTo}
+use Rattle.send_keys.specs.Keys.{withSealed, sealedUpTo, withHandshake, withApplication}
 use Rattle.outgoing.specs.declared.Sending.{Sending}
 use Rattle.outgoing.specs.declared.Waiting.{Waiting}
 use Rattle.words.specs.Fields.{firstOf, by-words, low-bit}
@@ -16,26 +17,26 @@ use Rattle.send_words.specs.Partly.{Partly, low-waiting, waiting-back}
 
 -- these keys, and this sealing waits
 abbrev with : Sending → SendKeys → Waiting → Sending
-with s k x = record { queue = s .queue; waiting = x; keys = k; «message_seq» = s .«message_seq» }
+with s k x = withWaiting (withKeys s k) x
 
 -- a number of an epoch is sealed, and this sealing waits next
 abbrev pub settled : Sending → ℕ → ℕ → Waiting → Sending
 settled s e n x = with s (sealedUpTo (s .keys) e n) x
 
-abbrev withHandshake : SendKeys → ℕ → SendKeys
-withHandshake k y = record { «plaintext_next» = k .«plaintext_next»; handshake = withSealed (k .handshake) y; application = k .application }
+abbrev sealedHandshake : SendKeys → ℕ → SendKeys
+sealedHandshake k y = withHandshake k (withSealed (k .handshake) y)
 
-abbrev withApplication : SendKeys → ℕ → SendKeys
-withApplication k y = record { «plaintext_next» = k .«plaintext_next»; handshake = k .handshake; application = withSealed (k .application) y }
+abbrev sealedApplication : SendKeys → ℕ → SendKeys
+sealedApplication k y = withApplication k (withSealed (k .application) y)
 
 module _ (w : List ℕ) (h : length w ≡ words) (x : Waiting) (y : ℕ) where
-  handshake-put : stateOf (set (putWaiting x w) handshake-sealed-at y) ≡ with (stateOf w) (withHandshake (stateOf w .keys) y) (low-waiting x)
+  handshake-put : stateOf (set (putWaiting x w) handshake-sealed-at y) ≡ with (stateOf w) (sealedHandshake (stateOf w .keys) y) (low-waiting x)
   unfolding firstOf lowsFrom low-waiting
-  handshake-put = by-words words (λ (v : List ℕ). stateOf (set (putWaiting x v) handshake-sealed-at y) ≡ with (stateOf v) (withHandshake (stateOf v .keys) y) (low-waiting x)) w h refl
+  handshake-put = by-words words (λ (v : List ℕ). stateOf (set (putWaiting x v) handshake-sealed-at y) ≡ with (stateOf v) (sealedHandshake (stateOf v .keys) y) (low-waiting x)) w h refl
 
-  application-put : stateOf (set (putWaiting x w) application-sealed-at y) ≡ with (stateOf w) (withApplication (stateOf w .keys) y) (low-waiting x)
+  application-put : stateOf (set (putWaiting x w) application-sealed-at y) ≡ with (stateOf w) (sealedApplication (stateOf w .keys) y) (low-waiting x)
   unfolding firstOf lowsFrom low-waiting
-  application-put = by-words words (λ (v : List ℕ). stateOf (set (putWaiting x v) application-sealed-at y) ≡ with (stateOf v) (withApplication (stateOf v .keys) y) (low-waiting x)) w h refl
+  application-put = by-words words (λ (v : List ℕ). stateOf (set (putWaiting x v) application-sealed-at y) ≡ with (stateOf v) (sealedApplication (stateOf v .keys) y) (low-waiting x)) w h refl
 
   flat-put : isFlat w ≡ true → (isFlat (set (putWaiting x w) handshake-sealed-at y) ≡ true) × (isFlat (set (putWaiting x w) application-sealed-at y) ≡ true)
   unfolding firstOf isFlat
@@ -47,7 +48,7 @@ module _ (w v : List ℕ) (h : length w ≡ words) (e n : ℕ) (x : Waiting) (p 
   unfolding sealedUpTo
   handshake-settles g =
       rw p (
-        handshake-put w h x (n + 1) ∙ ap (with (stateOf w) (withHandshake (stateOf w .keys) (n + 1))) (waiting-back x l)
+        handshake-put w h x (n + 1) ∙ ap (with (stateOf w) (sealedHandshake (stateOf w .keys) (n + 1))) (waiting-back x l)
             ∙ ap (λ (k : SendKeys). with (stateOf w) k x) (sym (if-true _ _ (eq-eqb _ _ g))),
         λ f. flat-put w h x (n + 1) f .0,
       )
@@ -56,7 +57,7 @@ module _ (w v : List ℕ) (h : length w ≡ words) (e n : ℕ) (x : Waiting) (p 
   unfolding sealedUpTo
   application-settles g =
       rw p (
-        application-put w h x (n + 1) ∙ ap (with (stateOf w) (withApplication (stateOf w .keys) (n + 1))) (waiting-back x l)
+        application-put w h x (n + 1) ∙ ap (with (stateOf w) (sealedApplication (stateOf w .keys) (n + 1))) (waiting-back x l)
             ∙ ap (λ (k : SendKeys). with (stateOf w) k x) (sym (if-false _ _ (ne-eqb _ _ g))),
         λ f. flat-put w h x (n + 1) f .1,
       )

@@ -19,7 +19,7 @@ use Rattle.queue.specs.Queue.{isSound, isReady, InRange, ready}
 use Rattle.send_keys.specs.Keys.{ivOf, sealedUpTo}
 use Rattle.outgoing.specs.declared.Waiting.{Waiting}
 use Rattle.outgoing.specs.declared.Sending.{Sending}
-use Rattle.outgoing.specs.State.{noWaiting}
+use Rattle.outgoing.specs.State.{noWaiting, withWaiting, withKeys}
 use Rattle.sealing.specs.declared.Search.{Search}
 use Rattle.sealing.specs.declared.SealQuestion.{SealQuestion}
 use Rattle.sealing.specs.declared.SealQuestion.the-variants as ask
@@ -109,12 +109,7 @@ isSealed reply.NoQuestion = false
 
 -- the next one waits, and the number is sealed
 abbrev pub afterSealing : Sending → List ℕ → Sending
-afterSealing s q = record {
-  queue = s .queue;
-  waiting = seek 2000 (s .queue) q (behindOldest s);
-  keys = sealedUpTo (s .keys) (s .waiting .epoch) (s .waiting .number);
-  «message_seq» = s .«message_seq»;
-}
+afterSealing s q = withWaiting (withKeys s (sealedUpTo (s .keys) (s .waiting .epoch) (s .waiting .number))) (seek 2000 (s .queue) q (behindOldest s))
 
 unfoldable pub sealedState : SealAnswer → Sending → List ℕ → Reply
 sealedState a s q = record { answer = a; state = choose (isSealed a) (afterSealing s q) s }

@@ -8,18 +8,12 @@ use Rattle.base.specs.Bytes.{beAt}
 use Rattle.base.specs.Choose.{if-true, if-false}
 use Rattle.send_keys.specs.declared.SendEpoch.{SendEpoch}
 use Rattle.send_keys.specs.declared.SendKeys.{SendKeys}
-use Rattle.send_keys.specs.Keys.{begun, keyed}
+use Rattle.send_keys.specs.Keys.{begun, keyed, withHandshake, withApplication}
 use Rattle.outgoing.specs.State.{withKeys}
 use Rattle.words.specs.Fields.{firstOf, by-words, low-back}
 use Rattle.words.specs.Packed.{ivOf, LowIv, iv-back}
 use Rattle.send_words.specs.Words.{words, handshake-at, handshake-iv-at, application-at, application-iv-at, lowsFrom, stateOf, isFlat, putEpoch}
 use Rattle.send_words.specs.Partly.{Partly}
-
-abbrev withHandshake : SendKeys → SendEpoch → SendKeys
-withHandshake k e = record { «plaintext_next» = k .«plaintext_next»; handshake = e; application = k .application }
-
-abbrev withApplication : SendKeys → SendEpoch → SendKeys
-withApplication k e = record { «plaintext_next» = k .«plaintext_next»; handshake = k .handshake; application = e }
 
 -- an epoch as its words hold it
 unfoldable low : SendEpoch → SendEpoch

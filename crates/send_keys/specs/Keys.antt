@@ -39,20 +39,30 @@ withNext e n = record { epoch = e .epoch; iv = e .iv; next = n; sealed = e .seal
 abbrev pub withSealed : SendEpoch → ℕ → SendEpoch
 withSealed e n = record { epoch = e .epoch; iv = e .iv; next = e .next; sealed = n }
 
+-- keys with a part put anew
+abbrev pub withPlaintext : SendKeys → ℕ → SendKeys
+withPlaintext k n = record { «plaintext_next» = n; handshake = k .handshake; application = k .application }
+
+abbrev pub withHandshake : SendKeys → SendEpoch → SendKeys
+withHandshake k e = record { «plaintext_next» = k .«plaintext_next»; handshake = e; application = k .application }
+
+abbrev pub withApplication : SendKeys → SendEpoch → SendKeys
+withApplication k e = record { «plaintext_next» = k .«plaintext_next»; handshake = k .handshake; application = e }
+
 -- an epoch's next number is used
 unfoldable pub used : SendKeys → ℕ → SendKeys
 used k e =
-    choose (eqb e 0) (record { «plaintext_next» = k .«plaintext_next» + 1; handshake = k .handshake; application = k .application })
+    choose (eqb e 0) (withPlaintext k (k .«plaintext_next» + 1))
     (choose (eqb e 2)
-    (record { «plaintext_next» = k .«plaintext_next»; handshake = withNext (k .handshake) (k .handshake .next + 1); application = k .application })
-    (record { «plaintext_next» = k .«plaintext_next»; handshake = k .handshake; application = withNext (k .application) (k .application .next + 1) }))
+    (withHandshake k (withNext (k .handshake) (k .handshake .next + 1)))
+    (withApplication k (withNext (k .application) (k .application .next + 1))))
 
 -- the record of an epoch with this number is sealed; sealings are asked oldest first, so those below it are too
 unfoldable pub sealedUpTo : SendKeys → ℕ → ℕ → SendKeys
 sealedUpTo k e n =
     choose (eqb e 2)
-    (record { «plaintext_next» = k .«plaintext_next»; handshake = withSealed (k .handshake) (n + 1); application = k .application })
-    (record { «plaintext_next» = k .«plaintext_next»; handshake = k .handshake; application = withSealed (k .application) (n + 1) })
+    (withHandshake k (withSealed (k .handshake) (n + 1)))
+    (withApplication k (withSealed (k .application) (n + 1)))
 
 -- 12; 13: "keying 0, 1 or one not above every earlier one of its direction"; 23: "a sending application epoch replaced while a
 -- sealing under it waits". An epoch above epoch 2 and every earlier one is an application epoch, and so is the one that it replaces.
@@ -72,8 +82,8 @@ begun e iv = record { epoch = e; iv = iv; next = 0; sealed = 0 }
 
 unfoldable pub keyed : SendKeys → ℕ → List ℕ → SendKeys
 keyed k e iv =
-    choose (eqb e 2) (record { «plaintext_next» = k .«plaintext_next»; handshake = begun e iv; application = k .application })
-    (record { «plaintext_next» = k .«plaintext_next»; handshake = k .handshake; application = begun e iv })
+    choose (eqb e 2) (withHandshake k (begun e iv))
+    (withApplication k (begun e iv))
 
 -- ---- laws
 

@@ -9,18 +9,18 @@ use lib.Dec.{leb, eqb}
 use lib.ListN.{length, getD, set}
 use Rattle.base.specs.Choose.{choose, both, either, both-left, both-right, both-true, if-true, if-false}
 use Rattle.queue.specs.declared.Place.{Place}
-use Rattle.queue.specs.Queue.{slotOf, laid, slot-lt, Fits, spot}
+use Rattle.queue.specs.Queue.{slotOf, laid, slot-lt, Fits, spot, withEnd}
 use Rattle.queue.specs.Laid.{recordLen}
 use Rattle.send_keys.specs.declared.SendKeys.{SendKeys}
-use Rattle.send_keys.specs.Keys.{nextOf, used, withNext, next-plaintext, next-handshake, next-application}
+use Rattle.send_keys.specs.Keys.{nextOf, used, withNext, next-plaintext, next-handshake, next-application, withPlaintext, withHandshake, withApplication}
 use Rattle.send_keys.specs.declared.SendAnswer.{SendAnswer}
 use Rattle.outgoing.specs.declared.Sending.{Sending}
 use Rattle.outgoing.specs.declared.Waiting.{Waiting}
-use Rattle.outgoing.specs.State.{withKeys}
+use Rattle.outgoing.specs.State.{withKeys, withQueue, withWaiting}
 use Rattle.outgoing.specs.Send.{spotOf, sendAnswer, waitsBehind, laidState, Clear, clear-short, clear-fits}
 use Rattle.words.specs.Fields.{firstOf, by-words, low-bit, low-back}
 use Rattle.send_words.specs.Words.{words, count-at, closed-at, sealing-at, plaintext-next-at, handshake-next-at, application-next-at, length-at, lowsFrom, stateOf, isFlat, putWaiting}
-use Rattle.send_words.specs.Partly.{Partly, withWaiting, low-waiting, waiting-back}
+use Rattle.send_words.specs.Partly.{Partly, low-waiting, waiting-back}
 use Rattle.send_keys.specs.Answer.{isDone}
 use Rattle.send_steps.specs.declared.Verdict.{Verdict}
 
@@ -44,12 +44,7 @@ waits x e n slot start number =
 
 -- so many datagrams, the last, in this slot, that long and open
 abbrev pub endAt : Sending → ℕ → ℕ → ℕ → Sending
-endAt s slot count len = record {
-  queue = record { mtu = s .queue .mtu; limit = s .queue .limit; first = s .queue .first; count = count; closed = false; lengths = set (s .queue .lengths) slot len };
-  waiting = s .waiting;
-  keys = s .keys;
-  «message_seq» = s .«message_seq»;
-}
+endAt s slot count len = withQueue s (withEnd (s .queue) count false (set (s .queue .lengths) slot len))
 
 -- a record can be laid in this slot under this number
 pub record Lays (s : Sending) (p : Place) (i e n x : ℕ) : Type 0 where
@@ -113,27 +108,24 @@ all-laid w a b v {p} {slot} {e} {n} {number} l x y z = (
 abbrev Next : SendKeys → ℕ → ℕ → List ℕ → Type 0
 Next k i x w = (stateOf (set w i x) ≡ withKeys (stateOf w) k) × (isFlat (set w i x) ≡ isFlat w)
 
-abbrev withPlaintext : SendKeys → ℕ → SendKeys
-withPlaintext k x = record { «plaintext_next» = x; handshake = k .handshake; application = k .application }
+abbrev nextHandshake : SendKeys → ℕ → SendKeys
+nextHandshake k x = withHandshake k (withNext (k .handshake) x)
 
-abbrev withHandshake : SendKeys → ℕ → SendKeys
-withHandshake k x = record { «plaintext_next» = k .«plaintext_next»; handshake = withNext (k .handshake) x; application = k .application }
-
-abbrev withApplication : SendKeys → ℕ → SendKeys
-withApplication k x = record { «plaintext_next» = k .«plaintext_next»; handshake = k .handshake; application = withNext (k .application) x }
+abbrev nextApplication : SendKeys → ℕ → SendKeys
+nextApplication k x = withApplication k (withNext (k .application) x)
 
 module _ (w : List ℕ) (h : length w ≡ words) (x : ℕ) where
   plaintext-put : Next (withPlaintext (stateOf w .keys) x) plaintext-next-at x w
   unfolding firstOf lowsFrom isFlat
   plaintext-put = by-words words (λ (v : List ℕ). Next (withPlaintext (stateOf v .keys) x) plaintext-next-at x v) w h (refl, refl)
 
-  handshake-put : Next (withHandshake (stateOf w .keys) x) handshake-next-at x w
+  handshake-put : Next (nextHandshake (stateOf w .keys) x) handshake-next-at x w
   unfolding firstOf lowsFrom isFlat
-  handshake-put = by-words words (λ (v : List ℕ). Next (withHandshake (stateOf v .keys) x) handshake-next-at x v) w h (refl, refl)
+  handshake-put = by-words words (λ (v : List ℕ). Next (nextHandshake (stateOf v .keys) x) handshake-next-at x v) w h (refl, refl)
 
-  application-put : Next (withApplication (stateOf w .keys) x) application-next-at x w
+  application-put : Next (nextApplication (stateOf w .keys) x) application-next-at x w
   unfolding firstOf lowsFrom isFlat
-  application-put = by-words words (λ (v : List ℕ). Next (withApplication (stateOf v .keys) x) application-next-at x v) w h (refl, refl)
+  application-put = by-words words (λ (v : List ℕ). Next (nextApplication (stateOf v .keys) x) application-next-at x v) w h (refl, refl)
 
 -- the number behind an epoch's next one is the next
 module _ (k : SendKeys) {e x : ℕ} (j : x ≡ nextOf k e) where
@@ -141,16 +133,16 @@ module _ (k : SendKeys) {e x : ℕ} (j : x ≡ nextOf k e) where
   unfolding used
   used-plaintext g = ap (λ (y : ℕ). withPlaintext k (y + 1)) (j ∙ next-plaintext k g) ∙ sym (if-true _ _ (eq-eqb _ _ g))
 
-  used-handshake : (e ≡ 0 → ⊥) → e ≡ 2 → withHandshake k (x + 1) ≡ used k e
+  used-handshake : (e ≡ 0 → ⊥) → e ≡ 2 → nextHandshake k (x + 1) ≡ used k e
   unfolding used
   used-handshake f g =
-      ap (λ (y : ℕ). withHandshake k (y + 1)) (j ∙ next-handshake k f g)
+      ap (λ (y : ℕ). nextHandshake k (y + 1)) (j ∙ next-handshake k f g)
       ∙ sym (if-false _ _ (ne-eqb _ _ f) ∙ if-true _ _ (eq-eqb _ _ g))
 
-  used-application : (e ≡ 0 → ⊥) → (e ≡ 2 → ⊥) → withApplication k (x + 1) ≡ used k e
+  used-application : (e ≡ 0 → ⊥) → (e ≡ 2 → ⊥) → nextApplication k (x + 1) ≡ used k e
   unfolding used
   used-application f g =
-      ap (λ (y : ℕ). withApplication k (y + 1)) (j ∙ next-application k f g)
+      ap (λ (y : ℕ). nextApplication k (y + 1)) (j ∙ next-application k f g)
       ∙ sym (if-false _ _ (ne-eqb _ _ f) ∙ if-false _ _ (ne-eqb _ _ g))
 
 abbrev Uses : List ℕ → ℕ → List ℕ → Type 0

@@ -19,6 +19,3 @@ low-waiting x = record { any = eqb (bitOf (x .any)) 1; slot = x .slot; start = x
 pub waiting-back : (x : Waiting) → x .epoch ≤ 65535 → low-waiting x ≡ x
 unfolding low-waiting
 waiting-back x h = rw (bit-back (x .any), low-back h)
-
-abbrev pub withWaiting : Sending → Waiting → Sending
-withWaiting s x = record { queue = s .queue; waiting = x; keys = s .keys; «message_seq» = s .«message_seq» }

@@ -3,6 +3,8 @@ use mathlib.Core.List.{List}
 use mathlib.Core.Path.{_≡_, refl}
 use Prim.Native.Nat.{ℕ, _*_}
 use lib.ListN.{length, set}
+use Rattle.queue.specs.Queue.{withFront}
+use Rattle.outgoing.specs.State.{withQueue}
 use Rattle.base.specs.Choose.{choose}
 use Rattle.words.specs.Fields.{firstOf, by-words}
 use Rattle.outgoing.specs.declared.Sending.{Sending}
@@ -24,12 +26,7 @@ Stands s w v = (stateOf v ≡ s) × (isFlat v ≡ isFlat w)
 -- ---- the ring's front written
 
 abbrev fronted : Sending → ℕ → ℕ → Sending
-fronted s x y = record {
-  queue = record { mtu = s .queue .mtu; limit = s .queue .limit; first = x; count = y; closed = s .queue .closed; lengths = s .queue .lengths };
-  waiting = s .waiting;
-  keys = s .keys;
-  «message_seq» = s .«message_seq»;
-}
+fronted s x y = withQueue s (withFront (s .queue) x y)
 
 pub fronts : (w : List ℕ) (x y : ℕ) → length w ≡ words → Stands (fronted (stateOf w) x y) w (set (set w first-at x) count-at y)
 unfolding firstOf lowsFrom isFlat

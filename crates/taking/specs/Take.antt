@@ -8,9 +8,10 @@ use native.Mathlib.Omega.{arith}
 use lib.Dec.{ltb, leb, eqb}
 use lib.ListN.{getD}
 use borrow.Author.Tests.{leb-true, ltb-false, eqb-false}
+use Rattle.outgoing.specs.State.{withQueue}
 use Rattle.base.specs.Choose.{choose, both, by-test}
 use Rattle.base.specs.Parts.{part, splice}
-use Rattle.queue.specs.Queue.{isReady, Ready, ready}
+use Rattle.queue.specs.Queue.{isReady, Ready, ready, withFront}
 use Rattle.outgoing.specs.declared.Waiting.{Waiting}
 use Rattle.outgoing.specs.declared.Sending.{Sending}
 use Rattle.taking.specs.declared.TakeAnswer.{TakeAnswer}
@@ -58,19 +59,7 @@ isTaken (take.Short n) = false
 
 -- the front moves on; no byte of the queue moves
 abbrev pub afterTake : Sending → Sending
-afterTake s = record {
-  queue = record {
-    mtu = s .queue .mtu;
-    limit = s .queue .limit;
-    first = nextSlot (s .queue .first) (s .queue .limit);
-    count = s .queue .count - 1;
-    closed = s .queue .closed;
-    lengths = s .queue .lengths;
-  };
-  waiting = s .waiting;
-  keys = s .keys;
-  «message_seq» = s .«message_seq»;
-}
+afterTake s = withQueue s (withFront (s .queue) (nextSlot (s .queue .first) (s .queue .limit)) (s .queue .count - 1))
 
 unfoldable pub takeState : TakeAnswer → Sending → Take
 takeState a s = record { answer = a; state = choose (isTaken a) (afterTake s) s }

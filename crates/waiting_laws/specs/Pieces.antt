@@ -14,7 +14,8 @@ use Rattle.flight.specs.declared.Flight.{Flight}
 use Rattle.flight.specs.declared.Saved.{Saved}
 use Rattle.flight.specs.Save.{saveAnswer, saveState, saveQueue}
 use Rattle.messages.specs.Cut.{epochOf, overhead, size-rest}
-use Rattle.messages.specs.Message.{contentOf, Laid, pieceOf, sizeNow, sendAll, numbered, beginning, sentAll, messageState, messageQueue, length-content}
+use Rattle.outgoing.specs.State.{numbered}
+use Rattle.messages.specs.Message.{contentOf, Laid, pieceOf, sizeNow, sendAll, beginning, sentAll, messageState, messageQueue, length-content}
 use Rattle.send_keys.specs.Answer.{isDone}
 use Rattle.waiting_laws.specs.Queued.{Queued, flat, AsLaid, Holds}
 use Rattle.waiting_laws.specs.Lists.{laid-append}

@@ -8,6 +8,7 @@ use native.Mathlib.Omega.{arith}
 use lib.Dec.{eqb}
 use lib.ListN.{length}
 use Rattle.base.specs.Choose.{choose, by-test, test-cases, if-true, if-false}
+use Rattle.queue.specs.Queue.{withEnd}
 use Rattle.queue.specs.declared.Queue.{Queue}
 use Rattle.send_keys.specs.Keys.{nextOf}
 use Rattle.outgoing.specs.declared.Sending.{Sending}
@@ -32,7 +33,7 @@ use Rattle.waiting_laws.specs.Pieces.{Behind, behind-same, behind-twice,
 -- ---- the datagram is closed
 
 rows-closed : (q : Queue) (c : Bool) (mem : List ℕ) (i : ℕ) (ds : List (List Queued)) → Rows q mem i ds
-    → Rows (record { mtu = q .mtu; limit = q .limit; first = q .first; count = q .count; closed = c; lengths = q .lengths }) mem i ds
+    → Rows (withEnd q (q .count) c (q .lengths)) mem i ds
 rows-closed q c mem i [] r = tt
 rows-closed q c mem i (d ∷ ds) r = (r .0, rows-closed q c mem (i + 1) ds (r .1))
 

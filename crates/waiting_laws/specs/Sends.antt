@@ -16,8 +16,8 @@ use Rattle.send_keys.specs.Keys.{isUsable, isKeyed, nextOf, used}
 use Rattle.outgoing.specs.declared.Waiting.{Waiting}
 use Rattle.outgoing.specs.declared.Sending.{Sending}
 use Rattle.send_keys.specs.declared.SendAnswer.{SendAnswer}
-use Rattle.outgoing.specs.State.{noWaiting, isAllowed, isContentType}
-use Rattle.outgoing.specs.Send.{spotOf, waitsBehind, laidState, laidMemory, sendAnswer, sendState, sendMemory, Clear, send-clear, clear-short}
+use Rattle.outgoing.specs.State.{noWaiting, isAllowed, isContentType, withQueue, withKeys, withWaiting}
+use Rattle.outgoing.specs.Send.{spotOf, waitsBehind, laidState, laidMemory, sendAnswer, sendState, sendMemory, Clear, send-clear, clear-short, laidAt}
 use Rattle.flight.specs.declared.Flight.{Flight}
 use Rattle.flight.specs.Save.{saveAnswer, saveState, saveQueue, save-safe}
 use Rattle.send_keys.specs.Answer.{isDone}
@@ -81,14 +81,6 @@ pub record-as-laid : (s : Sending) (e t : ℕ) (x : List ℕ) → AsLaid (record
 record-as-laid s e t x = by-test (λ (u : Queued). AsLaid (u ∷ [])) (λ z. tt) (λ z. (refl, tt))
 
 -- the state and the memory, where its place is known
-abbrev stateAt : Sending → ℕ → ℕ → Place → Sending
-stateAt s e n p = record {
-  queue = laid (s .queue) p (recordLen e n);
-  waiting = waitsBehind s e n p;
-  keys = used (s .keys) e;
-  «message_seq» = s .«message_seq»;
-}
-
 abbrev memoryAt : Sending → ℕ → ℕ → List ℕ → List ℕ → Place → List ℕ
 memoryAt s e t x mem p = splice (startOf (s .queue) p) (recordBytes e t (nextOf (s .keys) e) x) mem
 
@@ -139,20 +131,15 @@ module _ (s : Sending) (mem : List ℕ) (ds : List (List Queued)) (h : Holds s m
       → flat us ≡ flat ds ++ r ∷ []
       → Rows (laid (s .queue) p (length (bytesOf r))) (splice (slotOf first limit (p .datagram) * s .queue .mtu + p .offset) (bytesOf r) mem) 0 us
       → oldestOf first limit 0 us noWaiting ≡ oldestOf first limit 0 ds (oldestIn (slotOf first limit (p .datagram)) (p .offset) (r ∷ []) noWaiting)
-      → Holds (stateAt s e (length x) p) (memoryAt s e t x mem p) us
+      → Holds (laidAt s e (length x) p) (memoryAt s e t x mem p) us
   unfolding laid startOf
   assembled p us datagram inside count same rows oldest =
       let f : Fits (s .queue) p (length (bytesOf r)) = record { datagram = datagram; inside = inside } in
       let ready : Ready (s .queue) (length mem) = record { range = h .range; space = h .room } in
       let written = spot ready f .space in
-      subst (λ (b : List ℕ). Holds (stateAt s e (length x) p) (splice (slotOf first limit (p .datagram) * s .queue .mtu + p .offset) b mem) us)
+      subst (λ (b : List ℕ). Holds (laidAt s e (length x) p) (splice (slotOf first limit (p .datagram) * s .queue .mtu + p .offset) b mem) us)
       (laid-bytes e t (nextOf (s .keys) e) x)
-      (subst (λ (k : ℕ). Holds (record {
-        queue = laid (s .queue) p k;
-        waiting = waitsBehind s e (length x) p;
-        keys = used (s .keys) e;
-        «message_seq» = s .«message_seq»;
-      }) (splice (slotOf first limit (p .datagram) * s .queue .mtu + p .offset) (bytesOf r) mem) us) record-size
+      (subst (λ (k : ℕ). Holds (withWaiting (withKeys (withQueue s (laid (s .queue) p k)) (used (s .keys) e)) (waitsBehind s e (length x) p)) (splice (slotOf first limit (p .datagram) * s .queue .mtu + p .offset) (bytesOf r) mem) us) record-size
       (record {
         range = laid-range (h .range) f;
         room = subst (λ (k : ℕ). s .queue .limit * s .queue .mtu ≤ k) (sym (length-splice (slotOf first limit (p .datagram) * s .queue .mtu + p .offset) (bytesOf r) mem written)) (h .room);
@@ -179,7 +166,7 @@ module _ (s : Sending) (mem : List ℕ) (ds : List (List Queued)) (h : Holds s m
       let last : lastLen (s .queue) ≡ getD (s .queue .lengths) (slotOf first limit (s .queue .count - 1)) 0 = if-false _ _ (ne-eqb (s .queue .count) 0 (λ (z : s .queue .count ≡ 0). omega arith)) in
       let fits : lastLen (s .queue) + length (bytesOf r) ≤ s .queue .mtu = omega (arith, record-size, leb-true (lastLen (s .queue) + recordLen e (length x)) (s .queue .mtu) (both-right (tailOf (s .queue) .joinable) _ j)) in
       let low : s .queue .count - 1 < limit = omega (arith, h .range .count) in
-      subst (λ (u : Place). Holds (stateAt s e (length x) u) (memoryAt s e t x mem u) (joined ds r)) (sym at)
+      subst (λ (u : Place). Holds (laidAt s e (length x) u) (memoryAt s e t x mem u) (joined ds r)) (sym at)
       (assembled p (joined ds r) low fits (length-joined ds r any ∙ h .count ∙ sym one) (flat-joined ds r)
       (rows-joined (s .queue) mem (s .queue .count - 1) (lastLen (s .queue)) r (h .range) (h .room) (h .table) low fits record-sound last 0 ds any (omega (arith, h .count)) (h .rows))
       (oldest-joined (s .queue) mem (s .queue .count - 1) (lastLen (s .queue)) r (h .range) (h .room) (h .table) low fits record-sound last 0 ds noWaiting any (omega (arith, h .count)) (h .rows)))
@@ -193,7 +180,7 @@ module _ (s : Sending) (mem : List ℕ) (ds : List (List Queued)) (h : Holds s m
       let low : s .queue .count < limit = subst (λ (u : Place). u .datagram < limit) at (c .clear .datagram) in
       let fits : 0 + length (bytesOf r) ≤ s .queue .mtu = omega (arith, record-size, c .clear .fits) in
       let all : 0 + length ds ≡ s .queue .count = omega (arith, h .count) in
-      subst (λ (u : Place). Holds (stateAt s e (length x) u) (memoryAt s e t x mem u) (ds ++ (r ∷ []) ∷ [])) (sym at)
+      subst (λ (u : Place). Holds (laidAt s e (length x) u) (memoryAt s e t x mem u) (ds ++ (r ∷ []) ∷ [])) (sym at)
       (assembled p (ds ++ (r ∷ []) ∷ []) low fits (length-append ds ((r ∷ []) ∷ []) ∙ omega arith) (flat-snoc ds r)
       (rows-new (s .queue) mem (s .queue .count) 0 r (h .range) (h .room) (h .table) low fits record-sound refl 0 ds all (h .rows))
       (oldest-new first limit 0 ds r noWaiting ∙ ap (λ (k : ℕ). oldestOf first limit 0 ds (oldestIn (slotOf first limit k) 0 (r ∷ []) noWaiting)) all))

@@ -24,7 +24,8 @@ use Rattle.flight.specs.declared.Saved.{Saved}
 use Rattle.flight.specs.Flight.{isKept, entryOf}
 use Rattle.messages.specs.declared.Cut.{Cut}
 use Rattle.messages.specs.Cut.{epochOf, overhead, sizeIn, cutNext, pieces, planReach, total, pieces-more, pieces-last, reach-more, reach-last}
-use Rattle.messages.specs.Message.{contentOf, Laid, firstCut, countOf, reachOf, messageAnswer, numbered, beginning, sentAll, messageState, messageQueue, messageKept}
+use Rattle.outgoing.specs.State.{numbered}
+use Rattle.messages.specs.Message.{contentOf, Laid, firstCut, countOf, reachOf, messageAnswer, beginning, sentAll, messageState, messageQueue, messageKept}
 use Rattle.messages.specs.Laws as laws
 use Rattle.send_keys.specs.Answer.{isDone, refusal, is-done}
 use Rattle.whole_laws.specs.Lay.{layAll, EachDone, Able, AllPlaced, all-laid, each-done, all-placed}
