@@ -59,9 +59,9 @@ int open_part(const Keys *keys, const uint8_t *nonce, const uint8_t *header, siz
 {
     static uint8_t out[DATAGRAM + 32];
     EVP_CIPHER_CTX *ctx = begin_part(keys, 0, nonce, header, header_len);
-    int n, ok, text = (int)(length - TAG);
+    int n, ok, text = (int)(length - HUSK_TAG);
     need(EVP_CipherUpdate(ctx, out, &n, part, text));
-    need(EVP_CIPHER_CTX_ctrl(ctx, EVP_CTRL_AEAD_SET_TAG, TAG, part + text));
+    need(EVP_CIPHER_CTX_ctrl(ctx, EVP_CTRL_AEAD_SET_TAG, HUSK_TAG, part + text));
     ok = EVP_CipherFinal_ex(ctx, out + n, &n) == 1;
     if (ok)
         memcpy(part, out, (size_t)text);
@@ -73,10 +73,10 @@ void seal_part(const Keys *keys, const uint8_t *nonce, const uint8_t *header, si
 {
     static uint8_t out[DATAGRAM + 32];
     EVP_CIPHER_CTX *ctx = begin_part(keys, 1, nonce, header, header_len);
-    int n, text = (int)(length - TAG);
+    int n, text = (int)(length - HUSK_TAG);
     need(EVP_CipherUpdate(ctx, out, &n, part, text));
     need(EVP_CipherFinal_ex(ctx, out + n, &n));
     memcpy(part, out, (size_t)text);
-    need(EVP_CIPHER_CTX_ctrl(ctx, EVP_CTRL_AEAD_GET_TAG, TAG, part + text));
+    need(EVP_CIPHER_CTX_ctrl(ctx, EVP_CTRL_AEAD_GET_TAG, HUSK_TAG, part + text));
     EVP_CIPHER_CTX_free(ctx);
 }

@@ -1,4 +1,4 @@
-/* A host over the record link's C interface: takes a session as flatten.py writes it, answers the link's questions with OpenSSL's
+/* A host over the record layer's C interface: takes a session as flatten.py writes it, answers the layer's questions with OpenSSL's
  * ciphers and the session's keys, and compares every reading and every record written. Exit status 0 if all agree, 1 if one differs, 2
  * if the input is bad. */
 #define _POSIX_C_SOURCE 200809L
@@ -12,7 +12,7 @@
 #include "host.h"
 
 typedef struct {
-    LinkReceiving link;
+    HuskReceiving layer;
     Keys keys[EPOCHS];
 } Receiver;
 
@@ -47,7 +47,7 @@ size_t bytes_of(const char *text, uint8_t *out, size_t room)
     return n;
 }
 
-/* ---- the link */
+/* ---- the layer */
 
 void take(uint8_t answer)
 {
@@ -55,26 +55,26 @@ void take(uint8_t answer)
         stop(1, "a call is refused by %u", answer);
 }
 
-/* The next reading of a begun datagram: the link's questions are answered. */
-static LinkReading next(Receiver *r, uint8_t *d, size_t n)
+/* The next reading of a begun datagram: the layer's questions are answered. */
+static HuskReading next(Receiver *r, uint8_t *d, size_t n)
 {
-    LinkReading q = link_read(&r->link, d, n);
-    if (q.kind == LINK_MASK) {
+    HuskReading q = husk_receiving_read(&r->layer, d, n);
+    if (q.kind == HUSK_READING_MASK) {
         uint8_t mask[2];
         mask_of(&r->keys[q.epoch % EPOCHS], d + q.start, mask);
-        q = link_mask(&r->link, mask[0], mask[1], d, n);
+        q = husk_receiving_mask(&r->layer, mask[0], mask[1], d, n);
     }
-    if (q.kind == LINK_OPENING) {
+    if (q.kind == HUSK_READING_OPENING) {
         uint8_t *part = d + q.start + q.header_len;
         int ok = open_part(&r->keys[q.epoch % EPOCHS], q.nonce, d + q.start, q.header_len, part, q.length);
-        q = link_opened(&r->link, ok ? 1 : 0, q.length - TAG, d, n);
+        q = husk_receiving_opened(&r->layer, ok ? 1 : 0, q.length - HUSK_TAG, d, n);
     }
     return q;
 }
 
 /* ---- the session */
 
-static void check_content(const LinkReading *r, const uint8_t *d, uint64_t number, unsigned type, size_t start, const char *content)
+static void check_content(const HuskReading *r, const uint8_t *d, uint64_t number, unsigned type, size_t start, const char *content)
 {
     static uint8_t bytes[DATAGRAM];
     size_t n = bytes_of(content, bytes, sizeof bytes);
@@ -92,23 +92,23 @@ static void expect(Receiver *r, uint8_t *d, size_t n, char *line)
     uint64_t number;
     unsigned epoch, type;
     size_t start;
-    LinkReading got = next(r, d, n);
+    HuskReading got = next(r, d, n);
     if (sscanf(line, "plaintext %" SCNu64 " %u %zu", &number, &type, &start) == 3) {
-        if (got.kind != LINK_PLAINTEXT)
+        if (got.kind != HUSK_READING_PLAINTEXT)
             stop(1, "no plaintext record is read");
         check_content(&got, d, number, type, start, content + 1);
         plaintext_records++;
     } else if (sscanf(line, "opened %u %" SCNu64 " %u %zu", &epoch, &number, &type, &start) == 4) {
-        if (got.kind != LINK_OPENED || got.epoch != epoch)
+        if (got.kind != HUSK_READING_OPENED || got.epoch != epoch)
             stop(1, "no record of this epoch is opened");
         check_content(&got, d, number, type, start, content + 1);
         opened_records++;
     } else if (strcmp(line, "replayed") == 0) {
-        if (got.kind != LINK_DROPPED || got.refusal != 9)
+        if (got.kind != HUSK_READING_DROPPED || got.refusal != 9)
             stop(1, "a replayed record is not refused by 9");
         replayed_records++;
     } else if (sscanf(line, "%15s", word) == 1 && strcmp(word, "end") == 0) {
-        if (got.kind != LINK_END || got.refusal != 0)
+        if (got.kind != HUSK_READING_END || got.refusal != 0)
             stop(1, "the datagram does not end");
     } else {
         stop(2, "bad line");
@@ -141,7 +141,7 @@ static void key(const char *line)
     keys = keys_of(suite, key_text, iv_text, sn_text);
     if (receive) {
         receivers[side].keys[epoch % EPOCHS] = keys;
-        take(link_key_receive(&receivers[side].link, (uint16_t)epoch, keys.iv));
+        take(husk_receiving_key(&receivers[side].layer, (uint16_t)epoch, keys.iv));
     } else {
         writer_key(side, epoch, &keys);
     }
@@ -160,12 +160,12 @@ static Receiver *step(char *line)
     } else if (sscanf(line, "take %u", &side) == 1 && side < 2) {
         writer_take(side);
     } else if (sscanf(line, "remove %u %u", &side, &epoch) == 2 && side < 2) {
-        take(link_remove_receive(&receivers[side].link, (uint16_t)epoch));
+        take(husk_receiving_remove(&receivers[side].layer, (uint16_t)epoch).refusal);
     } else if (sscanf(line, "release %u", &side) == 1 && side < 2) {
-        take(link_release_application_data(&receivers[side].link));
+        take(husk_receiving_release_application_data(&receivers[side].layer));
     } else if (sscanf(line, "datagram %u", &side) == 1 && side < 2) {
         datagram_len = bytes_of(strrchr(line, ' ') + 1, datagram, sizeof datagram);
-        take(link_begin(&receivers[side].link, datagram_len));
+        take(husk_receiving_begin(&receivers[side].layer, datagram_len));
         datagrams++;
         return &receivers[side];
     } else {
@@ -180,8 +180,8 @@ int main(void)
     size_t room = 0;
     Receiver *reading = NULL;
     for (int side = 0; side < 2; side++) {
-        take(link_receiving(&receivers[side].link, TAG));
-        take(link_enable_peer_encryption(&receivers[side].link));
+        take(husk_receiving_init(&receivers[side].layer, HUSK_TAG));
+        take(husk_receiving_enable_encryption(&receivers[side].layer));
     }
     writer_begin();
     while (getline(&line, &room, stdin) > 0) {

@@ -7,7 +7,7 @@
 
 #include "huskelapse.h"
 
-enum { EPOCHS = 16, DATAGRAM = 16384, TAG = 16 };
+enum { EPOCHS = 16, DATAGRAM = 16384 };
 
 /* ---- the session's lines (host.c) */
 

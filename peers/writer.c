@@ -1,4 +1,4 @@
-/* The writer of the host: every captured record that the link's sending calls can make is written again by them, in the order in which
+/* The writer of the host: every captured record that the layer's sending calls can make is written again by them, in the order in which
  * its endpoint sent it, and compared byte for byte. */
 #include <inttypes.h>
 #include <stdio.h>
@@ -31,7 +31,8 @@ typedef struct {
 } Pending;
 
 typedef struct {
-    LinkSending link;
+    HuskSending layer;
+    HuskFlight flight;
     Keys keys[EPOCHS];
     unsigned application;
     uint64_t next[3];
@@ -52,28 +53,28 @@ static uint64_t *next_of(Sender *s, unsigned epoch)
 
 static void seal_all(Sender *s)
 {
-    LinkSealing q;
-    while ((q = link_sealing(&s->link)).kind == LINK_SEAL) {
+    HuskSealing q;
+    while ((q = husk_sending_sealing(&s->layer)).kind == HUSK_SEALING_SEAL) {
         const Keys *keys = &s->keys[q.epoch % EPOCHS];
         uint8_t *part = s->queue + q.start, mask[2];
-        if (q.length <= TAG || q.start > sizeof s->queue || q.length > sizeof s->queue - q.start)
+        if (q.length <= HUSK_TAG || q.start > sizeof s->queue || q.length > sizeof s->queue - q.start)
             stop(1, "a part to seal that is not in the queue");
         seal_part(keys, q.nonce, q.header, sizeof q.header, part, q.length);
         mask_of(keys, part, mask);
-        take(link_sealed(&s->link, q.length, mask[0], mask[1], s->queue, sizeof s->queue));
+        take(husk_sending_sealed(&s->layer, &s->flight, q.length, mask[0], mask[1], s->queue, sizeof s->queue));
     }
-    if (q.kind != LINK_NO_SEALING)
+    if (q.kind != HUSK_SEALING_NONE)
         stop(1, "a sealing is refused by %u", q.refusal);
 }
 
 /* Every queued datagram, one after the other; how many bytes. */
 static size_t take_all(Sender *s, uint8_t *out, size_t room)
 {
-    LinkTake t;
+    HuskTake t;
     size_t n = 0;
-    while ((t = link_take(&s->link, out + n, room - n, s->queue, sizeof s->queue)).kind == LINK_TAKEN)
+    while ((t = husk_sending_take(&s->layer, out + n, room - n, s->queue, sizeof s->queue)).kind == HUSK_TAKE_TAKEN)
         n += t.length;
-    if (t.kind != LINK_EMPTY)
+    if (t.kind != HUSK_TAKE_EMPTY)
         stop(1, "a datagram is refused by %u", t.refusal);
     return n;
 }
@@ -122,15 +123,15 @@ static int form_of(const Captured *r)
         return ONE_BYTE;
     if (!(b[0] & 0x04))
         return NO_LENGTH;
-    return r->length > 5 + r->content_len + 1 + TAG ? PADDED : MADE;
+    return r->length > 5 + r->content_len + 1 + HUSK_TAG ? PADDED : MADE;
 }
 
 static uint8_t send_record(Sender *s, const Captured *r, size_t content_len)
 {
-    return link_send(&s->link, (uint16_t)r->epoch, (uint8_t)r->content_type, r->content, content_len, s->queue, sizeof s->queue);
+    return husk_sending_send(&s->layer, (uint16_t)r->epoch, (uint8_t)r->content_type, r->content, content_len, s->queue, sizeof s->queue);
 }
 
-/* Why a record of a good form cannot be made now; the link must refuse it too. */
+/* Why a record of a good form cannot be made now; the layer must refuse it too. */
 static int refused(Sender *s, const Captured *r)
 {
     int left = r->epoch > 2 && r->epoch != s->application;
@@ -163,15 +164,17 @@ static int come_to(Sender *s, const Captured *r)
 
 void writer_begin(void)
 {
-    for (int side = 0; side < 2; side++)
-        take(link_sending(&senders[side].link, MTU, LIMIT));
+    for (int side = 0; side < 2; side++) {
+        take(husk_sending_init(&senders[side].layer, MTU, LIMIT));
+        husk_flight_init(&senders[side].flight);
+    }
 }
 
 void writer_key(unsigned side, unsigned epoch, const Keys *keys)
 {
     Sender *s = &senders[side];
     flush(s);
-    take(link_key_send(&s->link, (uint16_t)epoch, keys->iv));
+    take(husk_sending_key(&s->layer, (uint16_t)epoch, keys->iv));
     s->keys[epoch % EPOCHS] = *keys;
     *next_of(s, epoch) = 0;
     if (epoch > 2)
