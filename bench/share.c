@@ -23,7 +23,7 @@ static EVP_CIPHER_CTX *seals, *opens, *masks;
 static void need(int holds, const char *what)
 {
     if (!holds) {
-        fprintf(stderr, "share: %s\n", what);
+        fprintf(stderr, "bench/run: %s\n", what);
         exit(1);
     }
 }

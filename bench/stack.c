@@ -134,7 +134,7 @@ static void longest_padding(void)
         HuskReading r = husk_receiving_mask(&s, 0, 0, d, sizeof d);
         r = husk_receiving_opened(&s, 1, r.length - HUSK_TAG, d, sizeof d);
         if (r.kind != HUSK_READING_DROPPED) {
-            fprintf(stderr, "stack: a record of zeros is not dropped\n");
+            fprintf(stderr, "bench/run: a record of zeros is not dropped\n");
             exit(2);
         }
     }

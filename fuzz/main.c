@@ -73,12 +73,12 @@ static volatile int now_calling;
 static void where(void)
 {
     fflush(stdout);
-    fprintf(stderr, "in %s; again by: target/fuzz/driver 1 %" PRIu64 " %" PRIu64 "\n", calls[now_calling].name, seed, history);
+    fprintf(stderr, "fuzz/run: in %s; again by: target/fuzz/driver 1 %" PRIu64 " %" PRIu64 "\n", calls[now_calling].name, seed, history);
 }
 
 void finding(const char *what)
 {
-    fprintf(stderr, "finding: %s, ", what);
+    fprintf(stderr, "fuzz/run: finding: %s\n", what);
     where();
     _exit(1);
 }
@@ -118,7 +118,7 @@ void calling(int call)
 void answered(int call, unsigned kind, unsigned refusal)
 {
     if (kind >= KINDS || refusal >= REFUSALS || !(calls[call].refusals[kind] & R(refusal))) {
-        fprintf(stderr, "kind %u, refusal %u: ", kind, refusal);
+        fprintf(stderr, "fuzz/run: kind %u, refusal %u\n", kind, refusal);
         finding("an answer that is not named");
     }
     seen[call][kind][refusal]++;

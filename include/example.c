@@ -20,7 +20,7 @@ static uint8_t wrong_tag = 0;
 static void need(int holds, const char *what)
 {
     if (!holds) {
-        fprintf(stderr, "include/example.c: %s\n", what);
+        fprintf(stderr, "include/check: %s\n", what);
         exit(1);
     }
 }
