@@ -10,13 +10,15 @@
 enum { MTU = 1500, LIMIT = 16, PENDING = 16, GAP = 100000 };
 
 /* Why a record cannot be made: the first reason that applies, in this order. */
-enum { MADE, VERSION, CONNECTION_ID, ONE_BYTE, NO_LENGTH, PADDED, EPOCH_LEFT, OVER_MTU, NOT_NEXT, REASONS };
+enum { MADE, VERSION, EARLY, CONNECTION_ID, ONE_BYTE, NO_LENGTH, SHORT_TAG, PADDED, EPOCH_LEFT, OVER_MTU, NOT_NEXT, REASONS };
 
 static const char *const reason_text[REASONS] = {
     [VERSION] = "of version FE FF",
+    [EARLY] = "of early data",
     [CONNECTION_ID] = "with a connection ID",
     [ONE_BYTE] = "with a one-byte number",
     [NO_LENGTH] = "without a length",
+    [SHORT_TAG] = "with a tag of 8 bytes",
     [PADDED] = "padded",
     [EPOCH_LEFT] = "of an epoch left",
     [OVER_MTU] = "over the MTU",
@@ -112,17 +114,21 @@ static void flush(Sender *s)
 /* ---- what can be made */
 
 /* Why a record of this form cannot be made, by its flags or version and its length; the rest is compared. */
-static int form_of(const Captured *r)
+static int form_of(const Sender *s, const Captured *r)
 {
     const uint8_t *b = r->bytes;
     if (r->epoch == 0)
         return r->length > 2 && b[1] == 0xFE && b[2] == 0xFF ? VERSION : MADE;
+    if (r->epoch == 1)
+        return EARLY;
     if (b[0] & 0x10)
         return CONNECTION_ID;
     if (!(b[0] & 0x08))
         return ONE_BYTE;
     if (!(b[0] & 0x04))
         return NO_LENGTH;
+    if (s->keys[r->epoch % EPOCHS].tag != HUSK_TAG)
+        return SHORT_TAG;
     return r->length > 5 + r->content_len + 1 + HUSK_TAG ? PADDED : MADE;
 }
 
@@ -131,15 +137,20 @@ static uint8_t send_record(Sender *s, const Captured *r, size_t content_len)
     return husk_sending_send(&s->layer, (uint16_t)r->epoch, (uint8_t)r->content_type, r->content, content_len, s->queue, sizeof s->queue);
 }
 
-/* Why a record of a good form cannot be made now; the layer must refuse it too. */
+/* The layer must refuse what cannot be made for its epoch or its length. */
+static int must_refuse(Sender *s, const Captured *r, uint8_t refusal, int why)
+{
+    if (send_record(s, r, r->content_len) != refusal)
+        stop(1, "a record %s is not refused by %u", reason_text[why], refusal);
+    return why;
+}
+
+/* Why a record of a good form cannot be made now. */
 static int refused(Sender *s, const Captured *r)
 {
-    int left = r->epoch > 2 && r->epoch != s->application;
-    if (!left && r->length <= MTU)
-        return MADE;
-    if (send_record(s, r, r->content_len) != (left ? 13 : 14))
-        stop(1, "a record of an epoch left, or over the MTU, is not refused");
-    return left ? EPOCH_LEFT : OVER_MTU;
+    if (r->epoch > 2 && r->epoch != s->application)
+        return must_refuse(s, r, HUSK_BAD_EPOCH, EPOCH_LEFT);
+    return r->length > MTU ? must_refuse(s, r, HUSK_BAD_RECORD, OVER_MTU) : MADE;
 }
 
 /* Comes to a record's number, by empty records that are thrown away. */
@@ -185,8 +196,10 @@ void writer_record(unsigned side, const Captured *r)
 {
     Sender *s = &senders[side];
     size_t start = 0;
-    int why = form_of(r);
+    int why = form_of(s, r);
     sent_records++;
+    if (why == EARLY)
+        must_refuse(s, r, HUSK_BAD_EPOCH, EARLY);
     if (why == MADE)
         why = refused(s, r);
     if (why == MADE)
@@ -214,12 +227,14 @@ void writer_take(unsigned side)
 
 int writer_done(void)
 {
-    return sent_records > 0 && senders[0].count == 0 && senders[1].count == 0;
+    return senders[0].count == 0 && senders[1].count == 0;
 }
 
 void writer_report(void)
 {
     const char *between = "; not made: ";
+    if (sent_records == 0)
+        return;
     printf("; %zu of %zu sent records written again to the same bytes", records[MADE], sent_records);
     for (int why = MADE + 1; why < REASONS; why++) {
         if (records[why] > 0) {
