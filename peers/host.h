@@ -8,7 +8,7 @@
 #include "huskelapse.h"
 
 /* LONGEST is the longest datagram that the layer reads, ROOM the longest that UDP can bring. */
-enum { EPOCHS = 16, LONGEST = 16384, ROOM = 65536 };
+enum { EPOCHS = 256, LONGEST = 16384, ROOM = 65536 };
 
 /* ---- the session's lines (host.c) */
 
