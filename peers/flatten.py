@@ -7,7 +7,8 @@ order, to be written again.
     remove DIR EPOCH                               it removes one
     release DIR                                    it releases application data
     oversize DIR LENGTH                            it is brought a datagram over 16,384 bytes, which must be refused
-    datagram DIR BYTES                             it reads a datagram; what it must say follows, a line for each record, then `end`
+    datagram DIR BYTES                             it reads a datagram; what it must say follows, a line for each record, then `end`,
+                                                   or `end 3` in place of a seventeenth reading
     plaintext NUMBER TYPE OFFSET CONTENT
     opened EPOCH NUMBER TYPE OFFSET CONTENT
     dropped WHY REFUSAL..                          the record must be dropped by one of these refusals
@@ -41,9 +42,10 @@ SHORT_TAG = "TLS_AES_128_CCM_8_SHA256"
 LONGEST = 16384
 WINDOW = 64
 MOST_APPLICATIONS = 4
+MOST_READINGS = 16
 
 # Refusals of the header.
-NO_KEYS, TOO_SHORT, NUMBER_TOO_LARGE, NOT_FRESH, NOT_OPENED = 6, 7, 8, 9, 10
+TOO_MANY_READINGS, NO_KEYS, TOO_SHORT, NUMBER_TOO_LARGE, NOT_FRESH, NOT_OPENED = 3, 6, 7, 8, 9, 10
 
 
 def hex_or_dash(text):
@@ -121,17 +123,16 @@ class Receiver:
             return "old", NOT_FRESH
         return None
 
-    def expect(self, record, first):
+    def expected(self, record, first):
+        """What must be said of a record. The number of one that opens is used."""
         number, kind, content = record["seq"], record["content_type"], hex_or_dash(record["content"])
         if not record["protected"]:
-            print("plaintext", number, kind, record["offset"] + 13, content)
-            return
+            return "plaintext", number, kind, record["offset"] + 13, content
         why = self.dropped(record, first)
         if why:
-            print("dropped", *why)
-            return
+            return "dropped", *why
         self.opened[record["epoch"]].add(number)
-        print("opened", record["epoch"], number, kind, record["offset"] + record["header_len"], content)
+        return "opened", record["epoch"], number, kind, record["offset"] + record["header_len"], content
 
     def read(self, datagram, records):
         if len(datagram["hex"]) > 2 * LONGEST:
@@ -141,8 +142,14 @@ class Receiver:
             if record["protected"]:
                 self.key_to(record["epoch"])
         print("datagram", self.side, hex_or_dash(datagram["hex"]))
+        readings = 0
         for record in records:
-            self.expect(record, byte_at(datagram, record["offset"]))
+            line = self.expected(record, byte_at(datagram, record["offset"]))
+            readings += line[0] != "dropped"
+            if readings > MOST_READINGS:
+                print("end", TOO_MANY_READINGS)
+                return
+            print(*line)
         print("end")
 
 

@@ -34,7 +34,7 @@ enum { REPLAYED, REASONS = sizeof reasons / sizeof *reasons };
 static Receiver receivers[2];
 static uint8_t datagram[ROOM];
 static size_t datagram_len;
-static size_t line_number, datagrams, oversized, opened_records, plaintext_records, dropped_records[REASONS];
+static size_t line_number, datagrams, oversized, cut_short, opened_records, plaintext_records, dropped_records[REASONS];
 
 void stop(int status, const char *format, ...)
 {
@@ -132,6 +132,11 @@ static void expect_dropped(const HuskReading *got, const char *line)
     stop(1, "a record that must be dropped (%s) is answered by kind %u, refusal %u", word, got->kind, got->refusal);
 }
 
+static int is_end(const char *line)
+{
+    return strcmp(line, "end") == 0 || strncmp(line, "end ", 4) == 0;
+}
+
 static void expect(Receiver *r, uint8_t *d, size_t n, char *line)
 {
     char *content = strrchr(line, ' ');
@@ -151,9 +156,12 @@ static void expect(Receiver *r, uint8_t *d, size_t n, char *line)
         opened_records++;
     } else if (strncmp(line, "dropped ", 8) == 0) {
         expect_dropped(&got, line);
-    } else if (strcmp(line, "end") == 0) {
-        if (got.kind != HUSK_READING_END || got.refusal != 0)
-            stop(1, "the datagram does not end");
+    } else if (is_end(line)) {
+        unsigned refusal = 0;
+        sscanf(line, "end %u", &refusal);
+        if (got.kind != HUSK_READING_END || got.refusal != refusal)
+            stop(1, "the datagram does not end by %u", refusal);
+        cut_short += refusal != 0;
     } else {
         stop(2, "bad line");
     }
@@ -229,6 +237,8 @@ static void report(void)
     for (int why = 0; why < REASONS; why++)
         if (why == REPLAYED || dropped_records[why] > 0)
             printf(", %zu %s", dropped_records[why], reasons[why].text);
+    if (cut_short > 0)
+        printf(", %zu datagrams ended by a seventeenth reading", cut_short);
     if (oversized > 0)
         printf(", %zu datagrams over %d bytes refused", oversized, LONGEST);
     writer_report();
@@ -255,7 +265,7 @@ int main(void)
             reading = step(line);
         } else {
             expect(reading, datagram, datagram_len, line);
-            if (strcmp(line, "end") == 0)
+            if (is_end(line))
                 reading = NULL;
         }
     }
