@@ -12,7 +12,7 @@
 
 #include "huskelapse.h"
 
-enum { MTU = 1500, LIMIT = 16, TAG = 16, ROW = 256, ROWS = 40, MOST_RUNS = 99, HEADER = 5 };
+enum { MTU = 1500, LIMIT = 16, ROW = 256, ROWS = 40, MOST_RUNS = 99, HEADER = 5 };
 
 /* Parts that are timed: the whole, the link's calls alone, the cipher alone. */
 enum { WHOLE, LAYER, CIPHER, PARTS };
@@ -23,7 +23,7 @@ static EVP_CIPHER_CTX *seals, *opens, *masks;
 static void need(int holds, const char *what)
 {
     if (!holds) {
-        fprintf(stderr, "share: %s\n", what);
+        fprintf(stderr, "bench/run: %s\n", what);
         exit(1);
     }
 }
@@ -59,7 +59,7 @@ static int seal_in_place(const uint8_t *nonce, const uint8_t *header, uint8_t *t
     int k;
     return EVP_EncryptInit_ex(seals, NULL, NULL, NULL, nonce) == 1 && EVP_EncryptUpdate(seals, NULL, &k, header, HEADER) == 1
         && EVP_EncryptUpdate(seals, text, &k, text, n) == 1 && EVP_EncryptFinal_ex(seals, text + n, &k) == 1
-        && EVP_CIPHER_CTX_ctrl(seals, EVP_CTRL_GCM_GET_TAG, TAG, text + n) == 1;
+        && EVP_CIPHER_CTX_ctrl(seals, EVP_CTRL_GCM_GET_TAG, HUSK_TAG, text + n) == 1;
 }
 
 /* Opens n bytes in place, with the tag behind them. */
@@ -68,7 +68,7 @@ static int open_in_place(const uint8_t *nonce, const uint8_t *header, uint8_t *t
     int k;
     return EVP_DecryptInit_ex(opens, NULL, NULL, NULL, nonce) == 1 && EVP_DecryptUpdate(opens, NULL, &k, header, HEADER) == 1
         && EVP_DecryptUpdate(opens, text, &k, text, n) == 1
-        && EVP_CIPHER_CTX_ctrl(opens, EVP_CTRL_GCM_SET_TAG, TAG, text + n) == 1
+        && EVP_CIPHER_CTX_ctrl(opens, EVP_CTRL_GCM_SET_TAG, HUSK_TAG, text + n) == 1
         && EVP_DecryptFinal_ex(opens, text + n, &k) == 1;
 }
 
@@ -80,21 +80,22 @@ static void mask_of(const uint8_t *sample, uint8_t block[16])
 
 /* ---- sending */
 
-static LinkSending sending;
+static HuskSending sending;
+static HuskFlight flight;
 static uint8_t queue[LIMIT * MTU], content[MTU], out[MTU];
 
 static size_t send_one(size_t n, int part)
 {
     uint8_t block[16] = {0};
-    need(link_send(&sending, 3, 23, content, n, queue, sizeof queue) == 0, "a record is refused");
-    LinkSealing a = link_sealing(&sending);
+    need(husk_sending_send(&sending, 3, HUSK_APPLICATION_DATA, content, n, queue, sizeof queue) == 0, "a record is refused");
+    HuskSealing a = husk_sending_sealing(&sending);
     if (part == WHOLE) {
-        need(seal_in_place(a.nonce, a.header, queue + a.start, (int)a.length - TAG), "a sealing failed");
+        need(seal_in_place(a.nonce, a.header, queue + a.start, (int)a.length - HUSK_TAG), "a sealing failed");
         mask_of(queue + a.start, block);
     }
-    need(link_sealed(&sending, a.length, block[0], block[1], queue, sizeof queue) == 0, "a sealing is refused");
-    LinkTake t = link_take(&sending, out, sizeof out, queue, sizeof queue);
-    need(t.kind == LINK_TAKEN, "no datagram");
+    need(husk_sending_sealed(&sending, &flight, a.length, block[0], block[1], queue, sizeof queue) == 0, "a sealing is refused");
+    HuskTake t = husk_sending_take(&sending, out, sizeof out, queue, sizeof queue);
+    need(t.kind == HUSK_TAKE_TAKEN, "no datagram");
     return t.length;
 }
 
@@ -119,24 +120,24 @@ static double send_row(size_t n, int part)
 
 /* ---- reading */
 
-static LinkReceiving receiving;
+static HuskReceiving receiving;
 static uint8_t record[ROW][MTU];
 
 static void read_one(uint8_t *d, size_t n, int part)
 {
     uint8_t block[16] = {0};
-    LinkReading r = link_begin_read(&receiving, d, n);
-    need(r.kind == LINK_MASK, "no mask is asked for");
+    HuskReading r = husk_receiving_begin_read(&receiving, d, n);
+    need(r.kind == HUSK_READING_MASK, "no mask is asked for");
     if (part == WHOLE)
         mask_of(d + r.start, block);
-    r = link_mask(&receiving, block[0], block[1], d, n);
-    need(r.kind == LINK_OPENING, "no opening is asked for");
+    r = husk_receiving_mask(&receiving, block[0], block[1], d, n);
+    need(r.kind == HUSK_READING_OPENING, "no opening is asked for");
     uint8_t *text = d + r.start + r.header_len;
-    int len = (int)r.length - TAG;
+    int len = (int)r.length - HUSK_TAG;
     if (part == WHOLE)
         need(open_in_place(r.nonce, d + r.start, text, len), "an opening failed");
-    r = link_opened(&receiving, 1, (size_t)len, d, n);
-    need(r.kind == LINK_OPENED && r.length + 1 == (size_t)len, "a record is not opened");
+    r = husk_receiving_opened(&receiving, 1, (size_t)len, d, n);
+    need(r.kind == HUSK_READING_OPENED && r.length + 1 == (size_t)len, "a record is not opened");
 }
 
 static void open_one(uint8_t *d, size_t n)
@@ -166,7 +167,7 @@ static double read_row(size_t n, int part)
         if (part == CIPHER)
             open_one(record[i], n);
         else
-            read_one(record[i], HEADER + n + 1 + TAG, part);
+            read_one(record[i], HEADER + n + 1 + HUSK_TAG, part);
     return cpu_time() - start;
 }
 
@@ -174,9 +175,10 @@ static double read_row(size_t n, int part)
 
 static void fresh(void)
 {
-    need(link_sending(&sending, MTU, LIMIT) == 0 && link_key_send(&sending, 3, iv) == 0, "no sending side");
-    need(link_receiving(&receiving, TAG) == 0 && link_key_receive(&receiving, 3, iv) == 0
-            && link_enable_peer_encryption(&receiving) == 0 && link_release_application_data(&receiving) == 0,
+    husk_flight_init(&flight);
+    need(husk_sending_init(&sending, MTU, LIMIT) == 0 && husk_sending_key(&sending, 3, iv) == 0, "no sending side");
+    need(husk_receiving_init(&receiving, HUSK_TAG) == 0 && husk_receiving_key(&receiving, 3, iv) == 0
+            && husk_receiving_enable_encryption(&receiving) == 0 && husk_receiving_release_application_data(&receiving) == 0,
         "no receive side");
 }
 

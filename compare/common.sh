@@ -1,9 +1,13 @@
-# Sourced by run, differences and sample: where things are, what is missing, how to build.
+# Sourced by run, differences, sample and bench/run: where things are, what is missing, how to build.
 
 here=$(cd "$(dirname "${BASH_SOURCE[0]}")" && pwd)
 root=$(dirname "$here")
 built=$here/target
+# The script that runs, by its path from the root: its messages begin with it.
+script=$(cd "$(dirname "$0")" && pwd)/$(basename "$0")
+script=${script#"$root"/}
 
+# Of algesten/dimpl at e79f0d8e46, by their paths below its src: they are not in this repository.
 files=(
     window.rs
     timer.rs
@@ -19,7 +23,7 @@ missing=0
 features=()
 
 say() {
-    echo "$(basename "$0"): $1" >&2
+    echo "$script: $1" >&2
 }
 
 # Says what is missing, and goes on to the next check.
@@ -43,12 +47,14 @@ check_rust() {
         source=$root/docs/src
         [ -d "$source" ] || source=$root/../shared/docs/src
     fi
-    local file
+    local file absent=()
     for file in "${files[@]}"; do
-        if [ ! -f "$source/$file" ]; then
-            lacks "the Rust source $file is missing in $source: set DIMPL_SRC to the folder that holds it"
-        fi
+        [ -f "$source/$file" ] || absent+=("$file")
     done
+    if [ ${#absent[@]} -gt 0 ]; then
+        lacks "missing in $source: ${absent[*]}; the Rust's eight files are those of algesten/dimpl at e79f0d8e46, below its src\
+ (compare/README.md): set DIMPL_SRC to the folder that holds them"
+    fi
 }
 
 # What makes the libraries and programs that the environment does not name by these variables.

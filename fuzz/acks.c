@@ -3,9 +3,9 @@
 
 #include "flight.h"
 
-enum { NOTES = 32, PAIR = 16, MOST_PAIRS = 1060, ACK = 26, HANDSHAKE = 22 };
+enum { NOTES = 32, PAIR = 16, MOST_PAIRS = 1060 };
 
-/* The parts of a LinkNotes, lent apart. */
+/* The parts of a HuskNotes, lent apart as those of a flight. */
 typedef struct {
     uint64_t word[NOTES];
 } Table;
@@ -14,7 +14,7 @@ static Area counts, epoch_tables, number_tables;
 static Lent count_lent, epochs_lent, numbers_lent;
 static uint64_t *noted, noted_before;
 static Table *note_epochs, *note_numbers, note_epochs_before, note_numbers_before;
-/* Whether calls alone have made the notes, from zeros. */
+/* Whether calls alone have made the notes, from nothing noted. */
 static int notes_made;
 
 /* ---- resends */
@@ -37,7 +37,7 @@ static size_t check_again(const uint64_t *w, uint64_t i, uint64_t *datagram, siz
 /* A new number; that of a handshake record of epoch 2 or above is remembered. */
 static void renew(uint64_t *w, uint64_t *remembered, uint64_t *next)
 {
-    if (w[E_TYPE] == HANDSHAKE && w[E_EPOCH] >= 2) {
+    if (w[E_TYPE] == HUSK_HANDSHAKE && w[E_EPOCH] >= 2) {
         require(w[E_REMEMBERED] < REMEMBERED, "more numbers than can be remembered");
         remembered[w[E_REMEMBERED]++] = w[E_NUMBER];
     }
@@ -72,10 +72,11 @@ static void call_resend(void)
 {
     flight_keep();
     keep_queue();
-    calling(RESEND);
-    uint8_t answer = link_resend(s, f->word, numbers->word, kept.fixed, kept.n, queue.bytes, queue.n);
-    flight_done(RESEND, answer);
-    if (answer == 0)
+    calling(FLIGHT_RESEND);
+    HuskTold t = husk_flight_resend_words(s, f->word, numbers->word, kept.fixed, kept.n, queue.bytes, queue.n);
+    flight_done(FLIGHT_RESEND, t.told != 0, t.refusal);
+    require(t.told == (t.refusal == 0 ? unmarked(&flight_before) : 0), "another count of records sent again");
+    if (t.refusal == 0)
         check_resent();
     else
         check_queue(0, 0);
@@ -144,35 +145,46 @@ static uint64_t is_acked(const uint64_t *w, const uint64_t *remembered, uint64_t
     return acked;
 }
 
-static void check_acted(void)
+/* Marks what the ACK names; whether there are records of epoch 2 and all of these are marked. */
+static int act(Records *e)
+{
+    uint64_t any_of_2 = 0, waits = 0;
+    for (uint64_t i = 0; i < e->word[SAVED]; i++) {
+        uint64_t *w = &e->word[E_WORDS * i];
+        w[E_MARKED] = is_acked(w, &numbers_before.word[REMEMBERED * i], (content.n - 2) / PAIR);
+        any_of_2 |= w[E_EPOCH] == 2;
+        waits |= w[E_EPOCH] == 2 && !w[E_MARKED];
+    }
+    return any_of_2 && !waits;
+}
+
+static void check_acted(const HuskAcked *told)
 {
     Records e = flight_plain(&flight_before), g = flight_plain(f);
-    uint64_t any_of_2 = 0, unmarked = 0;
+    unsigned before_it = unmarked(&e), ends = 0;
     require(e.word[SAVED] <= ENTRIES, "a flight out of range");
-    if (content.n >= 2 && get(content.bytes, 2) == content.n - 2 && (content.n - 2) % PAIR == 0) {
-        for (uint64_t i = 0; i < e.word[SAVED]; i++) {
-            uint64_t *w = &e.word[E_WORDS * i];
-            w[E_MARKED] = is_acked(w, &numbers_before.word[REMEMBERED * i], (content.n - 2) / PAIR);
-            any_of_2 |= w[E_EPOCH] == 2;
-            unmarked |= w[E_EPOCH] == 2 && !w[E_MARKED];
-        }
-        if (any_of_2 && !unmarked)
-            e.word[SAVED] = 0;
-    }
+    if (content.n >= 2 && get(content.bytes, 2) == content.n - 2 && (content.n - 2) % PAIR == 0)
+        ends = (unsigned)act(&e);
+    require(told->marked == before_it - unmarked(&e), "another count of records marked");
+    if (ends)
+        e.word[SAVED] = 0;
+    require(told->saved == e.word[SAVED] && told->unacknowledged == unmarked(&e), "another count of records left");
     require(memcmp(&e, &g, sizeof e) == 0, "another flight than the ACK leaves");
     require(memcmp(&numbers_before, numbers, sizeof numbers_before) == 0, "an ACK has changed the remembered numbers");
 }
 
-static void call_process_ack(void)
+static void call_ack(void)
 {
     lend_ack();
     flight_keep();
-    calling(PROCESS_ACK);
-    uint8_t answer = link_process_ack(f->word, numbers->word, content_bytes(), content.n);
-    flight_done(PROCESS_ACK, answer);
-    require(answer != 12 || !flight_made, "12 for a flight that calls made");
-    if (answer == 0)
-        check_acted();
+    calling(FLIGHT_ACK);
+    HuskAcked t = husk_flight_ack_words(f->word, numbers->word, content_bytes(), content.n);
+    flight_done(FLIGHT_ACK, t.marked != 0, t.refusal);
+    require(t.refusal != 12 || !flight_made, "12 for a flight that calls made");
+    if (t.refusal == 0)
+        check_acted(&t);
+    else
+        require(t.marked == 0 && t.unacknowledged == 0 && t.saved == 0, "a field not used is not zero");
 }
 
 /* ---- noting and sending the ACK */
@@ -191,22 +203,23 @@ static void check_notes(void)
     require(memcmp(&note_numbers_before, note_numbers, sizeof(Table)) == 0, "other numbers noted");
 }
 
-static void notes_done(int call, uint8_t answer, int kept_as_it_was)
+static void notes_done(int call, HuskTold t, int kept_as_it_was)
 {
-    sending_done(call, 0, answer, kept_as_it_was, !notes_made);
+    sending_done(call, t.told, t.refusal, kept_as_it_was, !notes_made);
     check_beside(&count_lent);
     check_beside(&epochs_lent);
     check_beside(&numbers_lent);
 }
 
-static void call_note(void)
+static void call_add(void)
 {
     uint64_t epoch = one_in(8) ? any() : below(8), number = one_in(8) ? edge_word(LAST_NUMBER) : below(100);
     keep_notes();
-    calling(NOTE);
-    uint8_t answer = link_note(noted, note_epochs->word, note_numbers->word, epoch, number);
-    notes_done(NOTE, answer, 1);
-    require((answer == 12) == (noted_before > NOTES), "notes in range are refused, or others are taken");
+    calling(NOTES_ADD);
+    HuskTold t = husk_notes_add_words(noted, note_epochs->word, note_numbers->word, epoch, number);
+    notes_done(NOTES_ADD, t, 1);
+    require((t.refusal == 12) == (noted_before > NOTES), "notes in range are refused, or others are taken");
+    require(t.told == (noted_before < NOTES), "a note told that is not taken, or the other way");
     if (noted_before < NOTES) {
         note_epochs_before.word[noted_before] = epoch;
         note_numbers_before.word[noted_before] = number;
@@ -226,35 +239,35 @@ static void expect_ack(void)
     }
 }
 
-static void call_send_ack(void)
+static void call_send_notes(void)
 {
     uint16_t application = (uint16_t)s->word[W_APPLICATION];
     expect_ack();
     keep_notes();
     keep_queue();
-    calling(SEND_ACK);
-    uint8_t answer = link_send_ack(s, noted, note_epochs->word, note_numbers->word, queue.bytes, queue.n);
-    int sent = answer == 0 && noted_before > 0;
-    notes_done(SEND_ACK, answer, !sent);
-    if (!sent) {
+    calling(NOTES_SEND);
+    HuskTold t = husk_notes_send_words(s, noted, note_epochs->word, note_numbers->word, queue.bytes, queue.n);
+    notes_done(NOTES_SEND, t, !t.told);
+    require(t.told == (t.refusal == 0 && noted_before > 0), "an ACK told that is not sent, or the other way");
+    if (!t.told) {
         check_queue(0, 0);
         check_notes();
         return;
     }
     const uint8_t *p = queue.bytes + check_laid(application == 0 ? 2 : application) + 5;
     require(*noted == 0, "notes of an ACK that is sent");
-    require(memcmp(p, content.bytes, content.n) == 0 && p[content.n] == ACK, "another ACK than was noted");
+    require(memcmp(p, content.bytes, content.n) == 0 && p[content.n] == HUSK_ACK, "another ACK than was noted");
 }
 
 void acks_step(void)
 {
     switch (below(9)) {
     case 0: case 1: case 2: call_resend(); break;
-    case 3: case 4: call_process_ack(); break;
-    case 5: case 6: call_send_ack(); break;
+    case 3: case 4: call_ack(); break;
+    case 5: case 6: call_send_notes(); break;
     default:
         for (uint64_t k = one_in(8) ? 34 : 1 + below(4); k > 0; k--)
-            call_note();
+            call_add();
     }
 }
 
@@ -268,9 +281,16 @@ void acks_fresh(void)
     noted = (uint64_t *)(void *)count_lent.bytes;
     note_epochs = (Table *)(void *)epochs_lent.bytes;
     note_numbers = (Table *)(void *)numbers_lent.bytes;
-    *noted = 0;
-    memset(note_epochs, 0, sizeof *note_epochs);
-    memset(note_numbers, 0, sizeof *note_numbers);
+    scatter(count_lent.bytes, count_lent.n);
+    scatter(epochs_lent.bytes, epochs_lent.n);
+    scatter(numbers_lent.bytes, numbers_lent.n);
+    calling(NOTES_INIT);
+    husk_notes_init_words(noted, note_epochs->word, note_numbers->word);
+    answered(NOTES_INIT, 0, 0);
+    check_beside(&count_lent);
+    check_beside(&epochs_lent);
+    check_beside(&numbers_lent);
+    require(*noted == 0, "notes that do not start empty");
     notes_made = 1;
 }
 

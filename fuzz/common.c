@@ -84,7 +84,7 @@ static uint8_t *view(int file, size_t room, int protection)
     size_t page = (size_t)sysconf(_SC_PAGESIZE);
     uint8_t *whole = mmap(NULL, room + 2 * page, PROT_NONE, MAP_PRIVATE | MAP_ANONYMOUS, -1, 0);
     if (whole == MAP_FAILED || mmap(whole + page, room, protection, MAP_SHARED | MAP_FIXED, file, 0) == MAP_FAILED) {
-        perror("mmap");
+        perror("fuzz/run: mmap");
         exit(2);
     }
     return whole + page;
@@ -97,7 +97,7 @@ Area area(size_t room)
     Area a;
     a.room = (room + BESIDE + page - 1) / page * page;
     if (file < 0 || ftruncate(file, (off_t)a.room) != 0) {
-        perror("memfd_create");
+        perror("fuzz/run: memfd_create");
         exit(2);
     }
     a.bytes = view(file, a.room, PROT_READ | PROT_WRITE);

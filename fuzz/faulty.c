@@ -1,46 +1,36 @@
 /* Faults planted around the calls, one by the environment's FAULT, each of which the driver must find. Linked with --wrap,
- * and like the library built without sanitizers. */
+ * and like the library built without sanitizers. Most keep clear of the known answers, so that a history has to find them. */
 #include <stdlib.h>
 
 #include "huskelapse.h"
 
-LinkReading __real_link_read(LinkReceiving *s, const uint8_t *d, size_t n);
-LinkReading __real_link_begin_read(LinkReceiving *s, const uint8_t *d, size_t n);
-LinkReading __real_link_mask(LinkReceiving *s, uint8_t m0, uint8_t m1, uint8_t *d, size_t n);
-LinkReading __real_link_opened(LinkReceiving *s, uint8_t opened, size_t length, const uint8_t *d, size_t n);
-uint8_t __real_link_begin(LinkReceiving *s, size_t n);
-uint8_t __real_link_key_send(LinkSending *s, uint16_t epoch, const uint8_t *iv);
-uint8_t __real_link_send(LinkSending *s, uint16_t epoch, uint8_t type, const uint8_t *c, size_t cn, uint8_t *q, size_t qn);
-uint8_t __real_link_sealed(LinkSending *s, size_t length, uint8_t m0, uint8_t m1, uint8_t *q, size_t qn);
-LinkTake __real_link_take(LinkSending *s, uint8_t *b, size_t bn, const uint8_t *q, size_t qn);
-LinkPart __real_link_take_in_place(LinkSending *s, const uint8_t *q, size_t qn);
-uint8_t __real_link_send_saved(LinkSending *s, uint64_t *f, uint64_t *m, uint16_t epoch, uint8_t type, const uint8_t *c,
-    size_t cn, uint8_t *q, size_t qn, uint8_t *k, size_t kn);
-uint8_t __real_link_create_handshake(LinkSending *s, uint64_t *f, uint64_t *m, uint8_t type, const uint8_t *c, size_t cn,
-    uint8_t *q, size_t qn, uint8_t *k, size_t kn);
-uint8_t __real_link_resend(LinkSending *s, uint64_t *f, uint64_t *m, const uint8_t *k, size_t kn, uint8_t *q, size_t qn);
-uint8_t __real_link_process_ack(uint64_t *f, uint64_t *m, const uint8_t *c, size_t cn);
-uint8_t __real_link_note(uint64_t *count, uint64_t *epochs, uint64_t *numbers, uint64_t epoch, uint64_t number);
-uint8_t __real_link_send_ack(LinkSending *s, uint64_t *count, uint64_t *epochs, uint64_t *numbers, uint8_t *q, size_t qn);
+/* The library's function, and the one that the driver calls in its place. */
+#define WRAPPED(answer, name, ...)     \
+    answer __real_##name(__VA_ARGS__); \
+    answer __wrap_##name(__VA_ARGS__)
 
-LinkReading __wrap_link_read(LinkReceiving *s, const uint8_t *d, size_t n);
-LinkReading __wrap_link_begin_read(LinkReceiving *s, const uint8_t *d, size_t n);
-LinkReading __wrap_link_mask(LinkReceiving *s, uint8_t m0, uint8_t m1, uint8_t *d, size_t n);
-LinkReading __wrap_link_opened(LinkReceiving *s, uint8_t opened, size_t length, const uint8_t *d, size_t n);
-uint8_t __wrap_link_begin(LinkReceiving *s, size_t n);
-uint8_t __wrap_link_key_send(LinkSending *s, uint16_t epoch, const uint8_t *iv);
-uint8_t __wrap_link_send(LinkSending *s, uint16_t epoch, uint8_t type, const uint8_t *c, size_t cn, uint8_t *q, size_t qn);
-uint8_t __wrap_link_sealed(LinkSending *s, size_t length, uint8_t m0, uint8_t m1, uint8_t *q, size_t qn);
-LinkTake __wrap_link_take(LinkSending *s, uint8_t *b, size_t bn, const uint8_t *q, size_t qn);
-LinkPart __wrap_link_take_in_place(LinkSending *s, const uint8_t *q, size_t qn);
-uint8_t __wrap_link_send_saved(LinkSending *s, uint64_t *f, uint64_t *m, uint16_t epoch, uint8_t type, const uint8_t *c,
+WRAPPED(HuskReading, husk_receiving_read, HuskReceiving *s, uint8_t *d, size_t n);
+WRAPPED(HuskReading, husk_receiving_begin_read, HuskReceiving *s, uint8_t *d, size_t n);
+WRAPPED(HuskReading, husk_receiving_mask, HuskReceiving *s, uint8_t m0, uint8_t m1, uint8_t *d, size_t n);
+WRAPPED(HuskReading, husk_receiving_opened, HuskReceiving *s, uint8_t opened, size_t length, const uint8_t *d, size_t n);
+WRAPPED(uint8_t, husk_receiving_begin, HuskReceiving *s, size_t n);
+WRAPPED(HuskTold, husk_receiving_remove, HuskReceiving *s, uint16_t epoch);
+WRAPPED(uint8_t, husk_sending_key, HuskSending *s, uint16_t epoch, const uint8_t *iv);
+WRAPPED(uint8_t, husk_sending_send, HuskSending *s, uint16_t epoch, uint8_t type, const uint8_t *c, size_t cn, uint8_t *q, size_t qn);
+WRAPPED(uint8_t, husk_sending_sealed_words, HuskSending *s, size_t length, uint8_t m0, uint8_t m1, uint8_t *q, size_t qn);
+WRAPPED(HuskTake, husk_sending_take, HuskSending *s, uint8_t *b, size_t bn, const uint8_t *q, size_t qn);
+WRAPPED(HuskPart, husk_sending_take_in_place, HuskSending *s, const uint8_t *q, size_t qn);
+WRAPPED(HuskQueued, husk_sending_status, const HuskSending *s);
+WRAPPED(uint8_t, husk_flight_send_words, HuskSending *s, uint64_t *f, uint64_t *m, uint16_t epoch, uint8_t type, const uint8_t *c,
     size_t cn, uint8_t *q, size_t qn, uint8_t *k, size_t kn);
-uint8_t __wrap_link_create_handshake(LinkSending *s, uint64_t *f, uint64_t *m, uint8_t type, const uint8_t *c, size_t cn,
+WRAPPED(uint8_t, husk_flight_message_words, HuskSending *s, uint64_t *f, uint64_t *m, uint8_t type, const uint8_t *c, size_t cn,
     uint8_t *q, size_t qn, uint8_t *k, size_t kn);
-uint8_t __wrap_link_resend(LinkSending *s, uint64_t *f, uint64_t *m, const uint8_t *k, size_t kn, uint8_t *q, size_t qn);
-uint8_t __wrap_link_process_ack(uint64_t *f, uint64_t *m, const uint8_t *c, size_t cn);
-uint8_t __wrap_link_note(uint64_t *count, uint64_t *epochs, uint64_t *numbers, uint64_t epoch, uint64_t number);
-uint8_t __wrap_link_send_ack(LinkSending *s, uint64_t *count, uint64_t *epochs, uint64_t *numbers, uint8_t *q, size_t qn);
+WRAPPED(HuskTold, husk_flight_resend_words, HuskSending *s, uint64_t *f, uint64_t *m, const uint8_t *k, size_t kn, uint8_t *q, size_t qn);
+WRAPPED(HuskAcked, husk_flight_ack_words, uint64_t *f, uint64_t *m, const uint8_t *c, size_t cn);
+WRAPPED(HuskSaved, husk_flight_status_words, const uint64_t *f);
+WRAPPED(void, husk_notes_init_words, uint64_t *count, uint64_t *epochs, uint64_t *numbers);
+WRAPPED(HuskTold, husk_notes_add_words, uint64_t *count, uint64_t *epochs, uint64_t *numbers, uint64_t epoch, uint64_t number);
+WRAPPED(HuskTold, husk_notes_send_words, HuskSending *s, uint64_t *count, uint64_t *epochs, uint64_t *numbers, uint8_t *q, size_t qn);
 
 static volatile uint8_t sink;
 
@@ -52,106 +42,129 @@ static int planted(int fault)
     return chosen == fault;
 }
 
-LinkReading __wrap_link_read(LinkReceiving *s, const uint8_t *d, size_t n)
+HuskReading __wrap_husk_receiving_read(HuskReceiving *s, uint8_t *d, size_t n)
 {
-    LinkReading r = __real_link_read(s, d, n);
+    HuskReading r = __real_husk_receiving_read(s, d, n);
     if (n > 0 && planted(1))
         sink = ((const volatile uint8_t *)d)[n];
     if (n > 0 && planted(2))
         sink = *((const volatile uint8_t *)d - 1);
     if (n > 0 && planted(3))
-        *(uint8_t *)(uintptr_t)d = 0;
-    if (r.kind == LINK_UNOPENED && planted(4))
+        *d = 0;
+    if (r.kind == HUSK_READING_UNOPENED && planted(4))
         r.length++;
-    for (uint64_t i = 0; r.kind == LINK_DROPPED && planted(5); i++)
+    for (uint64_t i = 0; r.kind == HUSK_READING_DROPPED && planted(5); i++)
         sink = (uint8_t)i;
     return r;
 }
 
-LinkReading __wrap_link_begin_read(LinkReceiving *s, const uint8_t *d, size_t n)
+HuskReading __wrap_husk_receiving_begin_read(HuskReceiving *s, uint8_t *d, size_t n)
 {
-    LinkReading r = __real_link_begin_read(s, d, n);
-    if (r.kind == LINK_PLAINTEXT && planted(28))
+    HuskReading r = __real_husk_receiving_begin_read(s, d, n);
+    if (r.kind == HUSK_READING_PLAINTEXT && planted(28))
         s->word[22] = 0;
     return r;
 }
 
-LinkReading __wrap_link_mask(LinkReceiving *s, uint8_t m0, uint8_t m1, uint8_t *d, size_t n)
+HuskReading __wrap_husk_receiving_mask(HuskReceiving *s, uint8_t m0, uint8_t m1, uint8_t *d, size_t n)
 {
-    LinkReading r = __real_link_mask(s, m0, m1, d, n);
+    HuskReading r = __real_husk_receiving_mask(s, m0, m1, d, n);
     if (n > 0 && planted(6))
         d[n - 1] ^= 1;
     return r;
 }
 
-LinkReading __wrap_link_opened(LinkReceiving *s, uint8_t opened, size_t length, const uint8_t *d, size_t n)
+HuskReading __wrap_husk_receiving_opened(HuskReceiving *s, uint8_t opened, size_t length, const uint8_t *d, size_t n)
 {
-    LinkReading r = __real_link_opened(s, opened, length, d, n);
-    if (r.kind == LINK_DROPPED && planted(7))
+    HuskReading r = __real_husk_receiving_opened(s, opened, length, d, n);
+    if (r.kind == HUSK_READING_DROPPED && planted(7))
         r.refusal = 9;
     return r;
 }
 
-uint8_t __wrap_link_begin(LinkReceiving *s, size_t n)
+uint8_t __wrap_husk_receiving_begin(HuskReceiving *s, size_t n)
 {
-    uint8_t answer = __real_link_begin(s, n);
+    uint8_t answer = __real_husk_receiving_begin(s, n);
     if (answer == 1 && planted(8))
         s->word[21] = 0;
     return answer;
 }
 
-uint8_t __wrap_link_key_send(LinkSending *s, uint16_t epoch, const uint8_t *iv)
+HuskTold __wrap_husk_receiving_remove(HuskReceiving *s, uint16_t epoch)
+{
+    uint64_t asked = s->word[23];
+    HuskTold t = __real_husk_receiving_remove(s, epoch);
+    if (t.told == 1 && asked == 2 && planted(30))
+        t.told = 0;
+    if (t.refusal == 0 && asked == 2 && planted(31))
+        t.told = 1;
+    return t;
+}
+
+uint8_t __wrap_husk_sending_key(HuskSending *s, uint16_t epoch, const uint8_t *iv)
 {
     if (planted(9))
         (*((volatile uint8_t *)s + sizeof *s))++;
-    return __real_link_key_send(s, epoch, iv);
+    return __real_husk_sending_key(s, epoch, iv);
 }
 
-uint8_t __wrap_link_send(LinkSending *s, uint16_t epoch, uint8_t type, const uint8_t *c, size_t cn, uint8_t *q, size_t qn)
+uint8_t __wrap_husk_sending_send(HuskSending *s, uint16_t epoch, uint8_t type, const uint8_t *c, size_t cn, uint8_t *q, size_t qn)
 {
-    uint8_t answer = __real_link_send(s, epoch, type, c, cn, q, qn);
+    uint8_t answer = __real_husk_sending_send(s, epoch, type, c, cn, q, qn);
     if (answer == 0 && planted(10))
         q[qn - 1] ^= 1;
     return answer;
 }
 
-uint8_t __wrap_link_sealed(LinkSending *s, size_t length, uint8_t m0, uint8_t m1, uint8_t *q, size_t qn)
+uint8_t __wrap_husk_sending_sealed_words(HuskSending *s, size_t length, uint8_t m0, uint8_t m1, uint8_t *q, size_t qn)
 {
-    uint8_t answer = __real_link_sealed(s, length, m0, m1, q, qn);
+    uint8_t answer = __real_husk_sending_sealed_words(s, length, m0, m1, q, qn);
     if (planted(11))
         sink = ((volatile uint8_t *)q)[qn];
     return answer;
 }
 
-LinkTake __wrap_link_take(LinkSending *s, uint8_t *b, size_t bn, const uint8_t *q, size_t qn)
+HuskTake __wrap_husk_sending_take(HuskSending *s, uint8_t *b, size_t bn, const uint8_t *q, size_t qn)
 {
-    LinkTake t = __real_link_take(s, b, bn, q, qn);
-    if (t.kind == LINK_TAKEN && t.length < bn && planted(12))
+    HuskTake t = __real_husk_sending_take(s, b, bn, q, qn);
+    if (t.kind == HUSK_TAKE_TAKEN && t.length < bn && planted(12))
         b[t.length] ^= 1;
     return t;
 }
 
-LinkPart __wrap_link_take_in_place(LinkSending *s, const uint8_t *q, size_t qn)
+HuskPart __wrap_husk_sending_take_in_place(HuskSending *s, const uint8_t *q, size_t qn)
 {
-    LinkPart p = __real_link_take_in_place(s, q, qn);
-    if (p.kind == LINK_TAKEN && p.start > 0 && planted(29))
+    HuskPart p = __real_husk_sending_take_in_place(s, q, qn);
+    if (p.kind == HUSK_TAKE_TAKEN && p.start > 0 && planted(29))
         p.start--;
     return p;
 }
 
-uint8_t __wrap_link_send_saved(LinkSending *s, uint64_t *f, uint64_t *m, uint16_t epoch, uint8_t type, const uint8_t *c,
+HuskQueued __wrap_husk_sending_status(const HuskSending *s)
+{
+    HuskQueued t = __real_husk_sending_status(s);
+    if (t.queued > 2 && t.waiting > 0 && planted(32))
+        t.waiting--;
+    if (t.queued > 2 && planted(33))
+        t.queued--;
+    if (t.queued > 2 && planted(34))
+        ((HuskSending *)(uintptr_t)s)->word[3]--;
+    return t;
+}
+
+uint8_t __wrap_husk_flight_send_words(HuskSending *s, uint64_t *f, uint64_t *m, uint16_t epoch, uint8_t type, const uint8_t *c,
     size_t cn, uint8_t *q, size_t qn, uint8_t *k, size_t kn)
 {
-    uint8_t answer = __real_link_send_saved(s, f, m, epoch, type, c, cn, q, qn, k, kn);
+    uint8_t answer = __real_husk_flight_send_words(s, f, m, epoch, type, c, cn, q, qn, k, kn);
     if (answer == 0 && planted(13))
         k[kn - 1] ^= 1;
     return answer;
 }
 
-uint8_t __wrap_link_create_handshake(LinkSending *s, uint64_t *f, uint64_t *m, uint8_t type, const uint8_t *c, size_t cn,
+uint8_t __wrap_husk_flight_message_words(HuskSending *s, uint64_t *f, uint64_t *m, uint8_t type, const uint8_t *c, size_t cn,
     uint8_t *q, size_t qn, uint8_t *k, size_t kn)
 {
-    uint8_t answer = __real_link_create_handshake(s, f, m, type, c, cn, q, qn, k, kn);
+    uint8_t answer = __real_husk_flight_message_words(s, f, m, type, c, cn, q, qn, k, kn);
     if (answer == 19 && planted(14))
         f[72]++;
     if (answer == 0 && planted(15))
@@ -159,50 +172,83 @@ uint8_t __wrap_link_create_handshake(LinkSending *s, uint64_t *f, uint64_t *m, u
     return answer;
 }
 
-uint8_t __wrap_link_resend(LinkSending *s, uint64_t *f, uint64_t *m, const uint8_t *k, size_t kn, uint8_t *q, size_t qn)
+HuskTold __wrap_husk_flight_resend_words(HuskSending *s, uint64_t *f, uint64_t *m, const uint8_t *k, size_t kn, uint8_t *q, size_t qn)
 {
-    uint8_t answer = __real_link_resend(s, f, m, k, kn, q, qn);
+    HuskTold t = __real_husk_flight_resend_words(s, f, m, k, kn, q, qn);
     if (kn > 0 && planted(16))
         *(uint8_t *)(uintptr_t)k = 0;
-    if (answer == 22 && planted(17))
+    if (t.refusal == 22 && planted(17))
         m[0]++;
-    if (answer == 0 && planted(18))
+    if (t.refusal == 0 && planted(18))
         q[s->word[0] * s->word[1] - 1] ^= 1;
-    if (answer == 0 && f[72] > 1 && planted(19))
+    if (t.refusal == 0 && f[72] > 1 && planted(19))
         f[6 + 2]++;
-    if (answer == 13 && planted(20))
+    if (t.refusal == 13 && planted(20))
         s->word[4] ^= 1;
-    return answer;
+    if (t.refusal == 0 && f[72] > 3 && planted(35))
+        t.told = (uint8_t)f[72];
+    return t;
 }
 
-uint8_t __wrap_link_process_ack(uint64_t *f, uint64_t *m, const uint8_t *c, size_t cn)
+HuskAcked __wrap_husk_flight_ack_words(uint64_t *f, uint64_t *m, const uint8_t *c, size_t cn)
 {
-    uint8_t answer = __real_link_process_ack(f, m, c, cn);
+    HuskAcked t = __real_husk_flight_ack_words(f, m, c, cn);
     if (cn > 0 && planted(21))
         sink = ((const volatile uint8_t *)c)[cn];
-    if (answer == 0 && f[72] > 1 && planted(22))
+    if (t.refusal == 0 && f[72] > 1 && planted(22))
         f[6 + 4] = 1;
-    return answer;
+    if (t.saved > 3 && planted(36))
+        t.marked = (uint8_t)(t.saved - t.unacknowledged);
+    if (t.saved > 3 && t.marked > 0 && planted(37))
+        t.unacknowledged++;
+    if (t.refusal == 0 && t.saved == 0 && cn > 34 && planted(38))
+        t.saved = 1;
+    return t;
 }
 
-uint8_t __wrap_link_note(uint64_t *count, uint64_t *epochs, uint64_t *numbers, uint64_t epoch, uint64_t number)
+HuskSaved __wrap_husk_flight_status_words(const uint64_t *f)
+{
+    HuskSaved t = __real_husk_flight_status_words(f);
+    if (t.saved > 3 && planted(39))
+        t.unacknowledged = t.saved;
+    if (f[72] > 13 && f[72] < 256 && planted(40))
+        t.refusal = 0;
+    return t;
+}
+
+void __wrap_husk_notes_init_words(uint64_t *count, uint64_t *epochs, uint64_t *numbers)
+{
+    uint64_t noted = count[0];
+    __real_husk_notes_init_words(count, epochs, numbers);
+    if (noted % 2 == 0 && planted(41))
+        count[0] = 1;
+    if (planted(42))
+        ((volatile uint64_t *)epochs)[32] = 0;
+}
+
+HuskTold __wrap_husk_notes_add_words(uint64_t *count, uint64_t *epochs, uint64_t *numbers, uint64_t epoch, uint64_t number)
 {
     if (count[0] == 32 && planted(23))
         ((volatile uint64_t *)numbers)[32] = number;
     if (count[0] == 33 && planted(24))
         count[0] = 32;
-    return __real_link_note(count, epochs, numbers, epoch, number);
+    HuskTold t = __real_husk_notes_add_words(count, epochs, numbers, epoch, number);
+    if (t.refusal == 0 && number < 100 && planted(43))
+        t.told = 1;
+    return t;
 }
 
-uint8_t __wrap_link_send_ack(LinkSending *s, uint64_t *count, uint64_t *epochs, uint64_t *numbers, uint8_t *q, size_t qn)
+HuskTold __wrap_husk_notes_send_words(HuskSending *s, uint64_t *count, uint64_t *epochs, uint64_t *numbers, uint8_t *q, size_t qn)
 {
     uint64_t noted = count[0];
-    uint8_t answer = __real_link_send_ack(s, count, epochs, numbers, q, qn);
-    if (answer == 19 && planted(25))
+    HuskTold t = __real_husk_notes_send_words(s, count, epochs, numbers, q, qn);
+    if (t.refusal == 19 && planted(25))
         count[0] = 0;
-    if (answer == 0 && noted < 32 && planted(26))
+    if (t.told == 1 && noted < 32 && planted(26))
         count[0] = noted;
-    if (answer == 17 && planted(27))
-        answer = 18;
-    return answer;
+    if (t.refusal == 17 && planted(27))
+        t.refusal = 18;
+    if (t.told == 1 && noted < 32 && planted(44))
+        t.told = 0;
+    return t;
 }

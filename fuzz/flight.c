@@ -52,9 +52,9 @@ static void check_numbers_kept(void)
     require(memcmp(&numbers_before, numbers, sizeof numbers_before) == 0, "the remembered numbers have changed");
 }
 
-void flight_done(int call, uint8_t answer)
+void flight_done(int call, unsigned kind, uint8_t answer)
 {
-    sending_done(call, 0, answer, answer != 0, !flight_made);
+    sending_done(call, kind, answer, answer != 0, !flight_made);
     check_beside(&flight);
     check_beside(&table);
     check_beside(&kept);
@@ -64,10 +64,18 @@ void flight_done(int call, uint8_t answer)
     }
 }
 
-static void done(int call, uint8_t answer)
+static void done(int call, unsigned kind, uint8_t answer)
 {
-    flight_done(call, answer);
+    flight_done(call, kind, answer);
     check_numbers_kept();
+}
+
+unsigned unmarked(const Records *x)
+{
+    unsigned n = 0;
+    for (uint64_t i = 0; i < x->word[SAVED] && i < ENTRIES; i++)
+        n += x->word[E_WORDS * i + E_MARKED] == 0;
+    return n;
 }
 
 /* The contents of the records saved are written, each at its place; all else is as it was. */
@@ -83,7 +91,7 @@ static void check_saved(void)
     require(memcmp(kept_before, kept.bytes, kept.n) == 0, "bytes of the flight beside its records have changed");
 }
 
-uint64_t datagram_length(const LinkSending *x, uint64_t datagram)
+uint64_t datagram_length(const HuskSending *x, uint64_t datagram)
 {
     return x->word[W_LENGTHS + (x->word[W_FIRST] + datagram) % x->word[W_LIMIT]] % 65536;
 }
@@ -109,24 +117,24 @@ void check_grown(void)
 static void call_begin(void)
 {
     flight_keep();
-    calling(BEGIN_FLIGHT);
-    uint8_t answer = link_begin_flight(f->word);
-    done(BEGIN_FLIGHT, answer);
+    calling(FLIGHT_BEGIN);
+    uint8_t answer = husk_flight_begin_words(f->word);
+    done(FLIGHT_BEGIN, 0, answer);
     require(answer != 0 || f->word[SAVED] == 0, "a flight begun is not empty");
     require(answer != 12 || !flight_made, "12 for a flight that calls made");
 }
 
-static void call_send_saved(void)
+static void call_send(void)
 {
     uint16_t epoch = some_epoch();
     uint8_t type = some_type();
     lend_content(content_length());
     flight_keep();
     keep_queue();
-    calling(SEND_SAVED);
-    uint8_t answer = link_send_saved(s, f->word, numbers->word, epoch, type, content_bytes(), content.n, queue.bytes, queue.n,
+    calling(FLIGHT_SEND);
+    uint8_t answer = husk_flight_send_words(s, f->word, numbers->word, epoch, type, content_bytes(), content.n, queue.bytes, queue.n,
         kept.bytes, kept.n);
-    done(SEND_SAVED, answer);
+    done(FLIGHT_SEND, 0, answer);
     if (answer == 0) {
         check_laid(epoch);
         check_saved();
@@ -136,16 +144,16 @@ static void call_send_saved(void)
     }
 }
 
-static void call_handshake(void)
+static void call_message(void)
 {
     uint8_t type = one_in(3) ? (uint8_t)(1 + below(2)) : (uint8_t)any();
     lend_content(one_in(16) ? 16380 + below(8) : one_in(8) ? below(BODY) : content_length());
     flight_keep();
     keep_queue();
-    calling(CREATE_HANDSHAKE);
-    uint8_t answer = link_create_handshake(s, f->word, numbers->word, type, content_bytes(), content.n, queue.bytes, queue.n,
+    calling(FLIGHT_MESSAGE);
+    uint8_t answer = husk_flight_message_words(s, f->word, numbers->word, type, content_bytes(), content.n, queue.bytes, queue.n,
         kept.bytes, kept.n);
-    done(CREATE_HANDSHAKE, answer);
+    done(FLIGHT_MESSAGE, 0, answer);
     if (answer == 0) {
         check_grown();
         check_saved();
@@ -155,15 +163,29 @@ static void call_handshake(void)
     }
 }
 
+/* The flight is lent through the view that cannot be written. */
+static void call_status(void)
+{
+    flight_keep();
+    calling(FLIGHT_STATUS);
+    HuskSaved t = husk_flight_status_words(((const Records *)(const void *)flight.fixed)->word);
+    done(FLIGHT_STATUS, t.refusal == 0 && t.saved > 0, t.refusal);
+    require(t.refusal != 12 || !flight_made, "12 for a flight that calls made");
+    require(t.refusal == 0 || (t.saved == 0 && t.unacknowledged == 0), "a field not used is not zero");
+    require(t.refusal != 0 || (t.saved == f->word[SAVED] && t.unacknowledged == unmarked(f)), "another count of saved records");
+}
+
 void flight_step(void)
 {
-    uint64_t call = below(8);
+    uint64_t call = below(9);
     if (call == 0)
         call_begin();
+    else if (call == 8)
+        call_status();
     else if (call < 4)
-        call_handshake();
+        call_message();
     else
-        call_send_saved();
+        call_send();
 }
 
 /* ---- states */
@@ -182,9 +204,9 @@ void flight_fresh(void)
     scatter(flight.bytes, flight.n);
     scatter(table.bytes, table.n);
     memset(kept.bytes, (int)below(256), n);
-    calling(FLIGHT);
-    link_flight(f->word, numbers->word);
-    answered(FLIGHT, 0, 0);
+    calling(FLIGHT_INIT);
+    husk_flight_init_words(f->word, numbers->word);
+    answered(FLIGHT_INIT, 0, 0);
     for (int i = 0; i < NUMBERS; i++)
         require(numbers->word[i] == 0, "a table that does not start as zeros");
     flight_made = n >= ENTRIES * mtu;

@@ -9,7 +9,7 @@ enum { RECORD_WORDS = 73, NUMBERS = 384, ENTRIES = 12, SAVED = 72, REMEMBERED = 
 /* The words of an entry (crates/flight_words/specs/Words.antt). */
 enum { E_TYPE, E_EPOCH, E_NUMBER, E_LENGTH, E_MARKED, E_REMEMBERED, E_WORDS };
 
-/* The two parts of a LinkFlight, lent apart. */
+/* The two parts of a HuskFlight, lent apart: the histories call the library's functions over them, known.c the header's over the whole. */
 typedef struct {
     uint64_t word[RECORD_WORDS];
 } Records;
@@ -30,9 +30,11 @@ Records flight_plain(const Records *x);
 /* The flight as it is before a call. */
 void flight_keep(void);
 /* The answer is one that is named; the memory beside what is lent, and state and flight where the call is refused, are as they were. */
-void flight_done(int call, uint8_t answer);
+void flight_done(int call, unsigned kind, uint8_t answer);
+/* Saved records that are not acknowledged. */
+unsigned unmarked(const Records *x);
 /* The length of a datagram, counted from the front one. */
-uint64_t datagram_length(const LinkSending *x, uint64_t datagram);
+uint64_t datagram_length(const HuskSending *x, uint64_t datagram);
 /* Datagrams have grown at their ends, or are new; all else in the queue is as it was. */
 void check_grown(void);
 

@@ -42,10 +42,11 @@ void check_beside(const Lent *l);
 /* ---- answers and findings */
 
 enum {
-    RECEIVING, KEY_RECEIVE, REMOVE_RECEIVE, ENABLE, RELEASE, BEGIN, READ, BEGIN_READ, MASK, OPENED, /* receiving */
-    SENDING, KEY_SEND, SEND, SEALING, SEALED, TAKE, TAKE_IN_PLACE, /* sending */
-    FLIGHT, BEGIN_FLIGHT, SEND_SAVED, CREATE_HANDSHAKE, /* the flight */
-    RESEND, PROCESS_ACK, NOTE, SEND_ACK, /* resends and ACKs */
+    RECEIVING_INIT, RECEIVING_KEY, RECEIVING_REMOVE, RECEIVING_ENABLE, RECEIVING_RELEASE, RECEIVING_BEGIN, RECEIVING_READ,
+    RECEIVING_BEGIN_READ, RECEIVING_MASK, RECEIVING_OPENED,
+    SENDING_INIT, SENDING_KEY, SENDING_SEND, SENDING_SEALING, SENDING_SEALED, SENDING_TAKE, SENDING_TAKE_IN_PLACE, SENDING_STATUS,
+    FLIGHT_INIT, FLIGHT_BEGIN, FLIGHT_SEND, FLIGHT_MESSAGE, FLIGHT_RESEND, FLIGHT_ACK, FLIGHT_STATUS,
+    NOTES_INIT, NOTES_ADD, NOTES_SEND,
     CALLS
 };
 
@@ -53,7 +54,7 @@ extern uint64_t datagrams, replies, calls_made, words_rewritten;
 
 /* Before a call, so that a fault names it. */
 void calling(int call);
-/* Fails if the call may not answer so. Calls that answer a number only have kind 0. */
+/* Fails if the call may not answer so. Answers without a kind have 0; those that tell how many, or whether, have 1 where that is not 0. */
 void answered(int call, unsigned kind, unsigned refusal);
 _Noreturn void finding(const char *what);
 void require(int holds, const char *what);

@@ -5,7 +5,7 @@
 
 static const uint8_t iv[12] = {0, 1, 2, 3, 4, 5, 6, 7, 8, 9, 10, 11};
 
-static void check_reading(LinkReading r, unsigned kind, unsigned type, unsigned epoch, uint64_t number, size_t start, size_t head, size_t n)
+static void check_reading(HuskReading r, unsigned kind, unsigned type, unsigned epoch, uint64_t number, size_t start, size_t head, size_t n)
 {
     require(r.kind == kind && r.refusal == 0 && r.content_type == type && r.epoch == epoch, "a known reading");
     require(r.number == number && r.start == start && r.header_len == head && r.length == n, "a known reading's numbers");
@@ -16,31 +16,32 @@ static void known_receiving(void)
 {
     static const uint8_t nonce[12] = {0, 1, 2, 3, 4, 5, 6, 7, 8, 9, 10, 11 ^ 5};
     uint8_t d[40] = {21, 0xFE, 0xFD, 0, 0, 1, 2, 3, 4, 5, 6, 0, 2, 1, 0, 0x2F, 1, 2, 0, 20};
-    LinkReceiving s;
-    calling(READ);
-    require(link_receiving(&s, 16) == 0 && link_key_receive(&s, 263, iv) == 0 && link_enable_peer_encryption(&s) == 0, "a known start");
-    require(link_begin(&s, sizeof d) == 0, "a known datagram");
-    check_reading(link_read(&s, d, sizeof d), LINK_PLAINTEXT, 21, 0, 0x010203040506, 13, 0, 2);
-    check_reading(link_read(&s, d, sizeof d), LINK_MASK, 0, 263, 0, 20, 0, 16);
-    LinkReading r = link_mask(&s, 1, 7, d, sizeof d);
-    check_reading(r, LINK_OPENING, 0, 263, 5, 15, 5, 20);
+    HuskReceiving s;
+    calling(RECEIVING_READ);
+    require(husk_receiving_init(&s, 16) == 0 && husk_receiving_key(&s, 263, iv) == 0, "a known start");
+    require(husk_receiving_enable_encryption(&s) == 0, "a known start");
+    require(husk_receiving_begin(&s, sizeof d) == 0, "a known datagram");
+    check_reading(husk_receiving_read(&s, d, sizeof d), HUSK_READING_PLAINTEXT, 21, 0, 0x010203040506, 13, 0, 2);
+    check_reading(husk_receiving_read(&s, d, sizeof d), HUSK_READING_MASK, 0, 263, 0, 20, 0, 16);
+    HuskReading r = husk_receiving_mask(&s, 1, 7, d, sizeof d);
+    check_reading(r, HUSK_READING_OPENING, 0, 263, 5, 15, 5, 20);
     require(memcmp(r.nonce, nonce, 12) == 0 && d[16] == 0 && d[17] == 5, "a known nonce");
     memcpy(d + 20, "hi\x17\0", 4);
-    check_reading(link_opened(&s, 1, 4, d, sizeof d), LINK_OPENED, 23, 263, 5, 20, 0, 2);
-    r = link_read(&s, d, 0);
-    require(r.kind == LINK_REFUSED && r.refusal == 15, "a known refusal");
-    r = link_read(&s, d, sizeof d);
-    require(r.kind == LINK_END && r.refusal == 0, "a known end");
+    check_reading(husk_receiving_opened(&s, 1, 4, d, sizeof d), HUSK_READING_OPENED, 23, 263, 5, 20, 0, 2);
+    r = husk_receiving_read(&s, d, 0);
+    require(r.kind == HUSK_READING_REFUSED && r.refusal == 15, "a known refusal");
+    r = husk_receiving_read(&s, d, sizeof d);
+    require(r.kind == HUSK_READING_END && r.refusal == 0, "a known end");
 }
 
-static void check_sealing(const LinkSending *s, uint64_t number, size_t start)
+static void check_sealing(const HuskSending *s, uint64_t number, size_t start)
 {
     const uint8_t header[5] = {0x2E, 0, (uint8_t)number, 0, 20};
     uint8_t nonce[12];
-    LinkSealing q = link_sealing(s);
+    HuskSealing q = husk_sending_sealing(s);
     memcpy(nonce, iv, 12);
     nonce[11] ^= (uint8_t)number;
-    require(q.kind == LINK_SEAL && q.refusal == 0 && q.epoch == 262 && q.number == number, "a known sealing");
+    require(q.kind == HUSK_SEALING_SEAL && q.refusal == 0 && q.epoch == 262 && q.number == number, "a known sealing");
     require(q.start == start && q.length == 20, "a known sealing's place");
     require(memcmp(q.nonce, nonce, 12) == 0 && memcmp(q.header, header, 5) == 0, "a known nonce and header");
 }
@@ -51,34 +52,101 @@ static void known_sending(void)
     static const uint8_t alert[2] = {1, 0}, data[3] = {'a', 'b', 'c'}, plain[15] = {21, 0xFE, 0xFD, 0, 0, 0, 0, 0, 0, 0, 0, 0, 2, 1, 0};
     static uint8_t queue[2 * 576];
     uint8_t out[65];
-    LinkSending s;
-    calling(SEND);
-    require(link_sending(&s, 576, 2) == 0 && link_key_send(&s, 262, iv) == 0, "a known start");
-    require(link_send(&s, 0, 21, alert, 2, queue, sizeof queue) == 0, "a known alert");
+    HuskSending s;
+    HuskFlight f;
+    calling(SENDING_SEND);
+    husk_flight_init(&f);
+    require(husk_sending_init(&s, 576, 2) == 0 && husk_sending_key(&s, 262, iv) == 0, "a known start");
+    require(husk_sending_send(&s, 0, 21, alert, 2, queue, sizeof queue) == 0, "a known alert");
     for (int i = 0; i < 2; i++)
-        require(link_send(&s, 262, 23, data, 3, queue, sizeof queue) == 0, "a known record");
+        require(husk_sending_send(&s, 262, 23, data, 3, queue, sizeof queue) == 0, "a known record");
     check_sealing(&s, 0, 20);
-    require(link_sealed(&s, 20, 0, 0, queue, sizeof queue) == 0, "a known reply");
+    require(husk_sending_sealed(&s, &f, 20, 0, 0, queue, sizeof queue) == 0, "a known reply");
     check_sealing(&s, 1, 45);
-    LinkTake t = link_take(&s, out, sizeof out, queue, sizeof queue);
-    require(t.kind == LINK_REFUSED && t.refusal == 23 && t.length == 0, "a datagram not wholly sealed");
-    require(link_sealed(&s, 20, 0x55, 0xAA, queue, sizeof queue) == 0, "a known reply");
-    t = link_take(&s, out, 64, queue, sizeof queue);
-    require(t.kind == LINK_REFUSED && t.refusal == 16 && t.length == 65, "a known length needed");
-    t = link_take(&s, out, sizeof out, queue, sizeof queue);
-    require(t.kind == LINK_TAKEN && t.refusal == 0 && t.length == 65, "a known datagram");
+    HuskTake t = husk_sending_take(&s, out, sizeof out, queue, sizeof queue);
+    require(t.kind == HUSK_TAKE_REFUSED && t.refusal == 23 && t.length == 0, "a datagram not wholly sealed");
+    require(husk_sending_sealed(&s, &f, 20, 0x55, 0xAA, queue, sizeof queue) == 0, "a known reply");
+    t = husk_sending_take(&s, out, 64, queue, sizeof queue);
+    require(t.kind == HUSK_TAKE_REFUSED && t.refusal == 16 && t.length == 65, "a known length needed");
+    t = husk_sending_take(&s, out, sizeof out, queue, sizeof queue);
+    require(t.kind == HUSK_TAKE_TAKEN && t.refusal == 0 && t.length == 65, "a known datagram");
     require(memcmp(out, plain, 15) == 0 && out[40] == 0x2E && out[41] == 0x55 && out[42] == (0xAA ^ 1) && out[44] == 20, "its bytes");
 }
 
+/* What is queued and waits at this end is told. */
+static void check_queued(const HuskSending *s, unsigned queued, size_t waiting)
+{
+    HuskQueued t = husk_sending_status(s);
+    require(t.refusal == 0 && t.queued == queued && t.waiting == waiting, "a known status of the queue");
+}
+
+/* What is saved and not acknowledged is told. */
+static void check_saved(const HuskFlight *f, unsigned saved, unsigned unacknowledged)
+{
+    HuskSaved t = husk_flight_status(f);
+    require(t.refusal == 0 && t.saved == saved && t.unacknowledged == unacknowledged, "a known status of the flight");
+}
+
+static void check_acked(HuskAcked t, unsigned marked, unsigned unacknowledged, unsigned saved)
+{
+    require(t.refusal == 0 && t.marked == marked && t.unacknowledged == unacknowledged && t.saved == saved, "a known ACK's answer");
+}
+
+static void check_told(HuskTold t, unsigned refusal, unsigned told, const char *what)
+{
+    require(t.refusal == refusal && t.told == told, what);
+}
+
 /* The oldest sealing is answered and its datagram, of one record, taken. */
-static void drain(LinkSending *s, uint8_t *queue, size_t n, uint64_t number, size_t part)
+static void drain(HuskSending *s, HuskFlight *f, uint8_t *queue, size_t n, uint64_t number, size_t part)
 {
     uint8_t out[576];
-    LinkSealing q = link_sealing(s);
-    require(q.kind == LINK_SEAL && q.number == number && q.length == part, "a known sealing");
-    require(link_sealed(s, part, 0, 0, queue, n) == 0, "a known reply");
-    LinkTake t = link_take(s, out, sizeof out, queue, n);
-    require(t.kind == LINK_TAKEN && t.length == part + 5, "a known datagram");
+    HuskSealing q = husk_sending_sealing(s);
+    require(q.kind == HUSK_SEALING_SEAL && q.number == number && q.length == part, "a known sealing");
+    require(husk_sending_sealed(s, f, part, 0, 0, queue, n) == 0, "a known reply");
+    HuskTake t = husk_sending_take(s, out, sizeof out, queue, n);
+    require(t.kind == HUSK_TAKE_TAKEN && t.length == part + 5, "a known datagram");
+}
+
+/* An epoch removed while nothing waits, and one under whose question a record waits, which is dropped with it. */
+static void known_removal(void)
+{
+    uint8_t d[25] = {0x2F, 0, 5, 0, 20};
+    HuskReceiving s;
+    calling(RECEIVING_REMOVE);
+    require(husk_receiving_init(&s, 17) == 0 && husk_receiving_enable_encryption(&s) == 0, "a known start");
+    require(husk_receiving_key(&s, 2, iv) == 0 && husk_receiving_key(&s, 3, iv) == 0, "a known start");
+    check_told(husk_receiving_remove(&s, 4), HUSK_BAD_EPOCH, 0, "a known epoch that is not keyed");
+    require(husk_receiving_begin_read(&s, d, sizeof d).kind == HUSK_READING_MASK, "a known question");
+    check_told(husk_receiving_remove(&s, 2), 0, 0, "a known removal");
+    check_told(husk_receiving_remove(&s, 3), 0, 1, "a known removal under a question");
+    require(husk_receiving_read(&s, d, sizeof d).kind == HUSK_READING_END, "a known end");
+}
+
+/* Three records queued in two datagrams, two of them to be sealed; a state that is none. */
+static void known_queue(void)
+{
+    static const uint8_t data[500];
+    static uint8_t queue[2 * 576];
+    HuskSending s;
+    HuskFlight f;
+    calling(SENDING_STATUS);
+    husk_flight_init(&f);
+    require(husk_sending_init(&s, 576, 2) == 0 && husk_sending_key(&s, 3, iv) == 0, "a known start");
+    check_queued(&s, 0, 0);
+    require(husk_sending_send(&s, 0, HUSK_ALERT, data, 2, queue, sizeof queue) == 0, "a known alert");
+    check_queued(&s, 1, 0);
+    for (unsigned i = 1; i <= 2; i++) {
+        require(husk_sending_send(&s, 3, HUSK_APPLICATION_DATA, data, sizeof data, queue, sizeof queue) == 0, "a known record");
+        check_queued(&s, i, i);
+    }
+    require(husk_sending_sealed(&s, &f, sizeof data + 17, 0, 0, queue, sizeof queue) == 0, "a known reply");
+    check_queued(&s, 2, 1);
+    require(husk_sending_take_in_place(&s, queue, sizeof queue).length == 15 + 5 + sizeof data + 17, "a known datagram");
+    check_queued(&s, 1, 1);
+    s.word[4] = 2;
+    HuskQueued t = husk_sending_status(&s);
+    require(t.refusal == HUSK_OUT_OF_RANGE && t.queued == 0 && t.waiting == 0, "a known flag out of range");
 }
 
 /* A handshake record of epoch 2, sent as number 0 and again as 1 to 32; then it remembers 32 numbers. An ACK of number 5 ends it. */
@@ -87,25 +155,57 @@ static void known_resends(void)
     static const uint8_t data[3] = {'a', 'b', 'c'};
     static uint8_t queue[576], kept[12 * 576];
     uint8_t ack[18] = {0, 16, 0, 0, 0, 0, 0, 0, 0, 2, 0, 0, 0, 0, 0, 0, 0, 33};
-    LinkSending s;
-    LinkFlight f;
-    calling(RESEND);
-    link_flight(f.word, f.numbers);
-    require(link_sending(&s, 576, 1) == 0 && link_key_send(&s, 2, iv) == 0, "a known start");
-    require(link_send_saved(&s, f.word, f.numbers, 2, 22, data, 3, queue, sizeof queue, kept, sizeof kept) == 0, "a known record");
-    require(link_resend(&s, f.word, f.numbers, kept, sizeof kept, queue, sizeof queue) == 19, "a known full queue");
-    drain(&s, queue, sizeof queue, 0, 20);
+    HuskSending s;
+    HuskFlight f;
+    calling(FLIGHT_RESEND);
+    husk_flight_init(&f);
+    require(husk_sending_init(&s, 576, 1) == 0 && husk_sending_key(&s, 2, iv) == 0, "a known start");
+    check_told(husk_flight_resend(&f, &s, kept, sizeof kept, queue, sizeof queue), 0, 0, "a known resend of nothing");
+    require(husk_flight_send(&f, &s, 2, HUSK_HANDSHAKE, data, 3, queue, sizeof queue, kept, sizeof kept) == 0, "a known record");
+    check_told(husk_flight_resend(&f, &s, kept, sizeof kept, queue, sizeof queue), HUSK_QUEUE_FULL, 0, "a known full queue");
+    drain(&s, &f, queue, sizeof queue, 0, 20);
     for (uint64_t i = 1; i <= 32; i++) {
-        require(link_resend(&s, f.word, f.numbers, kept, sizeof kept, queue, sizeof queue) == 0, "a known resend");
-        drain(&s, queue, sizeof queue, i, 20);
+        check_told(husk_flight_resend(&f, &s, kept, sizeof kept, queue, sizeof queue), 0, 1, "a known resend");
+        drain(&s, &f, queue, sizeof queue, i, 20);
         require(f.word[2] == i && f.word[5] == i && f.numbers[i - 1] == i - 1, "a known number remembered");
     }
-    require(link_resend(&s, f.word, f.numbers, kept, sizeof kept, queue, sizeof queue) == 22, "a known full history");
-    calling(PROCESS_ACK);
-    require(link_process_ack(f.word, f.numbers, ack, sizeof ack) == 0 && f.word[4] == 0 && f.word[72] == 1, "an ACK of no record");
+    check_told(husk_flight_resend(&f, &s, kept, sizeof kept, queue, sizeof queue), HUSK_RESENDS_SPENT, 0, "a known full history");
+    calling(FLIGHT_ACK);
+    check_acked(husk_flight_ack(&f, &s, ack, sizeof ack), 0, 1, 1);
     ack[17] = 5;
-    require(link_process_ack(f.word, f.numbers, ack, 17) == 0 && f.word[4] == 0 && f.word[72] == 1, "an ACK cut short");
-    require(link_process_ack(f.word, f.numbers, ack, sizeof ack) == 0 && f.word[4] == 1 && f.word[72] == 0, "a known ACK");
+    check_acked(husk_flight_ack(&f, &s, ack, 17), 0, 1, 1);
+    check_acked(husk_flight_ack(&f, &s, ack, sizeof ack), 1, 0, 0);
+    require(f.word[4] == 1 && f.word[72] == 0, "a known ACK's words");
+}
+
+/* Three records saved: the alert of epoch 0 is never acknowledged; of two of epoch 2 one is, then both, and the flight is empty. */
+static void known_flight(void)
+{
+    static const uint8_t alert[2] = {1, 0}, body[3] = {'a', 'b', 'c'};
+    static uint8_t queue[2 * 576], kept[12 * 576];
+    uint8_t ack[34] = {0, 32};
+    HuskSending s;
+    HuskFlight f;
+    calling(FLIGHT_STATUS);
+    husk_flight_init(&f);
+    check_saved(&f, 0, 0);
+    require(husk_sending_init(&s, 576, 2) == 0 && husk_sending_key(&s, 2, iv) == 0, "a known start");
+    require(husk_flight_send(&f, &s, 0, HUSK_ALERT, alert, 2, queue, sizeof queue, kept, sizeof kept) == 0, "a known alert");
+    for (int i = 0; i < 2; i++)
+        require(husk_flight_message(&f, &s, 8, body, 3, queue, sizeof queue, kept, sizeof kept) == 0, "a known message");
+    check_saved(&f, 3, 3);
+    ack[9] = ack[25] = 2;
+    check_acked(husk_flight_ack(&f, &s, ack, sizeof ack), 1, 2, 3); /* number 0, twice */
+    check_saved(&f, 3, 2);
+    check_acked(husk_flight_ack(&f, &s, ack, sizeof ack), 0, 2, 3);
+    check_told(husk_flight_resend(&f, &s, kept, sizeof kept, queue, sizeof queue), 0, 2, "a known resend of two");
+    ack[33] = 1;
+    check_acked(husk_flight_ack(&f, &s, ack, sizeof ack), 1, 0, 0);
+    check_saved(&f, 0, 0);
+    require(husk_flight_begin(&f, &s) == 0, "a known flight begun");
+    f.word[72] = 13;
+    HuskSaved t = husk_flight_status(&f);
+    require(t.refusal == HUSK_OUT_OF_RANGE && t.saved == 0 && t.unacknowledged == 0, "a known count out of range");
 }
 
 /* The first 32 of 33 records are noted; their ACK, 514 bytes, is sent in epoch 262. */
@@ -113,25 +213,42 @@ static void known_ack(void)
 {
     static const uint8_t first[18] = {2, 0, 0, 0, 0, 0, 0, 0, 1, 7, 1, 2, 3, 4, 5, 6, 7, 8};
     static uint8_t queue[576];
-    LinkSending s;
-    LinkNotes n;
-    calling(SEND_ACK);
-    memset(&n, 0, sizeof n);
-    require(link_sending(&s, 576, 1) == 0 && link_key_send(&s, 262, iv) == 0, "a known start");
-    require(link_send_ack(&s, n.count, n.epochs, n.numbers, queue, sizeof queue) == 0, "a known ACK of nothing");
-    require(link_sealing(&s).kind == LINK_NO_SEALING, "nothing to seal");
+    HuskSending s;
+    HuskFlight f;
+    HuskNotes n;
+    calling(NOTES_SEND);
+    memset(&n, 0xFF, sizeof n);
+    husk_notes_init(&n);
+    husk_flight_init(&f);
+    require(husk_sending_init(&s, 576, 1) == 0 && husk_sending_key(&s, 262, iv) == 0, "a known start");
+    check_told(husk_notes_send(&n, &s, queue, sizeof queue), 0, 0, "a known ACK of nothing");
+    require(husk_sending_sealing(&s).kind == HUSK_SEALING_NONE, "nothing to seal");
     for (uint64_t i = 0; i < 33; i++)
-        require(link_note(n.count, n.epochs, n.numbers, 263 + i, 0x0102030405060708 + i) == 0, "a known note");
+        check_told(husk_notes_add(&n, 263 + i, 0x0102030405060708 + i), 0, i < 32, "a known note");
     require(n.count[0] == 32 && n.epochs[31] == 294 && n.numbers[31] == 0x0102030405060727, "known notes");
-    require(link_send_ack(&s, n.count, n.epochs, n.numbers, queue, sizeof queue) == 0 && n.count[0] == 0, "a known ACK");
-    require(memcmp(queue + 5, first, 18) == 0 && queue[5 + 514 - 1] == 0x27 && queue[5 + 514] == 26, "its bytes");
-    drain(&s, queue, sizeof queue, 0, 514 + 17);
+    check_told(husk_notes_send(&n, &s, queue, sizeof queue), 0, 1, "a known ACK");
+    require(n.count[0] == 0 && memcmp(queue + 5, first, 18) == 0, "its first bytes");
+    require(queue[5 + 514 - 1] == 0x27 && queue[5 + 514] == HUSK_ACK, "its last bytes");
+    drain(&s, &f, queue, sizeof queue, 0, 514 + 17);
+}
+
+/* Every refusal has a text of its own; other numbers have another. */
+static void known_texts(void)
+{
+    for (unsigned i = 0; i <= HUSK_WAITING + 1; i++)
+        for (unsigned j = 0; j < i; j++)
+            require(strcmp(husk_refusal_text((uint8_t)i), husk_refusal_text((uint8_t)j)) != 0, "a text that two refusals have");
+    require(strcmp(husk_refusal_text(HUSK_WAITING + 1), husk_refusal_text(255)) == 0, "a text for no refusal");
 }
 
 void known(void)
 {
     known_receiving();
+    known_removal();
     known_sending();
+    known_queue();
     known_resends();
+    known_flight();
     known_ack();
+    known_texts();
 }

@@ -1,4 +1,4 @@
-/* Feeds random, truncated and mutated datagrams and replies, and arbitrary words as state, through the record link's C interface.
+/* Feeds random, truncated and mutated datagrams and replies, and arbitrary words as state, through the record layer's C interface.
  *
  *   driver COUNT SEED [HISTORY]   COUNT datagrams and replies; or the one history
  *
@@ -32,32 +32,36 @@ static const struct {
     const char *name;
     uint32_t refusals[KINDS];
 } calls[CALLS] = {
-    [RECEIVING] = {"link_receiving", {R(0) | R(12)}},
-    [KEY_RECEIVE] = {"link_key_receive", {R(0) | R(12) | R(13) | R(23)}},
-    [REMOVE_RECEIVE] = {"link_remove_receive", {R(0) | R(6) | R(12) | R(13)}},
-    [ENABLE] = {"link_enable_peer_encryption", {R(0) | R(12)}},
-    [RELEASE] = {"link_release_application_data", {R(0) | R(12)}},
-    [BEGIN] = {"link_begin", {R(0) | R(1) | R(12)}},
-    [READ] = {"link_read", {R(12) | R(15), R(0) | R(2) | R(3), R(4) | R(5) | R(6) | R(7), R(0), R(0), 0, R(0), R(0)}},
-    [BEGIN_READ] = {"link_begin_read",
+    [RECEIVING_INIT] = {"husk_receiving_init", {R(0) | R(12)}},
+    [RECEIVING_KEY] = {"husk_receiving_key", {R(0) | R(12) | R(13) | R(23)}},
+    [RECEIVING_REMOVE] = {"husk_receiving_remove", {R(0) | R(12) | R(13), R(0)}},
+    [RECEIVING_ENABLE] = {"husk_receiving_enable_encryption", {R(0) | R(12)}},
+    [RECEIVING_RELEASE] = {"husk_receiving_release_application_data", {R(0) | R(12)}},
+    [RECEIVING_BEGIN] = {"husk_receiving_begin", {R(0) | R(1) | R(12)}},
+    [RECEIVING_READ] = {"husk_receiving_read",
+        {R(12) | R(15), R(0) | R(2) | R(3), R(4) | R(5) | R(6) | R(7), R(0), R(0), 0, R(0), R(0)}},
+    [RECEIVING_BEGIN_READ] = {"husk_receiving_begin_read",
         {R(1) | R(12), R(0) | R(2), R(4) | R(5) | R(6) | R(7), R(0), R(0), 0, R(0)}},
-    [MASK] = {"link_mask", {R(12) | R(15), 0, R(8) | R(9), 0, 0, 0, 0, R(0)}},
-    [OPENED] = {"link_opened", {R(12) | R(15), R(3), R(10) | R(11), 0, 0, R(0)}},
-    [SENDING] = {"link_sending", {R(0) | R(12)}},
-    [KEY_SEND] = {"link_key_send", {R(0) | R(12) | R(13) | R(23)}},
-    [SEND] = {"link_send", {R(0) | R(12) | R(13) | R(14) | R(17) | R(19) | R(20)}},
-    [SEALING] = {"link_sealing", {R(12), R(0), R(0)}},
-    [SEALED] = {"link_sealed", {R(0) | R(12) | R(15)}},
-    [TAKE] = {"link_take", {R(12) | R(16) | R(23), R(0), R(0)}},
-    [TAKE_IN_PLACE] = {"link_take_in_place", {R(12) | R(23), R(0), R(0)}},
-    [FLIGHT] = {"link_flight", {R(0)}},
-    [BEGIN_FLIGHT] = {"link_begin_flight", {R(0) | R(12)}},
-    [SEND_SAVED] = {"link_send_saved", {R(0) | R(12) | R(13) | R(14) | R(17) | R(18) | R(19) | R(20)}},
-    [CREATE_HANDSHAKE] = {"link_create_handshake", {R(0) | R(12) | R(14) | R(17) | R(18) | R(19) | R(20) | R(21)}},
-    [RESEND] = {"link_resend", {R(0) | R(12) | R(13) | R(14) | R(17) | R(19) | R(20) | R(22)}},
-    [PROCESS_ACK] = {"link_process_ack", {R(0) | R(12)}},
-    [NOTE] = {"link_note", {R(0) | R(12)}},
-    [SEND_ACK] = {"link_send_ack", {R(0) | R(12) | R(13) | R(17) | R(19) | R(20)}},
+    [RECEIVING_MASK] = {"husk_receiving_mask", {R(12) | R(15), 0, R(8) | R(9), 0, 0, 0, 0, R(0)}},
+    [RECEIVING_OPENED] = {"husk_receiving_opened", {R(12) | R(15), R(3), R(10) | R(11), 0, 0, R(0)}},
+    [SENDING_INIT] = {"husk_sending_init", {R(0) | R(12)}},
+    [SENDING_KEY] = {"husk_sending_key", {R(0) | R(12) | R(13) | R(23)}},
+    [SENDING_SEND] = {"husk_sending_send", {R(0) | R(12) | R(13) | R(14) | R(17) | R(19) | R(20)}},
+    [SENDING_SEALING] = {"husk_sending_sealing", {R(12), R(0), R(0)}},
+    [SENDING_SEALED] = {"husk_sending_sealed_words", {R(0) | R(12) | R(15)}},
+    [SENDING_TAKE] = {"husk_sending_take", {R(12) | R(16) | R(23), R(0), R(0)}},
+    [SENDING_TAKE_IN_PLACE] = {"husk_sending_take_in_place", {R(12) | R(23), R(0), R(0)}},
+    [SENDING_STATUS] = {"husk_sending_status", {R(0) | R(12), R(0)}},
+    [FLIGHT_INIT] = {"husk_flight_init_words", {R(0)}},
+    [FLIGHT_BEGIN] = {"husk_flight_begin_words", {R(0) | R(12)}},
+    [FLIGHT_SEND] = {"husk_flight_send_words", {R(0) | R(12) | R(13) | R(14) | R(17) | R(18) | R(19) | R(20)}},
+    [FLIGHT_MESSAGE] = {"husk_flight_message_words", {R(0) | R(12) | R(14) | R(17) | R(18) | R(19) | R(20) | R(21)}},
+    [FLIGHT_RESEND] = {"husk_flight_resend_words", {R(0) | R(12) | R(13) | R(14) | R(17) | R(19) | R(20) | R(22), R(0)}},
+    [FLIGHT_ACK] = {"husk_flight_ack_words", {R(0) | R(12), R(0)}},
+    [FLIGHT_STATUS] = {"husk_flight_status_words", {R(0) | R(12), R(0)}},
+    [NOTES_INIT] = {"husk_notes_init_words", {R(0)}},
+    [NOTES_ADD] = {"husk_notes_add_words", {R(0) | R(12), R(0)}},
+    [NOTES_SEND] = {"husk_notes_send_words", {R(0) | R(12) | R(13) | R(17) | R(19) | R(20), R(0)}},
 };
 
 uint64_t datagrams, replies, calls_made, words_rewritten;
@@ -69,12 +73,12 @@ static volatile int now_calling;
 static void where(void)
 {
     fflush(stdout);
-    fprintf(stderr, "in %s; again by: target/fuzz/driver 1 %" PRIu64 " %" PRIu64 "\n", calls[now_calling].name, seed, history);
+    fprintf(stderr, "fuzz/run: in %s; again by: target/fuzz/driver 1 %" PRIu64 " %" PRIu64 "\n", calls[now_calling].name, seed, history);
 }
 
 void finding(const char *what)
 {
-    fprintf(stderr, "finding: %s, ", what);
+    fprintf(stderr, "fuzz/run: finding: %s\n", what);
     where();
     _exit(1);
 }
@@ -114,7 +118,7 @@ void calling(int call)
 void answered(int call, unsigned kind, unsigned refusal)
 {
     if (kind >= KINDS || refusal >= REFUSALS || !(calls[call].refusals[kind] & R(refusal))) {
-        fprintf(stderr, "kind %u, refusal %u: ", kind, refusal);
+        fprintf(stderr, "fuzz/run: kind %u, refusal %u\n", kind, refusal);
         finding("an answer that is not named");
     }
     seen[call][kind][refusal]++;

@@ -3,7 +3,7 @@
 
 #include "fuzz.h"
 
-enum { LONGEST = 17000, WORDS = 39, TAG = 16 };
+enum { LONGEST = 17000, WORDS = 39 };
 #define LAST_NUMBER 0xFFFFFFFFFFFFu
 
 /* The words (crates/recv_words/specs/Words.antt). */
@@ -12,10 +12,10 @@ enum { W_COUNT = 15, W_HIGHEST, W_ENCRYPTION, W_RELEASED, W_MIN, W_SIZE, W_CURSO
 
 static Area states, datagram_area, ivs;
 static Lent state, datagram, iv;
-static LinkReceiving *s;
-static LinkReceiving before;
+static HuskReceiving *s;
+static HuskReceiving before;
 static uint8_t copy[LONGEST];
-static LinkReading last;
+static HuskReading last;
 /* Whether a datagram is begun and its end not yet told. */
 static int reading;
 /* Whether calls alone have made the state, from fresh. */
@@ -29,9 +29,9 @@ static int is_flat(const uint64_t *w)
 }
 
 /* The words of the same meaning in which no bit is without one. */
-static LinkReceiving plain(const LinkReceiving *x)
+static HuskReceiving plain(const HuskReceiving *x)
 {
-    LinkReceiving p = *x;
+    HuskReceiving p = *x;
     for (int i = 0; i < 5; i++)
         p.word[i] %= 65536;
     p.word[W_HIGHEST] %= 65536;
@@ -48,7 +48,7 @@ static LinkReceiving plain(const LinkReceiving *x)
 /* Words that calls made stay as they are; forged ones may be written anew with the same meaning. */
 static void check_kept(void)
 {
-    LinkReceiving a, b;
+    HuskReceiving a, b;
     if (memcmp(&before, s, sizeof before) == 0)
         return;
     require(!made && is_flat(before.word), "a refused call has changed the state");
@@ -71,38 +71,41 @@ static void done(int call, unsigned kind, unsigned refusal, int refused, int may
 
 static void number_answer(int call, uint8_t answer)
 {
-    done(call, 0, answer, answer != 0 && answer != 6, 0);
+    done(call, 0, answer, answer != 0, 0);
 }
 
 /* Fields that the kind does not use are zeros; places lie in the datagram. */
-static void check_reading(const LinkReading *r, size_t n)
+static void check_reading(const HuskReading *r, size_t n)
 {
     static const uint8_t zeros[12];
-    int named = r->kind == LINK_PLAINTEXT || r->kind >= LINK_OPENED, sealed = r->kind >= LINK_UNOPENED;
-    size_t head = r->kind == LINK_OPENING ? r->header_len : 0;
+    int named = r->kind == HUSK_READING_PLAINTEXT || r->kind >= HUSK_READING_OPENED, sealed = r->kind >= HUSK_READING_UNOPENED;
+    size_t head = r->kind == HUSK_READING_OPENING ? r->header_len : 0;
     require(r->start <= n && head <= n - r->start && r->length <= n - r->start - head, "a place outside the datagram");
-    require(r->kind == LINK_OPENING || (r->header_len == 0 && memcmp(r->nonce, zeros, 12) == 0), "a field not used is not zero");
+    require(r->kind == HUSK_READING_OPENING || (r->header_len == 0 && memcmp(r->nonce, zeros, 12) == 0), "a field not used is not zero");
     require(sealed || r->epoch == 0, "an epoch that is not used is not zero");
-    require((named && r->kind <= LINK_OPENED) || r->content_type == 0, "a type that is not used is not zero");
-    require(r->kind < LINK_PLAINTEXT ? r->number == 0 && r->start == 0 && r->length == 0 : r->refusal == 0, "fields beside a refusal");
+    require((named && r->kind <= HUSK_READING_OPENED) || r->content_type == 0, "a type that is not used is not zero");
+    if (r->kind < HUSK_READING_PLAINTEXT)
+        require(r->number == 0 && r->start == 0 && r->length == 0, "fields beside a refusal");
+    else
+        require(r->refusal == 0, "a refusal beside a record");
     require(r->number <= LAST_NUMBER, "a number of more than 48 bits");
-    if (r->kind == LINK_PLAINTEXT)
+    if (r->kind == HUSK_READING_PLAINTEXT)
         require(r->start >= 13 && (r->content_type == 21 || r->content_type == 22 || r->content_type == 26), "a plaintext type");
-    if (r->kind == LINK_UNOPENED)
+    if (r->kind == HUSK_READING_UNOPENED)
         require((r->epoch == 2 || r->epoch == 3) && r->number < 65536 && r->start >= 2, "an unopened record");
-    if (r->kind == LINK_OPENED)
+    if (r->kind == HUSK_READING_OPENED)
         require(r->content_type != 0 && r->start >= 2 && (!made || r->epoch >= 2), "an opened record");
-    if (r->kind == LINK_MASK)
+    if (r->kind == HUSK_READING_MASK)
         require(r->length == 16 && r->number == 0 && r->start >= 2 && (!made || r->epoch >= 2), "a mask question");
-    if (r->kind == LINK_OPENING)
+    if (r->kind == HUSK_READING_OPENING)
         require(r->header_len >= 2 && r->length >= 16 && (!made || (r->header_len <= 5 && r->epoch >= 2)), "an opening question");
 }
 
-static void reading_answer(int call, LinkReading r, size_t n, int may_be_12)
+static void reading_answer(int call, HuskReading r, size_t n, int may_be_12)
 {
-    done(call, r.kind, r.refusal, r.kind == LINK_REFUSED, may_be_12);
+    done(call, r.kind, r.refusal, r.kind == HUSK_READING_REFUSED, may_be_12);
     check_reading(&r, n);
-    reading = reading && r.kind != LINK_END && (r.kind != LINK_REFUSED || !one_in(4));
+    reading = reading && r.kind != HUSK_READING_END && (r.kind != HUSK_READING_REFUSED || !one_in(4));
     last = r;
 }
 
@@ -194,10 +197,10 @@ static void call_begin(void)
     size_t n = datagram.n;
     if (one_in(32))
         n = one_in(2) ? n + 1 : (size_t)edge_word(n);
-    calling(BEGIN);
+    calling(RECEIVING_BEGIN);
     datagrams++;
-    uint8_t answer = link_begin(s, n);
-    number_answer(BEGIN, answer);
+    uint8_t answer = husk_receiving_begin(s, n);
+    number_answer(RECEIVING_BEGIN, answer);
     require((answer == 1) <= (n > 16384), "1 for a datagram that is not too long");
     if (answer == 0)
         reading = 1;
@@ -219,15 +222,21 @@ static const uint8_t *fixed_lent(size_t n)
     return n == 0 && one_in(2) ? NULL : datagram.fixed + (datagram.beside < datagram.bytes ? datagram.n - n : 0);
 }
 
+/* The same for a call that may write one day and writes nothing in this version. */
+static uint8_t *unwritten_lent(size_t n)
+{
+    return (uint8_t *)(uintptr_t)fixed_lent(n);
+}
+
 static void call_read(void)
 {
     size_t n = length_lent();
-    const uint8_t *d = fixed_lent(n);
-    calling(READ);
-    reading_answer(READ, link_read(s, d, n), n, 0);
+    uint8_t *d = unwritten_lent(n);
+    calling(RECEIVING_READ);
+    reading_answer(RECEIVING_READ, husk_receiving_read(s, d, n), n, 0);
 }
 
-static int same_reading(const LinkReading *a, const LinkReading *b)
+static int same_reading(const HuskReading *a, const HuskReading *b)
 {
     return a->kind == b->kind && a->refusal == b->refusal && a->content_type == b->content_type && a->epoch == b->epoch
         && a->number == b->number && a->start == b->start && a->header_len == b->header_len && a->length == b->length
@@ -235,33 +244,35 @@ static int same_reading(const LinkReading *a, const LinkReading *b)
 }
 
 /* What a beginning and a read of its first record answer, one after the other. */
-static LinkReading begin_then_read(LinkReceiving *copy, const uint8_t *d, size_t n)
+static HuskReading begin_then_read(HuskReceiving *copy, uint8_t *d, size_t n)
 {
-    LinkReading r = {0};
-    r.refusal = link_begin(copy, n);
-    return r.refusal == 0 ? link_read(copy, d, n) : r;
+    HuskReading r = {0};
+    calling(RECEIVING_BEGIN);
+    r.refusal = husk_receiving_begin(copy, n);
+    calling(RECEIVING_READ);
+    return r.refusal == 0 ? husk_receiving_read(copy, d, n) : r;
 }
 
 static void call_begin_read(void)
 {
     bring_datagram();
     size_t n = length_lent();
-    const uint8_t *d = fixed_lent(n);
-    LinkReceiving copy = *s;
-    LinkReading two = begin_then_read(&copy, d, n);
-    calling(BEGIN_READ);
+    uint8_t *d = unwritten_lent(n);
+    HuskReceiving copy = *s;
+    HuskReading two = begin_then_read(&copy, d, n);
+    calling(RECEIVING_BEGIN_READ);
     datagrams++;
-    LinkReading one = link_begin_read(s, d, n);
-    require(same_reading(&one, &two), "link_begin_read answers otherwise than link_begin and link_read");
-    require(memcmp(&copy, s, sizeof copy) == 0, "link_begin_read leaves another state than link_begin and link_read");
-    reading = one.kind != LINK_REFUSED && n == datagram.n;
-    reading_answer(BEGIN_READ, one, n, 0);
+    HuskReading one = husk_receiving_begin_read(s, d, n);
+    require(same_reading(&one, &two), "another answer than a beginning and a read give");
+    require(memcmp(&copy, s, sizeof copy) == 0, "another state than a beginning and a read leave");
+    reading = one.kind != HUSK_READING_REFUSED && n == datagram.n;
+    reading_answer(RECEIVING_BEGIN_READ, one, n, 0);
 }
 
 /* Only the number bytes are written, by the mask. */
-static void check_masked(const LinkReading *r, const uint8_t *d, size_t n, uint8_t m0, uint8_t m1)
+static void check_masked(const HuskReading *r, const uint8_t *d, size_t n, uint8_t m0, uint8_t m1)
 {
-    if (r->kind != LINK_REFUSED) {
+    if (r->kind != HUSK_READING_REFUSED) {
         size_t at = (size_t)before.word[W_CURSOR];
         require(at < n && n - at > 2, "a mask beyond the datagram");
         copy[at + 1] ^= m0;
@@ -275,20 +286,20 @@ static void call_mask(void)
 {
     size_t n = length_lent();
     uint8_t *d = bytes_lent(n), m0 = one_in(2) ? 0 : (uint8_t)any(), m1 = one_in(2) ? 0 : (uint8_t)below(8);
-    LinkReading r;
+    HuskReading r;
     if (n > 0)
         memcpy(copy, d, n);
-    calling(MASK);
+    calling(RECEIVING_MASK);
     replies++;
-    r = link_mask(s, m0, m1, d, n);
-    reading_answer(MASK, r, n, 0);
+    r = husk_receiving_mask(s, m0, m1, d, n);
+    reading_answer(RECEIVING_MASK, r, n, 0);
     check_masked(&r, d, n, m0, m1);
 }
 
 /* The host's plaintext: content, type, zeros; or nothing but zeros. */
 static void put_plaintext(void)
 {
-    size_t n = last.length - TAG, zeros = one_in(2) ? 0 : below(n + 1);
+    size_t n = last.length - HUSK_TAG, zeros = one_in(2) ? 0 : below(n + 1);
     uint8_t *p = datagram.bytes + last.start + last.header_len;
     if (last.start + last.header_len + last.length > datagram.n)
         return;
@@ -302,13 +313,13 @@ static void call_opened(void)
     size_t n = length_lent(), length = (size_t)any();
     uint8_t yes = one_in(32) ? (uint8_t)any() : (uint8_t)!one_in(4);
     const uint8_t *d = fixed_lent(n);
-    if (last.kind == LINK_OPENING) {
+    if (last.kind == HUSK_READING_OPENING) {
         put_plaintext();
-        length = one_in(16) ? (size_t)edge_word(last.length) : last.length - TAG;
+        length = one_in(16) ? (size_t)edge_word(last.length) : last.length - HUSK_TAG;
     }
-    calling(OPENED);
+    calling(RECEIVING_OPENED);
     replies++;
-    reading_answer(OPENED, link_opened(s, yes, length, d, n), n, yes > 1);
+    reading_answer(RECEIVING_OPENED, husk_receiving_opened(s, yes, length, d, n), n, yes > 1);
 }
 
 static uint16_t some_epoch(void)
@@ -324,23 +335,26 @@ static void call_key(void)
     uint16_t epoch = one_in(6) ? some_epoch() : (uint16_t)(least + (one_in(2) ? 0 : below(4)));
     iv = lend(&ivs, 12, one_in(2));
     scatter(iv.bytes, 12);
-    calling(KEY_RECEIVE);
-    number_answer(KEY_RECEIVE, link_key_receive(s, epoch, iv.fixed));
+    calling(RECEIVING_KEY);
+    number_answer(RECEIVING_KEY, husk_receiving_key(s, epoch, iv.fixed));
 }
 
 static void call_remove(void)
 {
-    uint16_t epoch = last.kind >= LINK_MASK && one_in(2) ? last.epoch : some_epoch();
-    calling(REMOVE_RECEIVE);
-    number_answer(REMOVE_RECEIVE, link_remove_receive(s, epoch));
+    uint16_t epoch = last.kind >= HUSK_READING_MASK && one_in(2) ? last.epoch : some_epoch();
+    calling(RECEIVING_REMOVE);
+    HuskTold t = husk_receiving_remove(s, epoch);
+    done(RECEIVING_REMOVE, t.told, t.refusal, t.refusal != 0, 0);
+    if (t.refusal == 0)
+        require(t.told == (before.word[W_ASKED] != 0 && before.word[W_EPOCH] % 65536 == epoch), "a question told that did not wait");
 }
 
 static void call_fresh(void)
 {
     size_t min = one_in(32) ? (size_t)edge_word(17) : below(18);
-    calling(RECEIVING);
-    uint8_t answer = link_receiving(s, min);
-    done(RECEIVING, 0, answer, 0, 1);
+    calling(RECEIVING_INIT);
+    uint8_t answer = husk_receiving_init(s, min);
+    done(RECEIVING_INIT, 0, answer, 0, 1);
     require((answer == 12) == (min > 17), "a setting in range is refused, or one beyond is taken");
     made = answer == 0;
 }
@@ -348,7 +362,7 @@ static void call_fresh(void)
 static void call_flag(int call)
 {
     calling(call);
-    number_answer(call, call == ENABLE ? link_enable_peer_encryption(s) : link_release_application_data(s));
+    number_answer(call, call == RECEIVING_ENABLE ? husk_receiving_enable_encryption(s) : husk_receiving_release_application_data(s));
 }
 
 /* ---- states */
@@ -362,10 +376,10 @@ static void make_state(void)
     }
     before = *s;
     if (!one_in(6))
-        call_flag(ENABLE);
+        call_flag(RECEIVING_ENABLE);
     before = *s;
     if (one_in(3))
-        call_flag(RELEASE);
+        call_flag(RECEIVING_RELEASE);
 }
 
 /* A few words changed, those that lead the calls more often than others. */
@@ -410,11 +424,11 @@ static void forge_state(void)
 static void step(void)
 {
     before = *s;
-    if (last.kind == LINK_MASK && !one_in(5)) {
+    if (last.kind == HUSK_READING_MASK && !one_in(5)) {
         call_mask();
         return;
     }
-    if (last.kind == LINK_OPENING && !one_in(5)) {
+    if (last.kind == HUSK_READING_OPENING && !one_in(5)) {
         call_opened();
         return;
     }
@@ -423,7 +437,7 @@ static void step(void)
     case 1: call_remove(); break;
     case 2: call_mask(); break;
     case 3: call_opened(); break;
-    case 4: call_flag(one_in(2) ? ENABLE : RELEASE); break;
+    case 4: call_flag(one_in(2) ? RECEIVING_ENABLE : RECEIVING_RELEASE); break;
     case 5: call_begin(); break;
     case 6: call_begin_read(); break;
     default:
@@ -439,9 +453,9 @@ static void step(void)
 void receiving_history(void)
 {
     uint64_t kind = below(8), steps = 8 + below(48);
-    LinkReceiving good;
-    state = lend(&states, sizeof(LinkReceiving), one_in(2));
-    s = (LinkReceiving *)(void *)state.bytes;
+    HuskReceiving good;
+    state = lend(&states, sizeof(HuskReceiving), one_in(2));
+    s = (HuskReceiving *)(void *)state.bytes;
     datagram = lend(&datagram_area, 0, one_in(2));
     memset(&last, 0, sizeof last);
     reading = 0;
@@ -471,7 +485,7 @@ void receiving_history(void)
 
 void receiving_start(void)
 {
-    states = area(sizeof(LinkReceiving));
+    states = area(sizeof(HuskReceiving));
     datagram_area = area(LONGEST);
     ivs = area(12);
     datagram = lend(&datagram_area, 0, 1);

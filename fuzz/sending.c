@@ -6,20 +6,20 @@
 enum { WORDS = 39, QUEUE = SLOTS * LONGEST_MTU + 100, CONTENT = 17000, BUFFER = 2000 };
 
 Lent queue, content;
-LinkSending *s, before;
+HuskSending *s, before;
 int made;
 
 static Area states, queues, contents, buffers, ivs;
 static Lent state, buffer, iv;
-static const LinkSending *fixed;
+static const HuskSending *fixed;
 static uint8_t queue_before[QUEUE], buffer_before[BUFFER];
 
 /* ---- checks */
 
 /* The words of the same meaning in which no bit is without one. */
-static LinkSending plain(const LinkSending *x)
+static HuskSending plain(const HuskSending *x)
 {
-    LinkSending p = *x;
+    HuskSending p = *x;
     p.word[W_EPOCH] %= 65536;
     p.word[W_HANDSHAKE] %= 65536;
     p.word[W_APPLICATION] %= 65536;
@@ -34,7 +34,7 @@ static LinkSending plain(const LinkSending *x)
 /* Words that calls made stay as they are; forged ones may be written anew with the same meaning. */
 static void check_kept(void)
 {
-    LinkSending a, b;
+    HuskSending a, b;
     if (memcmp(&before, s, sizeof before) == 0)
         return;
     require(!made && before.word[W_CLOSED] <= 1 && before.word[W_WAITS] <= 1, "a refused call has changed the state");
@@ -80,9 +80,9 @@ void check_queue(size_t at, size_t n)
 
 static void call_fresh(size_t mtu, size_t limit)
 {
-    calling(SENDING);
-    uint8_t answer = link_sending(s, mtu, limit);
-    sending_done(SENDING, 0, answer, 0, 1);
+    calling(SENDING_INIT);
+    uint8_t answer = husk_sending_init(s, mtu, limit);
+    sending_done(SENDING_INIT, 0, answer, 0, 1);
     int in_range = mtu >= 576 && mtu <= 1500 && limit >= 1 && limit <= 16;
     require((answer == 0) == in_range, "a setting in range is refused, or one beyond is taken");
     made = answer == 0 && queue.n >= mtu * limit;
@@ -108,9 +108,9 @@ static void call_key(void)
     uint16_t epoch = one_in(6) ? some_epoch() : (uint16_t)(highest + 1 + (one_in(2) ? 0 : below(4)));
     iv = lend(&ivs, 12, one_in(2));
     scatter(iv.bytes, 12);
-    calling(KEY_SEND);
-    uint8_t answer = link_key_send(s, epoch, iv.fixed);
-    sending_done(KEY_SEND, 0, answer, answer != 0, 0);
+    calling(SENDING_KEY);
+    uint8_t answer = husk_sending_key(s, epoch, iv.fixed);
+    sending_done(SENDING_KEY, 0, answer, answer != 0, 0);
 }
 
 void lend_content(size_t n)
@@ -156,9 +156,9 @@ static void call_send(void)
     uint8_t type = some_type();
     lend_content(content_length());
     keep_queue();
-    calling(SEND);
-    uint8_t answer = link_send(s, epoch, type, content_bytes(), content.n, queue.bytes, queue.n);
-    sending_done(SEND, 0, answer, answer != 0, 0);
+    calling(SENDING_SEND);
+    uint8_t answer = husk_sending_send(s, epoch, type, content_bytes(), content.n, queue.bytes, queue.n);
+    sending_done(SENDING_SEND, 0, answer, answer != 0, 0);
     if (answer == 0)
         check_laid(epoch);
     else
@@ -166,13 +166,13 @@ static void call_send(void)
 }
 
 /* The oldest sealing that waits; the state is lent through the view that cannot be written. */
-static LinkSealing ask(void)
+static HuskSealing ask(void)
 {
     static const uint8_t zeros[17];
-    calling(SEALING);
-    LinkSealing q = link_sealing(fixed);
-    sending_done(SEALING, q.kind, q.refusal, q.kind == 0, 0);
-    if (q.kind != LINK_SEAL) {
+    calling(SENDING_SEALING);
+    HuskSealing q = husk_sending_sealing(fixed);
+    sending_done(SENDING_SEALING, q.kind, q.refusal, q.kind == 0, 0);
+    if (q.kind != HUSK_SEALING_SEAL) {
         require(q.epoch == 0 && q.number == 0 && q.start == 0 && q.length == 0, "a field not used is not zero");
         require(memcmp(q.nonce, zeros, 12) == 0 && memcmp(q.header, zeros, 5) == 0, "a field not used is not zero");
         return q;
@@ -190,18 +190,18 @@ static LinkSealing ask(void)
 /* The host seals in place, or leaves what stands there, or writes anything anywhere. */
 static void call_sealed(void)
 {
-    LinkSealing q = ask();
+    HuskSealing q = ask();
     size_t length = one_in(12) ? (size_t)edge_word(q.length) : q.length;
-    int in_queue = q.kind == LINK_SEAL && q.start + q.length <= queue.n;
+    int in_queue = q.kind == HUSK_SEALING_SEAL && q.start + q.length <= queue.n;
     if (in_queue && !one_in(4))
         scatter(queue.bytes + q.start + q.length - 16, 16);
     if (!made && one_in(4))
         mutate(queue.bytes, queue.n);
     keep_queue();
-    calling(SEALED);
+    calling(SENDING_SEALED);
     replies++;
-    uint8_t answer = link_sealed(s, length, (uint8_t)any(), (uint8_t)any(), queue.bytes, queue.n);
-    sending_done(SEALED, 0, answer, answer != 0, 0);
+    uint8_t answer = husk_sending_sealed_words(s, length, (uint8_t)any(), (uint8_t)any(), queue.bytes, queue.n);
+    sending_done(SENDING_SEALED, 0, answer, answer != 0, 0);
     require(answer != 0 || in_queue, "a sealing taken that was not asked");
     require(answer == 0 || memcmp(&before, s, sizeof before) == 0, "a refused reply has written words");
     if (answer == 0)
@@ -213,7 +213,7 @@ static void call_sealed(void)
 /* A take writes the ring's front, and a refused one nothing. */
 static void check_front(int taken)
 {
-    LinkSending a = before;
+    HuskSending a = before;
     if (taken) {
         a.word[W_FIRST] = s->word[W_FIRST];
         a.word[W_COUNT] = before.word[W_COUNT] - 1;
@@ -232,13 +232,13 @@ static void call_take(void)
     memset(buffer.bytes, (int)below(256), n);
     memcpy(buffer_before, buffer.bytes, n);
     uint8_t *b = n == 0 && one_in(2) ? NULL : buffer.bytes;
-    calling(TAKE);
-    LinkTake t = link_take(s, b, n, queue.fixed, queue.n);
-    sending_done(TAKE, t.kind, t.refusal, t.kind != LINK_TAKEN, 0);
-    check_front(t.kind == LINK_TAKEN);
+    calling(SENDING_TAKE);
+    HuskTake t = husk_sending_take(s, b, n, queue.fixed, queue.n);
+    sending_done(SENDING_TAKE, t.kind, t.refusal, t.kind != HUSK_TAKE_TAKEN, 0);
+    check_front(t.kind == HUSK_TAKE_TAKEN);
     require(t.refusal != 16 || (t.length > n && t.length <= before.word[W_MTU]), "a needed length made up");
-    require(t.kind == LINK_TAKEN || t.refusal == 16 || t.length == 0, "a field not used is not zero");
-    if (t.kind == LINK_TAKEN) {
+    require(t.kind == HUSK_TAKE_TAKEN || t.refusal == 16 || t.length == 0, "a field not used is not zero");
+    if (t.kind == HUSK_TAKE_TAKEN) {
         from = (size_t)(before.word[W_FIRST] * before.word[W_MTU]);
         require(t.length <= n && from + t.length <= queue.n, "a datagram outside the buffer");
         require(memcmp(buffer.bytes, queue.bytes + from, t.length) == 0, "another datagram than the front one");
@@ -247,23 +247,48 @@ static void call_take(void)
     require(memcmp(buffer.bytes + from, buffer_before + from, n - from) == 0, "bytes behind the datagram have changed");
 }
 
-/* Beside link_take on a copy of the state, with room for every datagram. */
+/* Beside a take on a copy of the state, with room for every datagram. */
 static void call_take_in_place(void)
 {
     static uint8_t whole[65535];
-    LinkSending copy = *s;
-    LinkTake t = link_take(&copy, whole, sizeof whole, queue.fixed, queue.n);
+    HuskSending copy = *s;
+    HuskTake t = husk_sending_take(&copy, whole, sizeof whole, queue.fixed, queue.n);
     keep_queue();
-    calling(TAKE_IN_PLACE);
-    LinkPart p = link_take_in_place(s, queue.fixed, queue.n);
-    sending_done(TAKE_IN_PLACE, p.kind, p.refusal, p.kind != LINK_TAKEN, 0);
-    check_front(p.kind == LINK_TAKEN);
+    calling(SENDING_TAKE_IN_PLACE);
+    HuskPart p = husk_sending_take_in_place(s, queue.fixed, queue.n);
+    sending_done(SENDING_TAKE_IN_PLACE, p.kind, p.refusal, p.kind != HUSK_TAKE_TAKEN, 0);
+    check_front(p.kind == HUSK_TAKE_TAKEN);
     check_queue(0, 0);
-    require(p.kind == t.kind && p.refusal == t.refusal && p.length == t.length, "another answer than link_take's");
-    require(memcmp(&copy, s, sizeof copy) == 0, "another state than link_take's");
-    require(p.kind == LINK_TAKEN || (p.start == 0 && p.length == 0), "a field not used is not zero");
+    require(p.kind == t.kind && p.refusal == t.refusal && p.length == t.length, "another answer than that of a take with a copy");
+    require(memcmp(&copy, s, sizeof copy) == 0, "another state than that of a take with a copy");
+    require(p.kind == HUSK_TAKE_TAKEN || (p.start == 0 && p.length == 0), "a field not used is not zero");
     require(p.start <= queue.n && p.length <= queue.n - p.start, "a datagram outside the queue");
-    require(memcmp(queue.bytes + p.start, whole, p.length) == 0, "another datagram than link_take's");
+    require(memcmp(queue.bytes + p.start, whole, p.length) == 0, "another datagram than that of a take with a copy");
+}
+
+/* How many sealings wait: on copies of the state and the queue they are answered until none does. */
+static size_t count_sealings(void)
+{
+    static uint8_t sealed[QUEUE];
+    HuskSending copy = *s;
+    HuskSealing q;
+    size_t n = 0;
+    memcpy(sealed, queue.bytes, queue.n);
+    for (; (q = husk_sending_sealing(&copy)).kind == HUSK_SEALING_SEAL; n++)
+        require(husk_sending_sealed_words(&copy, q.length, 0, 0, sealed, queue.n) == 0, "a sealing asked for that is not taken");
+    return n;
+}
+
+/* The state is lent through the view that cannot be written. */
+static void call_status(void)
+{
+    calling(SENDING_STATUS);
+    HuskQueued t = husk_sending_status(fixed);
+    sending_done(SENDING_STATUS, t.refusal == 0 && t.queued > 0, t.refusal, 1, 0);
+    require(t.refusal == 0 || (t.queued == 0 && t.waiting == 0), "a field not used is not zero");
+    require(t.refusal != 0 || t.queued == s->word[W_COUNT], "another count of datagrams queued");
+    if (made)
+        require(t.waiting == count_sealings(), "another count of records that wait to be sealed");
 }
 
 /* ---- states */
@@ -333,12 +358,13 @@ static void step(void)
             acks_step();
         return;
     }
-    switch (below(12)) {
+    switch (below(13)) {
     case 0: call_key(); break;
     case 1: call_take(); break;
     case 2: call_take_in_place(); break;
     case 3: case 4: case 5: call_sealed(); break;
     case 6: ask(); break;
+    case 7: call_status(); break;
     default: call_send(); break;
     }
 }
@@ -346,10 +372,10 @@ static void step(void)
 void sending_history(void)
 {
     uint64_t kind = below(8), steps = 8 + below(64);
-    LinkSending good;
-    state = lend(&states, sizeof(LinkSending), one_in(2));
-    s = (LinkSending *)(void *)state.bytes;
-    fixed = (const LinkSending *)(const void *)state.fixed;
+    HuskSending good;
+    state = lend(&states, sizeof(HuskSending), one_in(2));
+    s = (HuskSending *)(void *)state.bytes;
+    fixed = (const HuskSending *)(const void *)state.fixed;
     made = 0;
     make_state();
     flight_fresh();
@@ -384,7 +410,7 @@ void sending_history(void)
 
 void sending_start(void)
 {
-    states = area(sizeof(LinkSending));
+    states = area(sizeof(HuskSending));
     queues = area(QUEUE);
     contents = area(CONTENT);
     buffers = area(BUFFER);

@@ -14,7 +14,7 @@ enum { W_MTU, W_LIMIT, W_FIRST, W_COUNT, W_CLOSED, W_WAITS, W_SLOT, W_START, W_L
 
 extern Lent queue, content;
 /* The state, and as it was before the call. */
-extern LinkSending *s, before;
+extern HuskSending *s, before;
 /* Whether calls alone have made the state, from fresh, with a queue that is long enough. */
 extern int made;
 

@@ -14,49 +14,69 @@
 
 static_assert(sizeof(size_t) == 8 && sizeof(void *) == 8, "a host of 64 bits");
 
-SIZED(LinkReceiving, 39 * 8, 8);
-PLACED(LinkReceiving, word, 0, 39 * 8);
+SIZED(HuskTold, 2, 1);
+PLACED(HuskTold, refusal, 0, 1);
+PLACED(HuskTold, told, 1, 1);
 
-SIZED(LinkReading, 56, 8);
-PLACED(LinkReading, kind, 0, 1);
-PLACED(LinkReading, refusal, 1, 1);
-PLACED(LinkReading, content_type, 2, 1);
-PLACED(LinkReading, epoch, 4, 2);
-PLACED(LinkReading, number, 8, 8);
-PLACED(LinkReading, start, 16, 8);
-PLACED(LinkReading, header_len, 24, 8);
-PLACED(LinkReading, length, 32, 8);
-PLACED(LinkReading, nonce, 40, 12);
+SIZED(HuskReceiving, 39 * 8, 8);
+PLACED(HuskReceiving, word, 0, 39 * 8);
 
-SIZED(LinkSending, 39 * 8, 8);
-PLACED(LinkSending, word, 0, 39 * 8);
+SIZED(HuskReading, 56, 8);
+PLACED(HuskReading, kind, 0, 1);
+PLACED(HuskReading, refusal, 1, 1);
+PLACED(HuskReading, content_type, 2, 1);
+PLACED(HuskReading, epoch, 4, 2);
+PLACED(HuskReading, number, 8, 8);
+PLACED(HuskReading, start, 16, 8);
+PLACED(HuskReading, header_len, 24, 8);
+PLACED(HuskReading, length, 32, 8);
+PLACED(HuskReading, nonce, 40, 12);
 
-SIZED(LinkSealing, 56, 8);
-PLACED(LinkSealing, kind, 0, 1);
-PLACED(LinkSealing, refusal, 1, 1);
-PLACED(LinkSealing, epoch, 2, 2);
-PLACED(LinkSealing, number, 8, 8);
-PLACED(LinkSealing, start, 16, 8);
-PLACED(LinkSealing, length, 24, 8);
-PLACED(LinkSealing, nonce, 32, 12);
-PLACED(LinkSealing, header, 44, 5);
+SIZED(HuskSending, 39 * 8, 8);
+PLACED(HuskSending, word, 0, 39 * 8);
 
-SIZED(LinkTake, 16, 8);
-PLACED(LinkTake, kind, 0, 1);
-PLACED(LinkTake, refusal, 1, 1);
-PLACED(LinkTake, length, 8, 8);
+SIZED(HuskSealing, 56, 8);
+PLACED(HuskSealing, kind, 0, 1);
+PLACED(HuskSealing, refusal, 1, 1);
+PLACED(HuskSealing, epoch, 2, 2);
+PLACED(HuskSealing, number, 8, 8);
+PLACED(HuskSealing, start, 16, 8);
+PLACED(HuskSealing, length, 24, 8);
+PLACED(HuskSealing, nonce, 32, 12);
+PLACED(HuskSealing, header, 44, 5);
 
-SIZED(LinkPart, 24, 8);
-PLACED(LinkPart, kind, 0, 1);
-PLACED(LinkPart, refusal, 1, 1);
-PLACED(LinkPart, start, 8, 8);
-PLACED(LinkPart, length, 16, 8);
+SIZED(HuskTake, 16, 8);
+PLACED(HuskTake, kind, 0, 1);
+PLACED(HuskTake, refusal, 1, 1);
+PLACED(HuskTake, length, 8, 8);
 
-SIZED(LinkFlight, (73 + 384) * 8, 8);
-PLACED(LinkFlight, word, 0, 73 * 8);
-PLACED(LinkFlight, numbers, 73 * 8, 384 * 8);
+SIZED(HuskPart, 24, 8);
+PLACED(HuskPart, kind, 0, 1);
+PLACED(HuskPart, refusal, 1, 1);
+PLACED(HuskPart, start, 8, 8);
+PLACED(HuskPart, length, 16, 8);
 
-SIZED(LinkNotes, (1 + 32 + 32) * 8, 8);
-PLACED(LinkNotes, count, 0, 8);
-PLACED(LinkNotes, epochs, 8, 32 * 8);
-PLACED(LinkNotes, numbers, 33 * 8, 32 * 8);
+SIZED(HuskQueued, 16, 8);
+PLACED(HuskQueued, refusal, 0, 1);
+PLACED(HuskQueued, queued, 1, 1);
+PLACED(HuskQueued, waiting, 8, 8);
+
+SIZED(HuskFlight, (73 + 384) * 8, 8);
+PLACED(HuskFlight, word, 0, 73 * 8);
+PLACED(HuskFlight, numbers, 73 * 8, 384 * 8);
+
+SIZED(HuskAcked, 4, 1);
+PLACED(HuskAcked, refusal, 0, 1);
+PLACED(HuskAcked, marked, 1, 1);
+PLACED(HuskAcked, unacknowledged, 2, 1);
+PLACED(HuskAcked, saved, 3, 1);
+
+SIZED(HuskSaved, 3, 1);
+PLACED(HuskSaved, refusal, 0, 1);
+PLACED(HuskSaved, saved, 1, 1);
+PLACED(HuskSaved, unacknowledged, 2, 1);
+
+SIZED(HuskNotes, (1 + 32 + 32) * 8, 8);
+PLACED(HuskNotes, count, 0, 8);
+PLACED(HuskNotes, epochs, 8, 32 * 8);
+PLACED(HuskNotes, numbers, 33 * 8, 32 * 8);

@@ -6,98 +6,242 @@ order, to be written again.
     key-receive DIR EPOCH SUITE KEY IV SN_KEY      the receiver of DIR keys an epoch
     remove DIR EPOCH                               it removes one
     release DIR                                    it releases application data
-    datagram DIR BYTES                             it reads a datagram; what it must say follows, a line for each record, then `end`
+    oversize DIR LENGTH                            it is brought a datagram over 16,384 bytes, which must be refused
+    datagram DIR BYTES                             it reads a datagram; what it must say follows, a line for each record, then `end`,
+                                                   or `end 3` in place of a seventeenth reading
     plaintext NUMBER TYPE OFFSET CONTENT
     opened EPOCH NUMBER TYPE OFFSET CONTENT
-    replayed
+    dropped WHY REFUSAL..                          the record must be dropped by one of these refusals
     key-send DIR EPOCH SUITE KEY IV SN_KEY         the sender of DIR keys an epoch
     write DIR EPOCH NUMBER TYPE BYTES CONTENT      it writes a record again, to these bytes if it can
     take DIR                                       it takes what it wrote, where a captured datagram ends
+    done                                           nothing is missing behind this line
 
-DIR is 0 from client to server, 1 from server to client. Bytes are hexadecimal, none is `-`. A receiver keys an epoch just before the
-first delivered datagram that has a record of it, releases application data with the first application epoch, and of five application
-epochs removes the oldest. A record delivered before is expected to be refused as replayed. A sender keys an epoch just before the
-first record of it that was sent, if it is above those keyed.
+DIR is 0 from client to server, 1 from server to client. Bytes are hexadecimal, none is `-`. README.md says when a host keys and what it
+expects of a record; here this is `Receiver`.
+
+    flatten.py [--flip-keys] [--must-not-open] SESSION
+
+--flip-keys changes a bit of every key, --must-not-open expects that no sealed record opens: together they must agree, alone they must
+differ. Of a session that must not open nothing is written again.
 """
+import argparse
 import json
 import sys
 
 DIRECTIONS = ["c2s", "s2c"]
+SUITES = [
+    "TLS_AES_128_GCM_SHA256",
+    "TLS_AES_256_GCM_SHA384",
+    "TLS_CHACHA20_POLY1305_SHA256",
+    "TLS_AES_128_CCM_SHA256",
+    "TLS_AES_128_CCM_8_SHA256",
+]
+SHORT_TAG = "TLS_AES_128_CCM_8_SHA256"
+
+LONGEST = 16384
+WINDOW = 64
+MOST_APPLICATIONS = 4
+MOST_READINGS = 16
+
+# Refusals of the header.
+TOO_MANY_READINGS, NO_KEYS, TOO_SHORT, NUMBER_TOO_LARGE, NOT_FRESH, NOT_OPENED = 3, 6, 7, 8, 9, 10
 
 
 def hex_or_dash(text):
     return text or "-"
 
 
-def keys(session, direction, epoch):
-    key = session["keys"][direction][str(epoch)]
+def byte_at(datagram, offset):
+    return int(datagram["hex"][2 * offset : 2 * offset + 2], 16)
+
+
+def nearest(bits, block, expected):
+    """The number nearest the expected one that ends in these bits; at half a block's distance the one in its own block."""
+    own = expected - expected % block + bits
+    if own > expected + block // 2:
+        return max(own - block, 0)
+    return own + block if own + block // 2 < expected else own
+
+
+class Receiver:
+    """Keys epochs as a host does, in their order, and says what is expected of each record."""
+
+    def __init__(self, side, session):
+        self.side = side
+        self.keys = session["keys"].get(DIRECTIONS[side], {})
+        self.must_not_open = session["must_not_open"]
+        self.keyed = []
+        self.latest = 1
+        self.opened = {}
+
+    def key_to(self, epoch):
+        """Keys every epoch up to this one that is not keyed yet."""
+        for each in sorted(map(int, self.keys)):
+            if self.latest < each <= epoch:
+                self.key(each)
+
+    def key(self, epoch):
+        applications = [other for other in self.keyed if other >= 3]
+        if epoch >= 3 and not applications:
+            print("release", self.side)
+        if len(applications) == MOST_APPLICATIONS:
+            print("remove", self.side, applications[0])
+            self.keyed.remove(applications[0])
+        print("key-receive", self.side, epoch, key_words(self.keys[str(epoch)]))
+        self.keyed.append(epoch)
+        self.latest = epoch
+        self.opened[epoch] = set()
+
+    def resolved(self, bits):
+        """The epoch that two bits mean: the last application epoch that has them, else epoch 2."""
+        fitting = [epoch for epoch in self.keyed if epoch % 4 == bits]
+        return fitting[-1] if fitting else None
+
+    def rebuilt(self, record, first):
+        """The number that the record's bits mean, from the next one expected."""
+        block = 1 << 16 if first & 0x08 else 1 << 8
+        highest = max(self.opened[record["epoch"]], default=-1)
+        return nearest(record["seq"] % block, block, highest + 1)
+
+    def dropped(self, record, first):
+        """Why a sealed record must be dropped, and the refusals by which it may be; None where it must open."""
+        epoch, number = record["epoch"], record["seq"]
+        if self.must_not_open:
+            return "unopened", NO_KEYS, TOO_SHORT, NOT_OPENED
+        if epoch == 1:
+            return "early", NO_KEYS, TOO_SHORT, NOT_FRESH, NOT_OPENED
+        if epoch not in self.keyed or self.resolved(first & 3) != epoch:
+            return "left", NO_KEYS, NUMBER_TOO_LARGE, NOT_FRESH, NOT_OPENED
+        if self.keys[str(epoch)]["cipher_suite"] == SHORT_TAG:
+            return "short-tag", TOO_SHORT, NOT_OPENED
+        if self.rebuilt(record, first) != number:
+            return "far", NUMBER_TOO_LARGE, NOT_FRESH, NOT_OPENED
+        if number in self.opened[epoch]:
+            return "replayed", NOT_FRESH
+        if number + WINDOW <= max(self.opened[epoch], default=0):
+            return "old", NOT_FRESH
+        return None
+
+    def expected(self, record, first):
+        """What must be said of a record. The number of one that opens is used."""
+        number, kind, content = record["seq"], record["content_type"], hex_or_dash(record["content"])
+        if not record["protected"]:
+            return "plaintext", number, kind, record["offset"] + 13, content
+        why = self.dropped(record, first)
+        if why:
+            return "dropped", *why
+        self.opened[record["epoch"]].add(number)
+        return "opened", record["epoch"], number, kind, record["offset"] + record["header_len"], content
+
+    def read(self, datagram, records):
+        if len(datagram["hex"]) > 2 * LONGEST:
+            print("oversize", self.side, len(datagram["hex"]) // 2)
+            return
+        for record in records:
+            if record["protected"]:
+                self.key_to(record["epoch"])
+        print("datagram", self.side, hex_or_dash(datagram["hex"]))
+        readings = 0
+        for record in records:
+            line = self.expected(record, byte_at(datagram, record["offset"]))
+            readings += line[0] != "dropped"
+            if readings > MOST_READINGS:
+                print("end", TOO_MANY_READINGS)
+                return
+            print(*line)
+        print("end")
+
+
+def key_words(key):
     return " ".join([key["cipher_suite"], key["key"], key["iv"], key["sn_key"]])
 
 
 def delivered(session, records):
-    keyed = [[], []]
-    seen = set()
+    receivers = [Receiver(side, session) for side in range(2)]
     for index in session["delivery_order"]:
         datagram = session["datagrams"][index]
-        side = DIRECTIONS.index(datagram["dir"])
-        here = records.get(index, [])
-        for epoch in sorted({record["epoch"] for record in here if record["protected"]} - set(keyed[side])):
-            if epoch >= 3 and all(other < 3 for other in keyed[side]):
-                print("release", side)
-            applications = [other for other in keyed[side] if other >= 3]
-            if epoch >= 3 and len(applications) == 4:
-                print("remove", side, applications[0])
-                keyed[side].remove(applications[0])
-            print("key-receive", side, epoch, keys(session, datagram["dir"], epoch))
-            keyed[side].append(epoch)
-        print("datagram", side, hex_or_dash(datagram["hex"]))
-        for record in here:
-            name = (side, record["epoch"], record["seq"])
-            number, kind, content = record["seq"], record["content_type"], hex_or_dash(record["content"])
-            if not record["protected"]:
-                print("plaintext", number, kind, record["offset"] + 13, content)
-            elif name in seen:
-                print("replayed")
-            else:
-                seen.add(name)
-                print("opened", record["epoch"], number, kind, record["offset"] + record["header_len"], content)
-        print("end")
+        receivers[DIRECTIONS.index(datagram["dir"])].read(datagram, records[index])
 
 
 def sent(session, records):
-    latest = [0, 0]
+    latest = [1, 1]
     for index, datagram in enumerate(session["datagrams"]):
         side = DIRECTIONS.index(datagram["dir"])
-        for record in records.get(index, []):
+        keys = session["keys"].get(datagram["dir"], {})
+        for record in records[index]:
             epoch = record["epoch"]
-            if epoch > latest[side]:
-                print("key-send", side, epoch, keys(session, datagram["dir"], epoch))
-                latest[side] = epoch
+            for each in sorted(map(int, keys)):
+                if latest[side] < each <= epoch:
+                    print("key-send", side, each, key_words(keys[str(each)]))
+                    latest[side] = each
             start, end = record["offset"], record["offset"] + record["length"]
             captured, content = datagram["hex"][2 * start : 2 * end], hex_or_dash(record["content"])
             print("write", side, epoch, record["seq"], record["content_type"], captured, content)
         print("take", side)
 
 
-def main(path):
-    with open(path) as file:
-        session = json.load(file)
-    if any(session["cid"].values()):
-        return "it has connection IDs"
-    records = {}
+def by_datagram(session):
+    """The records of each datagram in their order; None for the index of one that they do not fill."""
+    records = [[] for _ in session["datagrams"]]
     for record in sorted(session["records"], key=lambda record: record["offset"]):
-        records.setdefault(record["datagram"], []).append(record)
+        records[record["datagram"]].append(record)
     for index, datagram in enumerate(session["datagrams"]):
-        if 2 * sum(record["length"] for record in records.get(index, [])) != len(datagram["hex"]):
-            return f"its records do not fill datagram {index}"
+        if 2 * sum(record["length"] for record in records[index]) != len(datagram["hex"]):
+            return None, index
+    return records, None
+
+
+def flip(session):
+    for keys in session["keys"].values():
+        for key in keys.values():
+            key["key"] = f"{int(key['key'][:2], 16) ^ 1:02x}" + key["key"][2:]
+
+
+def says_not_to_open(session):
+    """A session whose field or name says that it must not open: its keys are wrong, or its records do not follow RFC 9147."""
+    return (
+        session.get("must_not_open", False)
+        or not session.get("rfc9147_conforming_records", True)
+        or "wrong_key" in session["name"]
+        or "must_not_open" in session["name"]
+    )
+
+
+def left_out(session):
+    if any(session.get("cid", {}).values()):
+        return "left out: it has connection IDs"
+    suites = {key["cipher_suite"] for keys in session["keys"].values() for key in keys.values()}
+    unknown = sorted(suites - set(SUITES))
+    return f"left out: no cipher for {', '.join(unknown)}" if unknown else None
+
+
+def main(options):
+    with open(options.session) as file:
+        session = json.load(file)
+    reason = left_out(session)
+    if reason:
+        return reason
+    records, unfilled = by_datagram(session)
+    if records is None:
+        return f"its records do not fill datagram {unfilled}"
+    session["must_not_open"] = options.must_not_open or says_not_to_open(session)
+    if options.flip_keys:
+        flip(session)
     print("session", session["name"])
     delivered(session, records)
-    sent(session, records)
+    if not session["must_not_open"]:
+        sent(session, records)
+    print("done")
     return None
 
 
 if __name__ == "__main__":
-    reason = main(sys.argv[1])
+    parser = argparse.ArgumentParser(description="Turns a captured session into lines for the host.")
+    parser.add_argument("--flip-keys", action="store_true", help="change a bit of every key")
+    parser.add_argument("--must-not-open", action="store_true", help="expect that no sealed record opens")
+    parser.add_argument("session")
+    reason = main(parser.parse_args())
     if reason:
         print(reason, file=sys.stderr)
         sys.exit(3)

@@ -1,4 +1,4 @@
-/* A host over the record link's C interface: takes a session as flatten.py writes it, answers the link's questions with OpenSSL's
+/* A host over the record layer's C interface: takes a session as flatten.py writes it, answers the layer's questions with OpenSSL's
  * ciphers and the session's keys, and compares every reading and every record written. Exit status 0 if all agree, 1 if one differs, 2
  * if the input is bad. */
 #define _POSIX_C_SOURCE 200809L
@@ -12,15 +12,29 @@
 #include "host.h"
 
 typedef struct {
-    LinkReceiving link;
+    HuskReceiving layer;
     Keys keys[EPOCHS];
 } Receiver;
 
 static char name[64] = "?";
+/* Why a record is expected to be dropped: a word of the lines, and what the report says of it. */
+static const struct {
+    const char *word, *text;
+} reasons[] = {
+    {"replayed", "refused as replayed"},
+    {"old", "too old"},
+    {"far", "out of reach"},
+    {"left", "of an epoch left"},
+    {"unopened", "not opened, as expected"},
+    {"early", "not covered: early data (epoch 1)"},
+    {"short-tag", "not covered: tags of 8 bytes"},
+};
+enum { REPLAYED, REASONS = sizeof reasons / sizeof *reasons };
+
 static Receiver receivers[2];
-static uint8_t datagram[DATAGRAM];
+static uint8_t datagram[ROOM];
 static size_t datagram_len;
-static size_t line_number, datagrams, opened_records, plaintext_records, replayed_records;
+static size_t line_number, datagrams, oversized, cut_short, opened_records, plaintext_records, dropped_records[REASONS];
 
 void stop(int status, const char *format, ...)
 {
@@ -47,7 +61,7 @@ size_t bytes_of(const char *text, uint8_t *out, size_t room)
     return n;
 }
 
-/* ---- the link */
+/* ---- the layer */
 
 void take(uint8_t answer)
 {
@@ -55,28 +69,38 @@ void take(uint8_t answer)
         stop(1, "a call is refused by %u", answer);
 }
 
-/* The next reading of a begun datagram: the link's questions are answered. */
-static LinkReading next(Receiver *r, uint8_t *d, size_t n)
+/* The reply to an opening. Behind a tag that is not of 16 bytes the plaintext has a length that must be refused; the record is then
+ * dropped. */
+static HuskReading open_record(Receiver *r, HuskReading q, uint8_t *d, size_t n)
 {
-    LinkReading q = link_read(&r->link, d, n);
-    if (q.kind == LINK_MASK) {
+    const Keys *keys = &r->keys[q.epoch % EPOCHS];
+    int ok = open_part(keys, q.nonce, d + q.start, q.header_len, d + q.start + q.header_len, q.length);
+    if (ok && keys->tag != HUSK_TAG) {
+        HuskReading refused = husk_receiving_opened(&r->layer, 1, q.length - keys->tag, d, n);
+        if (refused.kind != HUSK_READING_REFUSED || refused.refusal != HUSK_NO_QUESTION)
+            stop(1, "a plaintext without a tag of 16 bytes is not refused");
+        ok = 0;
+    }
+    return husk_receiving_opened(&r->layer, ok ? 1 : 0, q.length - HUSK_TAG, d, n);
+}
+
+/* The next reading of a begun datagram: the layer's questions are answered. */
+static HuskReading next(Receiver *r, uint8_t *d, size_t n)
+{
+    HuskReading q = husk_receiving_read(&r->layer, d, n);
+    if (q.kind == HUSK_READING_MASK) {
         uint8_t mask[2];
         mask_of(&r->keys[q.epoch % EPOCHS], d + q.start, mask);
-        q = link_mask(&r->link, mask[0], mask[1], d, n);
+        q = husk_receiving_mask(&r->layer, mask[0], mask[1], d, n);
     }
-    if (q.kind == LINK_OPENING) {
-        uint8_t *part = d + q.start + q.header_len;
-        int ok = open_part(&r->keys[q.epoch % EPOCHS], q.nonce, d + q.start, q.header_len, part, q.length);
-        q = link_opened(&r->link, ok ? 1 : 0, q.length - TAG, d, n);
-    }
-    return q;
+    return q.kind == HUSK_READING_OPENING ? open_record(r, q, d, n) : q;
 }
 
 /* ---- the session */
 
-static void check_content(const LinkReading *r, const uint8_t *d, uint64_t number, unsigned type, size_t start, const char *content)
+static void check_content(const HuskReading *r, const uint8_t *d, uint64_t number, unsigned type, size_t start, const char *content)
 {
-    static uint8_t bytes[DATAGRAM];
+    static uint8_t bytes[ROOM];
     size_t n = bytes_of(content, bytes, sizeof bytes);
     if (r->number != number)
         stop(1, "another number");
@@ -86,30 +110,58 @@ static void check_content(const LinkReading *r, const uint8_t *d, uint64_t numbe
         stop(1, "another content");
 }
 
+/* The record must be dropped by one of the refusals of the line, and is counted by its reason. */
+static void expect_dropped(const HuskReading *got, const char *line)
+{
+    char word[16];
+    unsigned refusal;
+    int at = 0, next = 0, why = 0;
+    if (sscanf(line, "dropped %15s%n", word, &at) != 1)
+        stop(2, "bad line");
+    while (why < REASONS && strcmp(word, reasons[why].word) != 0)
+        why++;
+    if (why == REASONS)
+        stop(2, "bad line");
+    if (got->kind == HUSK_READING_OPENED)
+        stop(1, "a record opens that must not (%s)", word);
+    for (; sscanf(line + at, " %u%n", &refusal, &next) == 1; at += next)
+        if (got->kind == HUSK_READING_DROPPED && got->refusal == refusal) {
+            dropped_records[why]++;
+            return;
+        }
+    stop(1, "a record that must be dropped (%s) is answered by kind %u, refusal %u", word, got->kind, got->refusal);
+}
+
+static int is_end(const char *line)
+{
+    return strcmp(line, "end") == 0 || strncmp(line, "end ", 4) == 0;
+}
+
 static void expect(Receiver *r, uint8_t *d, size_t n, char *line)
 {
-    char word[16], *content = strrchr(line, ' ');
+    char *content = strrchr(line, ' ');
     uint64_t number;
     unsigned epoch, type;
     size_t start;
-    LinkReading got = next(r, d, n);
+    HuskReading got = next(r, d, n);
     if (sscanf(line, "plaintext %" SCNu64 " %u %zu", &number, &type, &start) == 3) {
-        if (got.kind != LINK_PLAINTEXT)
+        if (got.kind != HUSK_READING_PLAINTEXT)
             stop(1, "no plaintext record is read");
         check_content(&got, d, number, type, start, content + 1);
         plaintext_records++;
     } else if (sscanf(line, "opened %u %" SCNu64 " %u %zu", &epoch, &number, &type, &start) == 4) {
-        if (got.kind != LINK_OPENED || got.epoch != epoch)
+        if (got.kind != HUSK_READING_OPENED || got.epoch != epoch)
             stop(1, "no record of this epoch is opened");
         check_content(&got, d, number, type, start, content + 1);
         opened_records++;
-    } else if (strcmp(line, "replayed") == 0) {
-        if (got.kind != LINK_DROPPED || got.refusal != 9)
-            stop(1, "a replayed record is not refused by 9");
-        replayed_records++;
-    } else if (sscanf(line, "%15s", word) == 1 && strcmp(word, "end") == 0) {
-        if (got.kind != LINK_END || got.refusal != 0)
-            stop(1, "the datagram does not end");
+    } else if (strncmp(line, "dropped ", 8) == 0) {
+        expect_dropped(&got, line);
+    } else if (is_end(line)) {
+        unsigned refusal = 0;
+        sscanf(line, "end %u", &refusal);
+        if (got.kind != HUSK_READING_END || got.refusal != refusal)
+            stop(1, "the datagram does not end by %u", refusal);
+        cut_short += refusal != 0;
     } else {
         stop(2, "bad line");
     }
@@ -117,7 +169,7 @@ static void expect(Receiver *r, uint8_t *d, size_t n, char *line)
 
 static void written(char *line)
 {
-    static uint8_t bytes[DATAGRAM], content[DATAGRAM];
+    static uint8_t bytes[ROOM], content[ROOM];
     Captured r = {.bytes = bytes, .content = content};
     char *last = strrchr(line, ' ');
     unsigned side;
@@ -141,7 +193,7 @@ static void key(const char *line)
     keys = keys_of(suite, key_text, iv_text, sn_text);
     if (receive) {
         receivers[side].keys[epoch % EPOCHS] = keys;
-        take(link_key_receive(&receivers[side].link, (uint16_t)epoch, keys.iv));
+        take(husk_receiving_key(&receivers[side].layer, (uint16_t)epoch, keys.iv));
     } else {
         writer_key(side, epoch, &keys);
     }
@@ -151,6 +203,7 @@ static void key(const char *line)
 static Receiver *step(char *line)
 {
     unsigned side, epoch;
+    size_t length;
     if (sscanf(line, "session %63s", name) == 1)
         return NULL;
     if (strncmp(line, "key-", 4) == 0) {
@@ -160,12 +213,16 @@ static Receiver *step(char *line)
     } else if (sscanf(line, "take %u", &side) == 1 && side < 2) {
         writer_take(side);
     } else if (sscanf(line, "remove %u %u", &side, &epoch) == 2 && side < 2) {
-        take(link_remove_receive(&receivers[side].link, (uint16_t)epoch));
+        take(husk_receiving_remove(&receivers[side].layer, (uint16_t)epoch).refusal);
     } else if (sscanf(line, "release %u", &side) == 1 && side < 2) {
-        take(link_release_application_data(&receivers[side].link));
+        take(husk_receiving_release_application_data(&receivers[side].layer));
+    } else if (sscanf(line, "oversize %u %zu", &side, &length) == 2 && side < 2) {
+        if (husk_receiving_begin(&receivers[side].layer, length) != HUSK_DATAGRAM_TOO_LONG)
+            stop(1, "a datagram over %d bytes is not refused", LONGEST);
+        oversized++;
     } else if (sscanf(line, "datagram %u", &side) == 1 && side < 2) {
         datagram_len = bytes_of(strrchr(line, ' ') + 1, datagram, sizeof datagram);
-        take(link_begin(&receivers[side].link, datagram_len));
+        take(husk_receiving_begin(&receivers[side].layer, datagram_len));
         datagrams++;
         return &receivers[side];
     } else {
@@ -174,33 +231,47 @@ static Receiver *step(char *line)
     return NULL;
 }
 
+static void report(void)
+{
+    printf("%s: agrees: %zu datagrams, %zu records opened, %zu in plaintext", name, datagrams, opened_records, plaintext_records);
+    for (int why = 0; why < REASONS; why++)
+        if (why == REPLAYED || dropped_records[why] > 0)
+            printf(", %zu %s", dropped_records[why], reasons[why].text);
+    if (cut_short > 0)
+        printf(", %zu datagrams ended by a seventeenth reading", cut_short);
+    if (oversized > 0)
+        printf(", %zu datagrams over %d bytes refused", oversized, LONGEST);
+    writer_report();
+    printf("\n");
+}
+
 int main(void)
 {
     char *line = NULL;
     size_t room = 0;
     Receiver *reading = NULL;
+    int done = 0;
     for (int side = 0; side < 2; side++) {
-        take(link_receiving(&receivers[side].link, TAG));
-        take(link_enable_peer_encryption(&receivers[side].link));
+        take(husk_receiving_init(&receivers[side].layer, HUSK_TAG + 1));
+        take(husk_receiving_enable_encryption(&receivers[side].layer));
     }
     writer_begin();
     while (getline(&line, &room, stdin) > 0) {
         line_number++;
         line[strcspn(line, "\n")] = 0;
-        if (!reading) {
+        if (strcmp(line, "done") == 0) {
+            done = 1;
+        } else if (!reading) {
             reading = step(line);
         } else {
             expect(reading, datagram, datagram_len, line);
-            if (strcmp(line, "end") == 0)
+            if (is_end(line))
                 reading = NULL;
         }
     }
     free(line);
-    if (datagrams == 0 || reading || !writer_done())
+    if (!done || datagrams == 0 || reading || !writer_done())
         stop(2, "the session is cut off");
-    printf("%s: agrees: %zu datagrams, %zu records opened, %zu in plaintext, %zu refused as replayed", name, datagrams, opened_records,
-        plaintext_records, replayed_records);
-    writer_report();
-    printf("\n");
+    report();
     return 0;
 }

@@ -7,7 +7,8 @@
 
 #include "huskelapse.h"
 
-enum { EPOCHS = 16, DATAGRAM = 16384, TAG = 16 };
+/* LONGEST is the longest datagram that the layer reads, ROOM the longest that UDP can bring. */
+enum { EPOCHS = 256, LONGEST = 16384, ROOM = 65536 };
 
 /* ---- the session's lines (host.c) */
 
@@ -20,8 +21,10 @@ void take(uint8_t answer);
 
 /* ---- the ciphers (ciphers.c) */
 
+/* tag is how many bytes the suite's tags have; the layer is made for 16. */
 typedef struct {
-    int chacha;
+    const struct Suite *suite;
+    size_t tag;
     uint8_t key[32], sn_key[32], iv[12];
 } Keys;
 
@@ -29,7 +32,7 @@ typedef struct {
 Keys keys_of(const char *suite, const char *key, const char *iv, const char *sn_key);
 /* The first two bytes of the mask of 16 bytes (RFC 9147, section 4.2.3). */
 void mask_of(const Keys *keys, const uint8_t *sample, uint8_t mask[2]);
-/* Opens a protected part in place; whether the tag is right. */
+/* Opens in place all but the tag of a protected part; whether the tag is right. */
 int open_part(const Keys *keys, const uint8_t *nonce, const uint8_t *header, size_t header_len, uint8_t *part, size_t length);
 /* Seals in place all but the last 16 bytes of a part, which take the tag. */
 void seal_part(const Keys *keys, const uint8_t *nonce, const uint8_t *header, size_t header_len, uint8_t *part, size_t length);
@@ -49,7 +52,7 @@ void writer_key(unsigned side, unsigned epoch, const Keys *keys);
 void writer_record(unsigned side, const Captured *record);
 /* A captured datagram ends: what was written is taken and compared. */
 void writer_take(unsigned side);
-/* Whether records were sent, and all that were written are compared. */
+/* Whether all that was written is compared. */
 int writer_done(void);
 /* Prints how many records were written again, and how many cannot be made, by reason. */
 void writer_report(void);

@@ -1,4 +1,4 @@
-/* The writer of the host: every captured record that the link's sending calls can make is written again by them, in the order in which
+/* The writer of the host: every captured record that the layer's sending calls can make is written again by them, in the order in which
  * its endpoint sent it, and compared byte for byte. */
 #include <inttypes.h>
 #include <stdio.h>
@@ -10,13 +10,15 @@
 enum { MTU = 1500, LIMIT = 16, PENDING = 16, GAP = 100000 };
 
 /* Why a record cannot be made: the first reason that applies, in this order. */
-enum { MADE, VERSION, CONNECTION_ID, ONE_BYTE, NO_LENGTH, PADDED, EPOCH_LEFT, OVER_MTU, NOT_NEXT, REASONS };
+enum { MADE, VERSION, EARLY, CONNECTION_ID, ONE_BYTE, NO_LENGTH, SHORT_TAG, PADDED, EPOCH_LEFT, OVER_MTU, NOT_NEXT, REASONS };
 
 static const char *const reason_text[REASONS] = {
     [VERSION] = "of version FE FF",
+    [EARLY] = "of early data",
     [CONNECTION_ID] = "with a connection ID",
     [ONE_BYTE] = "with a one-byte number",
     [NO_LENGTH] = "without a length",
+    [SHORT_TAG] = "with a tag of 8 bytes",
     [PADDED] = "padded",
     [EPOCH_LEFT] = "of an epoch left",
     [OVER_MTU] = "over the MTU",
@@ -31,7 +33,8 @@ typedef struct {
 } Pending;
 
 typedef struct {
-    LinkSending link;
+    HuskSending layer;
+    HuskFlight flight;
     Keys keys[EPOCHS];
     unsigned application;
     uint64_t next[3];
@@ -52,28 +55,28 @@ static uint64_t *next_of(Sender *s, unsigned epoch)
 
 static void seal_all(Sender *s)
 {
-    LinkSealing q;
-    while ((q = link_sealing(&s->link)).kind == LINK_SEAL) {
+    HuskSealing q;
+    while ((q = husk_sending_sealing(&s->layer)).kind == HUSK_SEALING_SEAL) {
         const Keys *keys = &s->keys[q.epoch % EPOCHS];
         uint8_t *part = s->queue + q.start, mask[2];
-        if (q.length <= TAG || q.start > sizeof s->queue || q.length > sizeof s->queue - q.start)
+        if (q.length <= HUSK_TAG || q.start > sizeof s->queue || q.length > sizeof s->queue - q.start)
             stop(1, "a part to seal that is not in the queue");
         seal_part(keys, q.nonce, q.header, sizeof q.header, part, q.length);
         mask_of(keys, part, mask);
-        take(link_sealed(&s->link, q.length, mask[0], mask[1], s->queue, sizeof s->queue));
+        take(husk_sending_sealed(&s->layer, &s->flight, q.length, mask[0], mask[1], s->queue, sizeof s->queue));
     }
-    if (q.kind != LINK_NO_SEALING)
+    if (q.kind != HUSK_SEALING_NONE)
         stop(1, "a sealing is refused by %u", q.refusal);
 }
 
 /* Every queued datagram, one after the other; how many bytes. */
 static size_t take_all(Sender *s, uint8_t *out, size_t room)
 {
-    LinkTake t;
+    HuskTake t;
     size_t n = 0;
-    while ((t = link_take(&s->link, out + n, room - n, s->queue, sizeof s->queue)).kind == LINK_TAKEN)
+    while ((t = husk_sending_take(&s->layer, out + n, room - n, s->queue, sizeof s->queue)).kind == HUSK_TAKE_TAKEN)
         n += t.length;
-    if (t.kind != LINK_EMPTY)
+    if (t.kind != HUSK_TAKE_EMPTY)
         stop(1, "a datagram is refused by %u", t.refusal);
     return n;
 }
@@ -111,34 +114,43 @@ static void flush(Sender *s)
 /* ---- what can be made */
 
 /* Why a record of this form cannot be made, by its flags or version and its length; the rest is compared. */
-static int form_of(const Captured *r)
+static int form_of(const Sender *s, const Captured *r)
 {
     const uint8_t *b = r->bytes;
     if (r->epoch == 0)
         return r->length > 2 && b[1] == 0xFE && b[2] == 0xFF ? VERSION : MADE;
+    if (r->epoch == 1)
+        return EARLY;
     if (b[0] & 0x10)
         return CONNECTION_ID;
     if (!(b[0] & 0x08))
         return ONE_BYTE;
     if (!(b[0] & 0x04))
         return NO_LENGTH;
-    return r->length > 5 + r->content_len + 1 + TAG ? PADDED : MADE;
+    if (s->keys[r->epoch % EPOCHS].tag != HUSK_TAG)
+        return SHORT_TAG;
+    return r->length > 5 + r->content_len + 1 + HUSK_TAG ? PADDED : MADE;
 }
 
 static uint8_t send_record(Sender *s, const Captured *r, size_t content_len)
 {
-    return link_send(&s->link, (uint16_t)r->epoch, (uint8_t)r->content_type, r->content, content_len, s->queue, sizeof s->queue);
+    return husk_sending_send(&s->layer, (uint16_t)r->epoch, (uint8_t)r->content_type, r->content, content_len, s->queue, sizeof s->queue);
 }
 
-/* Why a record of a good form cannot be made now; the link must refuse it too. */
+/* The layer must refuse what cannot be made for its epoch or its length. */
+static int must_refuse(Sender *s, const Captured *r, uint8_t refusal, int why)
+{
+    if (send_record(s, r, r->content_len) != refusal)
+        stop(1, "a record %s is not refused by %u", reason_text[why], refusal);
+    return why;
+}
+
+/* Why a record of a good form cannot be made now. */
 static int refused(Sender *s, const Captured *r)
 {
-    int left = r->epoch > 2 && r->epoch != s->application;
-    if (!left && r->length <= MTU)
-        return MADE;
-    if (send_record(s, r, r->content_len) != (left ? 13 : 14))
-        stop(1, "a record of an epoch left, or over the MTU, is not refused");
-    return left ? EPOCH_LEFT : OVER_MTU;
+    if (r->epoch > 2 && r->epoch != s->application)
+        return must_refuse(s, r, HUSK_BAD_EPOCH, EPOCH_LEFT);
+    return r->length > MTU ? must_refuse(s, r, HUSK_BAD_RECORD, OVER_MTU) : MADE;
 }
 
 /* Comes to a record's number, by empty records that are thrown away. */
@@ -163,15 +175,17 @@ static int come_to(Sender *s, const Captured *r)
 
 void writer_begin(void)
 {
-    for (int side = 0; side < 2; side++)
-        take(link_sending(&senders[side].link, MTU, LIMIT));
+    for (int side = 0; side < 2; side++) {
+        take(husk_sending_init(&senders[side].layer, MTU, LIMIT));
+        husk_flight_init(&senders[side].flight);
+    }
 }
 
 void writer_key(unsigned side, unsigned epoch, const Keys *keys)
 {
     Sender *s = &senders[side];
     flush(s);
-    take(link_key_send(&s->link, (uint16_t)epoch, keys->iv));
+    take(husk_sending_key(&s->layer, (uint16_t)epoch, keys->iv));
     s->keys[epoch % EPOCHS] = *keys;
     *next_of(s, epoch) = 0;
     if (epoch > 2)
@@ -182,8 +196,10 @@ void writer_record(unsigned side, const Captured *r)
 {
     Sender *s = &senders[side];
     size_t start = 0;
-    int why = form_of(r);
+    int why = form_of(s, r);
     sent_records++;
+    if (why == EARLY)
+        must_refuse(s, r, HUSK_BAD_EPOCH, EARLY);
     if (why == MADE)
         why = refused(s, r);
     if (why == MADE)
@@ -211,12 +227,14 @@ void writer_take(unsigned side)
 
 int writer_done(void)
 {
-    return sent_records > 0 && senders[0].count == 0 && senders[1].count == 0;
+    return senders[0].count == 0 && senders[1].count == 0;
 }
 
 void writer_report(void)
 {
     const char *between = "; not made: ";
+    if (sent_records == 0)
+        return;
     printf("; %zu of %zu sent records written again to the same bytes", records[MADE], sent_records);
     for (int why = MADE + 1; why < REASONS; why++) {
         if (records[why] > 0) {

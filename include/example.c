@@ -1,0 +1,129 @@
+/* The two examples of README.md, run: include/check cuts them out as reading.inc and sending.inc. The cipher is a toy, which seals nothing
+ * from anyone, and ends the program where it is asked without end.
+ *
+ * Exit status: 0 both do what README says; 1 one does not. */
+#include <stdio.h>
+#include <stdlib.h>
+#include <string.h>
+
+#include "huskelapse.h"
+
+enum { ROOM = 1200, MOST_QUESTIONS = 16 };
+
+static const uint8_t iv[12] = {1, 2, 3, 4, 5, 6, 7, 8, 9, 10, 11, 12};
+static const uint8_t text[] = "14.2 kWh";
+static unsigned questions, used;
+static const char *told;
+/* What the cipher answers where the tag is wrong: 0, or what is left of a -1. */
+static uint8_t wrong_tag = 0;
+
+static void need(int holds, const char *what)
+{
+    if (!holds) {
+        fprintf(stderr, "include/check: %s\n", what);
+        exit(1);
+    }
+}
+
+/* ---- a toy cipher */
+
+static void mix(uint8_t tag[HUSK_TAG], const uint8_t *p, size_t n)
+{
+    for (size_t i = 0; i < n; i++)
+        for (size_t k = 0; k < HUSK_TAG; k++)
+            tag[k] = (uint8_t)(tag[k] * 31u + (p[i] ^ k) + tag[(k + 1) % HUSK_TAG]);
+}
+
+static void tag_of(const uint8_t *nonce, const uint8_t *header, size_t header_len, const uint8_t *p, size_t n, uint8_t tag[HUSK_TAG])
+{
+    memset(tag, 0, HUSK_TAG);
+    mix(tag, nonce, 12);
+    mix(tag, header, header_len);
+    mix(tag, p, n);
+}
+
+static void turn(uint8_t *p, size_t n, const uint8_t *nonce)
+{
+    for (size_t i = 0; i < n; i++)
+        p[i] ^= (uint8_t)(nonce[i % 12] + i);
+}
+
+static void mask_of(uint16_t epoch, const uint8_t *sample, uint8_t mask[2])
+{
+    need(++questions <= MOST_QUESTIONS, "the same question is read for ever");
+    mask[0] = (uint8_t)(sample[0] + epoch);
+    mask[1] = (uint8_t)(sample[1] * 3 + 1);
+}
+
+static uint8_t open_in_place(uint16_t epoch, const uint8_t *nonce, uint8_t *header, size_t header_len, size_t length)
+{
+    uint8_t *part = header + header_len, tag[HUSK_TAG];
+    size_t n = length - HUSK_TAG;
+    need(++questions <= MOST_QUESTIONS, "the same question is read for ever");
+    need(epoch == 3, "an opening of another epoch");
+    tag_of(nonce, header, header_len, part, n, tag);
+    if (memcmp(tag, part + n, HUSK_TAG) != 0)
+        return wrong_tag;
+    turn(part, n, nonce);
+    return 1;
+}
+
+static void seal_in_place(uint16_t epoch, const uint8_t *nonce, const uint8_t *header, size_t header_len, uint8_t *part, size_t length)
+{
+    size_t n = length - HUSK_TAG;
+    need(epoch == 3, "a sealing of another epoch");
+    turn(part, n, nonce);
+    tag_of(nonce, header, header_len, part, n, part + n);
+}
+
+/* ---- the host */
+
+static void use(uint8_t content_type, const uint8_t *content, size_t n)
+{
+    need(content_type == HUSK_APPLICATION_DATA && n == sizeof text && memcmp(content, text, n) == 0, "another record than was sent");
+    used++;
+}
+
+static void tell(const char *refusal)
+{
+    told = refusal;
+}
+
+static void read_example(uint8_t *d, size_t n)
+{
+#include "reading.inc"
+}
+
+static size_t send_example(const uint8_t *content, size_t n, uint8_t out[ROOM])
+{
+#include "sending.inc"
+    need(t.kind == HUSK_TAKE_TAKEN && t.length <= ROOM, "no datagram");
+    memcpy(out, datagram, t.length);
+    return t.length;
+}
+
+/* Reads a copy of a datagram with one byte changed, or none; how often a record was used, and which refusal was told. */
+static void check_reading(const uint8_t *d, size_t n, size_t at, uint8_t change, unsigned times, const char *refusal)
+{
+    uint8_t copy[ROOM];
+    memcpy(copy, d, n);
+    copy[at] ^= change;
+    questions = used = 0;
+    told = NULL;
+    read_example(copy, n);
+    need(used == times, times == 0 ? "a record is used that was not opened" : "the record is not used");
+    need(refusal == NULL || (told != NULL && strcmp(told, refusal) == 0), "the refusal is not told");
+}
+
+int main(void)
+{
+    uint8_t d[ROOM];
+    size_t n = send_example(text, sizeof text, d);
+    check_reading(d, n, 0, 0, 1, NULL);
+    need(told == NULL, "a refusal where nothing is refused");
+    for (size_t at = 0; at < n; at++)
+        check_reading(d, n, at, 0x40, 0, NULL);
+    wrong_tag = 255;
+    check_reading(d, n, n - 1, 0x40, 0, husk_refusal_text(HUSK_OUT_OF_RANGE));
+    return 0;
+}
