@@ -1,14 +1,13 @@
--- Every list of calls of the C library on two hosts: the events of crate ends_theorem that it is, and what then holds of what the hosts saw.
-use Prim.Native.Nat.{ℕ, _*_, _≤_, _<_}
+-- Every list of calls of the C library on two hosts: the events of crate ends_theorem that it is, and the claim of what the hosts saw.
+use Prim.Native.Nat.{ℕ, _+_, _*_, _≤_}
 use lib.Dec.{leb, ltb}
-use lib.ListN.{length, replicate, getD, drop}
-use mathlib.Core.Bool.{true}
-use mathlib.Core.List.{List, [], _∷_, _++_, List·Memᴰ as Mem}
+use lib.ListN.{length, replicate}
+use mathlib.Core.Bool.{true, false}
+use mathlib.Core.List.{List, [], _∷_, _++_}
 use mathlib.Core.Option.{Option, none, some}
 use mathlib.Core.Path.{_≡_}
 use Rattle.base.specs.Choose.{choose}
 use Rattle.receiving.specs.Receiving.{keyOf, removeOf, encryptOf, releaseOf, beginOf, readOf, maskOf, openedOf}
-use Rattle.receiving.specs.declared.Read.{Read}
 use Rattle.outgoing.specs.State.{keyingState}
 use Rattle.outgoing.specs.Send.{sendAnswer, sendState}
 use Rattle.send_keys.specs.Answer.{refusal}
@@ -21,27 +20,24 @@ use Rattle.resend.specs.Tests.{resendAnswer}
 use Rattle.resend.specs.Resend.{resendState}
 use Rattle.process_ack.specs.Ack.{acked}
 use Rattle.acks.specs.Acks as noting
-use Rattle.recv_words.specs.Words.{isFlat, datagramOf}
+use Rattle.recv_words.specs.Words.{isFlat}
 use Rattle.recv_key_steps.specs.Kept.{stateOf}
 use Rattle.send_words.specs.Words as sendWords
-use Rattle.flight_words.specs.Words.{flightOf, flatTo}
-use Rattle.recv_calls.specs.Flat.{answerOf, flatReading, bare, openingOf}
+use Rattle.flight_words.specs.Words.{flatTo}
+use Rattle.recv_calls.specs.Flat.{answerOf, bare, openingOf}
 use Rattle.recv_calls.specs.Calls as receive
-use Rattle.recv_calls.specs.declared.LinkReading.{LinkReading}
 use Rattle.send_calls.specs.Calls as sends
 use Rattle.send_calls.specs.declared.LinkSealing.{LinkSealing}
 use Rattle.flight_calls.specs.Calls as flights
-use Rattle.ack_calls.specs.Calls as acks
-use Rattle.history_theorem.specs.Account.{nothing}
-use Rattle.history_theorem.specs.Claim.{Masks, FairMask, FairOpen, Once, Due, asHanded}
-use Rattle.history_theorem.specs.Receiver.{Sealed, Handed, Tried, Spoken, Inbound, Call, key·, remove·, encrypt·, release·, begin·, read·, mask·, write·, open·, readOver·, maskOver·, openOver·}
+use Rattle.waiting_laws.specs.Calls.{Stores, fill·}
+use Rattle.history_theorem.specs.Claim.{Masks}
+use Rattle.history_theorem.specs.Receiver.{Inbound, Call, key·, remove·, encrypt·, release·, begin·, read·, mask·, write·, open·, readOver·, maskOver·, openOver·}
 use Rattle.ends_theorem.specs.Claim.{Holds}
-use Rattle.ends_theorem.specs.Flights.{Arrived, Held, FairAck}
-use Rattle.ends_theorem.specs.Ledger.{Kept}
-use Rattle.ends_theorem.specs.Sender.{Lent, Taken, Sender, FairSeal}
-use Rattle.waiting_laws.specs.Calls.{Stores, SendCall, keySend·, send·, save·, message·, beginFlight·, resend·, note·, sendAck·, ack·, fill·, sealed·, take·, lending, Short}
-use Rattle.ends_theorem.specs.World.{Side, post, gateway, far, End, Deed, sending, over, receiving, Event, World, run, Setting, fresh-pair, Honest}
-use Rattle.hosts_theorem.specs.Memory.{Incoming, Outgoing, Host, InCall, «husk_receiving_key», «husk_receiving_remove», «husk_receiving_enable_encryption», «husk_receiving_release_application_data», «husk_receiving_begin», «husk_receiving_begin_read», «husk_receiving_read», «husk_receiving_mask», «husk_receiving_opened», «husk_receiving_read_over», «husk_receiving_mask_over», «husk_receiving_opened_over», «host_writes», OutCall, «husk_sending_key», «husk_sending_send», «husk_sending_sealed», «husk_sending_take», «husk_sending_take_in_place», «husk_flight_begin», «husk_flight_send», «husk_flight_message», «husk_flight_resend», «husk_flight_ack», «husk_notes_add», «husk_notes_send», Act, receives, «husk_sending_sealing», tells, tellsOver, «host_seals», Made, behind}
+use Rattle.ends_theorem.specs.Ledger.{newLedger}
+use Rattle.ends_theorem.specs.Sender.{Lent}
+use Rattle.ends_theorem.specs.World.{Side, post, gateway, far, End, Deed, sending, over, receiving, Event, World, run, Setting, newEnd, fresh-pair, FairDeed, Honest}
+use Rattle.hosts_theorem.specs.Memory.{Incoming, Outgoing, InCall, «husk_receiving_key», «husk_receiving_remove», «husk_receiving_enable_encryption», «husk_receiving_release_application_data», «husk_receiving_begin», «husk_receiving_begin_read», «husk_receiving_read», «husk_receiving_mask», «husk_receiving_opened», «husk_receiving_read_over», «husk_receiving_mask_over», «husk_receiving_opened_over», «host_writes», OutCall, «husk_sending_key», «husk_sending_send», «husk_sending_sealed», «husk_sending_take», «husk_sending_take_in_place», «husk_flight_begin», «husk_flight_send», «husk_flight_message», «husk_flight_resend», «husk_flight_ack», «husk_notes_add», «husk_notes_send», lends}
+use Rattle.hosts_theorem.specs.Log.{flatRead, Host, Act, inward, «husk_sending_sealing», outward, outwardOver, «host_seals», Made, behind, storesOf, sealingOf, showsNow, sendOf}
 
 -- ---- two hosts and a list of calls
 
@@ -59,7 +55,7 @@ put gateway h hs post = hs post
 put gateway h hs gateway = h
 
 abbrev pub after : Hosts → CCall → Hosts
-after hs a = put (a .side) (behind (hs (a .side)) (a .act)) hs
+after hs a = put (a .side) (behind (hs (far (a .side))) (hs (a .side)) (a .act)) hs
 
 abbrev pub runs : Hosts → List CCall → Hosts
 runs hs [] = hs
@@ -70,15 +66,30 @@ abbrev pub AllMade : Hosts → List CCall → Type 0
 AllMade hs [] = Unit {0}
 AllMade hs (a ∷ cs) = Made (hs (a .side)) (a .act) × AllMade (after hs a) cs
 
--- ---- the start: words made by husk_receiving_init and husk_sending_init, which answered 0, and by husk_flight_init; notes of zeros; lent memory with any
--- first contents, a queue not under its limit times the MTU
+-- ---- the words stand for the log's state
+
+pub record StandsIn (h : Incoming) (i : Inbound) : Type 0 where
+  pub flat : isFlat (h .words) ≡ true
+  pub state : stateOf (h .words) ≡ i .into .state
+  pub datagram : h .datagram ≡ i .into .datagram
+
+-- and the question in the log is the one that husk_sending_sealing shows, its bytes as first shown
+pub record StandsOut (h : Outgoing) (e : End) : Type 0 where
+  pub flat : sendWords.isFlat (h .words) ≡ true
+  pub flat-flight : flatTo (h .flight) 12 ≡ true
+  pub stores : storesOf h ≡ e .out .stores
+  pub shown : (old : Option Lent) × (e .out .lent ≡ showsNow (sealingOf (h .words)) (h .queue) old)
+
+pub record Stands (h : Host) : Type 0 where
+  pub incoming : StandsIn (h .incoming) (h .seen .into)
+  pub outgoing : StandsOut (h .outgoing) (h .seen)
+
+-- ---- the start: words made by husk_receiving_init and husk_sending_init, which answered 0, and by husk_flight_init; notes of zeros; lent memory
+-- with any first contents, a queue not under its limit times the MTU; nothing in the log but the settings
 
 pub record Started (s : Setting) (h : Host) : Type 0 where
   pub receiving : receive.FreshCall 0 (h .incoming .words) (s .min)
   pub datagram : h .incoming .datagram ≡ []
-  pub said : h .incoming .said ≡ []
-  pub handed : h .incoming .handed ≡ (λ (e : ℕ). [])
-  pub asked : h .incoming .asked ≡ nothing
   pub sending : sends.FreshCall 0 (h .outgoing .words) (s .mtu) (s .limit)
   pub queue : h .outgoing .queue ≡ s .queue
   pub room : s .limit * s .mtu ≤ length (s .queue)
@@ -87,15 +98,9 @@ pub record Started (s : Setting) (h : Host) : Type 0 where
   pub count : h .outgoing .count ≡ replicate 1 0
   pub epochs : h .outgoing .epochs ≡ replicate 32 0
   pub noted : h .outgoing .noted ≡ replicate 32 0
-  pub taken : h .outgoing .taken ≡ []
-  pub shown : h .outgoing .shown ≡ none
-  pub sealed : h .outgoing .sealed ≡ (λ (e : ℕ). [])
+  pub seen : h .seen ≡ newEnd s
 
 -- ---- the events that a call is
-
--- a buffer that holds every datagram
-unfoldable pub zerosOf : ℕ → List ℕ
-zerosOf n = replicate n 0
 
 abbrev pub callsOf : InCall → List Call
 callsOf («husk_receiving_key» r v epoch iv) = key· epoch iv ∷ []
@@ -114,31 +119,16 @@ callsOf («husk_receiving_mask_over» r v m n e d) = maskOver· (receive.masks m
 callsOf («husk_receiving_opened_over» r v o len d) = choose (leb o 1) (openOver· (openingOf o len) d ∷ []) []
 callsOf («host_writes» r p) = write· p ∷ []
 
-abbrev pub sendOf : OutCall → SendCall
-sendOf («husk_sending_key» r v epoch iv) = keySend· epoch iv
-sendOf («husk_sending_send» r v epoch t c p) = send· epoch t c
-sendOf («husk_sending_sealed» r v len m n p) = sealed· len (sends.masks m n)
-sendOf («husk_sending_take» r v b c) = take· b
--- a take into a buffer that holds every datagram
-sendOf («husk_sending_take_in_place» r v) = take· (zerosOf 65535)
-sendOf («husk_flight_begin» r g) = beginFlight·
-sendOf («husk_flight_send» r v g m epoch t c p j) = save· epoch t c
-sendOf («husk_flight_message» r v g m kind body p j) = message· kind body
-sendOf («husk_flight_resend» r v g m p) = resend·
-sendOf («husk_flight_ack» r g m c) = ack· c
-sendOf («husk_notes_add» r x y z epoch number) = note· epoch number
-sendOf («husk_notes_send» r v x y z p) = sendAck·
-
 abbrev pub hearing : List Call → List Deed
 hearing [] = []
 hearing (c ∷ cs) = receiving c ∷ hearing cs
 
 abbrev pub deedsOf : Act → List Deed
-deedsOf (receives c) = hearing (callsOf c)
+deedsOf (inward c) = hearing (callsOf c)
 -- only shows
 deedsOf («husk_sending_sealing» r) = []
-deedsOf (tells c) = sending (sendOf c) ∷ []
-deedsOf (tellsOver c q k) = over (sendOf c) q k ∷ []
+deedsOf (outward c) = sending (sendOf c) ∷ []
+deedsOf (outwardOver c q k) = over (sendOf c) q k ∷ []
 deedsOf («host_seals» r bytes) = sending (fill· bytes) ∷ []
 
 abbrev pub at : Side → List Deed → List Event
@@ -149,62 +139,24 @@ abbrev pub eventsOf : List CCall → List Event
 eventsOf [] = []
 eventsOf (a ∷ cs) = at (a .side) (deedsOf (a .act)) ++ eventsOf cs
 
--- ---- the memories agree with the world
+-- ---- each answer is the one that the definitions give, never that for words which stand for nothing
 
-abbrev pub saidIn : List Spoken → List LinkReading
-saidIn [] = []
-saidIn (c ∷ cs) = flatReading (c .reading) (c .nonce) ∷ saidIn cs
-
--- words that stand for the state; the same bytes; the same answers, the same records handed over and the same question
-pub record AgreesIn (h : Incoming) (i : Inbound) : Type 0 where
-  pub flat : isFlat (h .words) ≡ true
-  pub state : stateOf (h .words) ≡ i .into .state
-  pub datagram : h .datagram ≡ i .into .datagram
-  pub said : h .said ≡ saidIn (i .into .spoken)
-  pub handed : h .handed ≡ i .into .handed
-  pub asked : h .asked ≡ i .into .account .waits
-
-pub record AgreesStores (h : Outgoing) (w : Stores) : Type 0 where
-  pub flat : sendWords.isFlat (h .words) ≡ true
-  pub state : sendWords.stateOf (h .words) ≡ w .state
-  pub queue : h .queue ≡ w .queue
-  pub flat-flight : flatTo (h .flight) 12 ≡ true
-  pub flight : flightOf (h .flight) (h .numbers) ≡ w .flight
-  pub kept : h .kept ≡ w .kept
-  pub notes : acks.notesOf (h .count) (h .epochs) (h .noted) ≡ w .notes
-
--- and the same datagrams taken, the same question shown and the same records sealed
-pub record AgreesOut (h : Outgoing) (x : Sender) : Type 0 where
-  pub stores : AgreesStores h (x .stores)
-  pub taken : h .taken ≡ x .taken
-  pub shown : h .shown ≡ x .lent
-  pub sealed : h .sealed ≡ x .sealed
-
-pub record Agrees (h : Host) (e : End) : Type 0 where
-  pub incoming : AgreesIn (h .incoming) (e .into)
-  pub outgoing : AgreesOut (h .outgoing) (e .out)
-
--- ---- each answer is the one that the definitions give in the world, and the sealing question is the one that the claim speaks of
-
-abbrev pub flatRead : Read → LinkReading
-flatRead k = flatReading (k .reading) (k .nonce)
-
-abbrev pub AnsweredIn : Inbound → InCall → Type 0
-AnsweredIn i («husk_receiving_key» r v epoch iv) = r ≡ answerOf (keyOf (i .into .state) epoch iv .answer)
-AnsweredIn i («husk_receiving_remove» r v epoch) = r ≡ answerOf (removeOf (i .into .state) epoch .answer)
-AnsweredIn i («husk_receiving_enable_encryption» r v) = r ≡ answerOf (encryptOf (i .into .state) .answer)
-AnsweredIn i («husk_receiving_release_application_data» r v) = r ≡ answerOf (releaseOf (i .into .state) .answer)
-AnsweredIn i («husk_receiving_begin» r v d) = r ≡ answerOf (beginOf (i .into .state) (length d) .answer)
-AnsweredIn i («husk_receiving_begin_read» r v d) = r ≡ receive.firstReading (beginOf (i .into .state) (length d)) d
-AnsweredIn i («husk_receiving_read» r v) = r ≡ flatRead (readOf (i .into .state) (i .into .datagram))
-AnsweredIn i («husk_receiving_mask» r v m n e) = r ≡ flatRead (maskOf (i .into .state) (receive.masks m n) (i .into .datagram) .0)
-AnsweredIn i («husk_receiving_opened» r v o len) =
-    r ≡ choose (leb o 1) (flatRead (openedOf (i .into .state) (openingOf o len) (i .into .datagram))) (bare 0 12)
-AnsweredIn i («husk_receiving_read_over» r v d) = r ≡ flatRead (readOf (i .into .state) d)
-AnsweredIn i («husk_receiving_mask_over» r v m n e d) = r ≡ flatRead (maskOf (i .into .state) (receive.masks m n) d .0)
-AnsweredIn i («husk_receiving_opened_over» r v o len d) =
-    r ≡ choose (leb o 1) (flatRead (openedOf (i .into .state) (openingOf o len) d)) (bare 0 12)
-AnsweredIn i («host_writes» r p) = r ≡ flatRead (readOf (i .into .state) (i .into .datagram))
+abbrev pub AnsweredIn : Incoming → InCall → Type 0
+AnsweredIn h («husk_receiving_key» r v epoch iv) = r ≡ answerOf (keyOf (stateOf (h .words)) epoch iv .answer)
+AnsweredIn h («husk_receiving_remove» r v epoch) = r ≡ answerOf (removeOf (stateOf (h .words)) epoch .answer)
+AnsweredIn h («husk_receiving_enable_encryption» r v) = r ≡ answerOf (encryptOf (stateOf (h .words)) .answer)
+AnsweredIn h («husk_receiving_release_application_data» r v) = r ≡ answerOf (releaseOf (stateOf (h .words)) .answer)
+AnsweredIn h («husk_receiving_begin» r v d) = r ≡ answerOf (beginOf (stateOf (h .words)) (length d) .answer)
+AnsweredIn h («husk_receiving_begin_read» r v d) = r ≡ receive.firstReading (beginOf (stateOf (h .words)) (length d)) d
+AnsweredIn h («husk_receiving_read» r v) = r ≡ flatRead (readOf (stateOf (h .words)) (h .datagram))
+AnsweredIn h («husk_receiving_mask» r v m n e) = r ≡ flatRead (maskOf (stateOf (h .words)) (receive.masks m n) (h .datagram) .0)
+AnsweredIn h («husk_receiving_opened» r v o len) =
+    r ≡ choose (leb o 1) (flatRead (openedOf (stateOf (h .words)) (openingOf o len) (h .datagram))) (bare 0 12)
+AnsweredIn h («husk_receiving_read_over» r v d) = r ≡ flatRead (readOf (stateOf (h .words)) d)
+AnsweredIn h («husk_receiving_mask_over» r v m n e d) = r ≡ flatRead (maskOf (stateOf (h .words)) (receive.masks m n) d .0)
+AnsweredIn h («husk_receiving_opened_over» r v o len d) =
+    r ≡ choose (leb o 1) (flatRead (openedOf (stateOf (h .words)) (openingOf o len) d)) (bare 0 12)
+AnsweredIn h («host_writes» r p) = r ≡ flatRead (readOf (stateOf (h .words)) (h .datagram))
 
 abbrev pub AnsweredOut : Stores → OutCall → Type 0
 AnsweredOut w («husk_sending_key» r v epoch iv) = r ≡ refusal (keyingState (w .state) epoch iv .answer)
@@ -232,97 +184,50 @@ Shows none r = r .kind ≡ 2 → ⊥
 Shows (some l) r =
     r ≡ record { kind = 2; refusal = 0; epoch = l .epoch; number = l .num; start = l .place; length = l .size; nonce = l .nonce; header = l .header }
 
-abbrev pub Answered : End → Act → Type 0
-Answered e (receives c) = AnsweredIn (e .into) c
-Answered e («husk_sending_sealing» r) = Shows (e .out .lent) r
-Answered e (tells c) = AnsweredOut (e .out .stores) c
-Answered e (tellsOver c q k) = AnsweredOut (lending (e .out .stores) q k) c
-Answered e («host_seals» r bytes) = Shows (e .out .lent) r
+abbrev pub Answered : Host → Act → Type 0
+Answered h (inward c) = AnsweredIn (h .incoming) c
+Answered h («husk_sending_sealing» r) = Shows (h .seen .out .lent) r
+Answered h (outward c) = AnsweredOut (storesOf (h .outgoing)) c
+Answered h (outwardOver c q k) = AnsweredOut (storesOf (lends (h .outgoing) q k)) c
+Answered h («host_seals» r bytes) = Shows (h .seen .out .lent) r
 
-abbrev pub AllAnswered : World → List CCall → Type 0
-AllAnswered w [] = Unit {0}
-AllAnswered w (a ∷ cs) = Answered (w (a .side)) (a .act) × AllAnswered (run w (at (a .side) (deedsOf (a .act)))) cs
+abbrev pub AllAnswered : Hosts → List CCall → Type 0
+AllAnswered hs [] = Unit {0}
+AllAnswered hs (a ∷ cs) = Answered (hs (a .side)) (a .act) × AllAnswered (after hs a) cs
 
--- ---- what is asked of the hosts, by their own memory and logs
+-- ---- what is asked of the hosts: what the claim asks of each event, by what the hosts saw. Of the two that husk_receiving_begin_read is nothing is
+-- asked, so each is asked before the call
 
--- the sender's mask for the question that waits, and openings of exactly what the far host sealed; bytes lent in place of the begun datagram
--- have another length
-abbrev pub FairIn : Masks → (ℕ → List Sealed) → Incoming → InCall → Type 0
-FairIn masks sealed h («husk_receiving_mask» r v m n e) =
-    FairMask masks (h .asked) (h .datagram) (getD (drop (datagramOf (h .words) .at) (h .datagram)) 0 0) (receive.masks m n)
-FairIn masks sealed h («husk_receiving_opened» r v o len) = leb o 1 ≡ true → FairOpen sealed (h .asked) (h .datagram) (openingOf o len)
-FairIn masks sealed h («husk_receiving_read_over» r v d) = length d ≡ length (h .datagram) → ⊥
-FairIn masks sealed h («husk_receiving_mask_over» r v m n e d) = length d ≡ length (h .datagram) → ⊥
-FairIn masks sealed h («husk_receiving_opened_over» r v o len d) = length d ≡ length (h .datagram) → ⊥
-FairIn masks sealed h («husk_receiving_key» r v epoch iv) = Unit {0}
-FairIn masks sealed h («husk_receiving_remove» r v epoch) = Unit {0}
-FairIn masks sealed h («husk_receiving_enable_encryption» r v) = Unit {0}
-FairIn masks sealed h («husk_receiving_release_application_data» r v) = Unit {0}
-FairIn masks sealed h («husk_receiving_begin» r v d) = Unit {0}
-FairIn masks sealed h («husk_receiving_begin_read» r v d) = Unit {0}
-FairIn masks sealed h («husk_receiving_read» r v) = Unit {0}
-FairIn masks sealed h («host_writes» r p) = Unit {0}
+abbrev pub FairDeeds : (Side → Masks) → Side → End → End → List Deed → Type 0
+FairDeeds masks s f e [] = Unit {0}
+FairDeeds masks s f e (d ∷ ds) = FairDeed masks s f e d × FairDeeds masks s f e ds
 
--- an epoch is a uint16_t; the sender's mask of what was sealed; an ACK names, from epoch 2 up, only records handed over to the far host
-abbrev pub FairOut : Masks → (ℕ → List Handed) → Outgoing → OutCall → Type 0
-FairOut masks handed h («husk_sending_key» r v epoch iv) = epoch < 65536
-FairOut masks handed h («husk_sending_sealed» r v len m n p) = FairSeal masks (h .shown) (h .queue) len (sends.masks m n)
-FairOut masks handed h («husk_flight_ack» r g m c) = FairAck handed c
-FairOut masks handed h («husk_sending_send» r v epoch t c p) = Unit {0}
-FairOut masks handed h («husk_sending_take» r v b c) = Unit {0}
-FairOut masks handed h («husk_sending_take_in_place» r v) = Unit {0}
-FairOut masks handed h («husk_flight_begin» r g) = Unit {0}
-FairOut masks handed h («husk_flight_send» r v g m epoch t c p j) = Unit {0}
-FairOut masks handed h («husk_flight_message» r v g m kind body p j) = Unit {0}
-FairOut masks handed h («husk_flight_resend» r v g m p) = Unit {0}
-FairOut masks handed h («husk_notes_add» r x y z epoch number) = Unit {0}
-FairOut masks handed h («husk_notes_send» r v x y z p) = Unit {0}
-
--- f the far host; other memory is lent only if too short
-abbrev pub FairAct : (Side → Masks) → Side → Setting → Host → Host → Act → Type 0
-FairAct masks s z f h (receives c) = FairIn (masks (far s)) (f .outgoing .sealed) (h .incoming) c
-FairAct masks s z f h («husk_sending_sealing» r) = Unit {0}
-FairAct masks s z f h (tells c) = FairOut (masks s) (f .incoming .handed) (h .outgoing) c
-FairAct masks s z f h (tellsOver c q k) = Short (z .mtu) (z .limit) q k (sendOf c)
-FairAct masks s z f h («host_seals» r bytes) = Unit {0}
-
-abbrev pub AllFair : (Side → Masks) → (Side → Setting) → Hosts → List CCall → Type 0
-AllFair masks settings hs [] = Unit {0}
-AllFair masks settings hs (c ∷ cs) =
-    FairAct masks (c .side) (settings (c .side)) (hs (far (c .side))) (hs (c .side)) (c .act) × AllFair masks settings (after hs c) cs
-
--- ---- what the hosts saw: in the receive epoch e of the host s, from the hosts' own memory and logs
-
-pub record Saw (hs : Hosts) (w : World) (s : Side) (e : ℕ) : Type 0 where
-  -- no record was handed over twice, and each had the number, type and content with which the far host sealed and sent it
-  pub once : Once (hs s .incoming .handed e)
-  pub as-sealed : (h : Handed) → Mem h (hs s .incoming .handed e) → (r : Sealed) × Mem r (hs (far s) .outgoing .sealed e) × (h ≡ asHanded r)
-  pub as-sent : (h : Handed) → Mem h (hs s .incoming .handed e) → Mem h (w (far s) .out .books .sent e)
-  -- none was left out
-  pub none-left-out : (d : Tried) → Mem d (w s .into .into .tried) → (r : Sealed) → Due (d .trial) e r → Mem (asHanded r) (hs s .incoming .handed e)
-  -- the far host's flight words and memory hold its saved records, marked as acknowledged or not; one that is was handed over here, and so
-  -- was one of epoch 2 that an ACK cleared
-  pub flight-held : Held (w (far s) .mtu) (flightOf (hs (far s) .outgoing .flight) (hs (far s) .outgoing .numbers)) (hs (far s) .outgoing .kept) 0 (w (far s) .ledger .saved)
-  pub acked-handed : (k : Kept) → 2 ≤ k .epoch → Mem k (w (far s) .ledger .saved) → k .acked ≡ true → Arrived (hs s .incoming .handed) k
-  pub cleared-handed : (k : Kept) → Mem k (w (far s) .cleared) → Arrived (hs s .incoming .handed) k
-  -- no number was sealed twice
-  pub sealed-once : (r q : Sealed) → Mem r (hs (far s) .outgoing .sealed e) → Mem q (hs (far s) .outgoing .sealed e) → r .num ≡ q .num → r ≡ q
-  -- the datagrams that the far host took are whole records, and all of them the first that it sent, in order
-  pub taken-lines : Taken (hs (far s) .outgoing .taken) (w (far s) .out .books .lines)
+abbrev pub AllFair : (Side → Masks) → Hosts → List CCall → Type 0
+AllFair masks hs [] = Unit {0}
+AllFair masks hs (c ∷ cs) =
+    FairDeeds masks (c .side) (hs (far (c .side)) .seen) (hs (c .side) .seen) (deedsOf (c .act)) × AllFair masks (after hs c) cs
 
 -- ---- what is claimed
 
+-- what the hosts saw
+abbrev pub sightOf : Hosts → World
+sightOf hs s = hs s .seen
+
 -- of the hosts behind a list of calls, and the world behind its events
 pub record Refines (masks : Side → Masks) (settings : Side → Setting) (hs : Hosts) (cs : List CCall) : Type 0 where
+  -- the events meet what the claim asks
   pub honest : Honest masks (fresh-pair settings) (eventsOf cs)
-  pub agrees : (s : Side) → Agrees (runs hs cs s) (run (fresh-pair settings) (eventsOf cs) s)
-  pub answered : AllAnswered (fresh-pair settings) cs
+  -- the hosts saw the world that the events lead to, and their words stand for its states
+  pub agrees : (s : Side) → runs hs cs s .seen ≡ run (fresh-pair settings) (eventsOf cs) s
+  pub stands : (s : Side) → Stands (runs hs cs s)
+  pub answered : AllAnswered hs cs
+  -- the claim of that world, and of what the hosts saw
   pub holds : (s : Side) (e : ℕ) → Holds (run (fresh-pair settings) (eventsOf cs)) s e
-  pub saw : (s : Side) (e : ℕ) → Saw (runs hs cs) (run (fresh-pair settings) (eventsOf cs)) s e
+  pub saw : (s : Side) (e : ℕ) → Holds (sightOf (runs hs cs)) s e
 
 -- every list of calls of the C library: for all settings that the starting calls accepted, all memory that they left, all masks, every list
 -- of calls each of which met its contract, on either host, in any order, by hosts that answer as asked
 abbrev pub EveryListOfCalls : Type 0
 EveryListOfCalls =
     (settings : Side → Setting) (hs : Hosts) → ((s : Side) → Started (settings s) (hs s))
-    → (masks : Side → Masks) (cs : List CCall) → AllMade hs cs → AllFair masks settings hs cs → Refines masks settings hs cs
+    → (masks : Side → Masks) (cs : List CCall) → AllMade hs cs → AllFair masks hs cs → Refines masks settings hs cs

@@ -4,7 +4,6 @@ use borrow.Author.Tests.{le-ltb}
 use lib.ListN.{replicate, set}
 use mathlib.Core.Bool.{true}
 use mathlib.Core.List.{List, []}
-use mathlib.Core.Option.{none}
 use mathlib.Core.Path.{_≡_, refl, sym, ap, _∙_}
 use Rattle.base.specs.Choose.{both, if-true, if-false, by-test}
 use Rattle.receiving.specs.Receiving.{freshOf}
@@ -21,11 +20,10 @@ use Rattle.flight_words.specs.Words as flightWords
 use Rattle.send_calls.specs.Calls.{starts-done}
 use Rattle.recv_calls.specs.Flat.{answerOf}
 use Rattle.flight_calls.specs.Calls as flights
-use Rattle.history_theorem.specs.Account.{nothing}
 use Rattle.ends_theorem.specs.Claim.{Startable}
 use Rattle.ends_theorem.specs.Starting.{ranges-setting, receiving-starts}
-use Rattle.ends_theorem.specs.World.{Setting}
-use Rattle.hosts_theorem.specs.Memory.{Host}
+use Rattle.ends_theorem.specs.World.{Setting, newEnd}
+use Rattle.hosts_theorem.specs.Log.{Host}
 use Rattle.hosts_theorem.specs.Claim.{Started}
 
 -- words of 0 but for the settings
@@ -34,7 +32,7 @@ sendingWords mtu limit = set (set (replicate words 0) mtu-at mtu) limit-at limit
 
 abbrev pub firstHost : Setting → Host
 firstHost s = record {
-  incoming = record { words = entries.freshWords (s .min); datagram = []; said = []; handed = λ e. []; asked = nothing };
+  incoming = record { words = entries.freshWords (s .min); datagram = [] };
   outgoing = record {
     words = sendingWords (s .mtu) (s .limit);
     queue = s .queue;
@@ -44,10 +42,8 @@ firstHost s = record {
     count = replicate 1 0;
     epochs = replicate 32 0;
     noted = replicate 32 0;
-    taken = [];
-    shown = none;
-    sealed = λ e. [];
   };
+  seen = newEnd s;
 }
 
 fresh-is : (min : ℕ) → freshOf min .state ≡ record { keys = fresh min; datagram = begun 0 }
@@ -63,9 +59,6 @@ pub starts : (s : Setting) → Startable s → Started s (firstHost s)
 starts s o = record {
   receiving = (sym (receiving-starts (s .min) .0 .1 (o .min)), receives (s .min), entries.starts (s .min) .2);
   datagram = refl;
-  said = refl;
-  handed = refl;
-  asked = refl;
   sending = starts-done (s .mtu) (s .limit) (ranges-setting (s .mtu) (s .limit) (record { low = o .low; high = o .high; some = o .some; most = o .most }));
   queue = refl;
   room = o .room;
@@ -74,7 +67,5 @@ starts s o = record {
   count = refl;
   epochs = refl;
   noted = refl;
-  taken = refl;
-  shown = refl;
-  sealed = refl;
+  seen = refl;
 }

@@ -1,36 +1,41 @@
--- Each sending call of the C library, those of flights, resends and ACKs with it, is the claim's call. Assumes nothing.
-use Prim.Native.Nat.{ℕ, _+_, _*_, _≤_}
+-- Each sending call of the C library, those of flights, resends and ACKs with it, entered in the host's log, is the claim's call. Assumes nothing.
+use Prim.Native.Nat.{ℕ, _+_, _*_}
 use native.Mathlib.Omega.{arith}
-use borrow.Author.Tests.{leb-true, ltb-false, eqb-false}
+use borrow.Author.Tests.{leb-true, ltb-false, eqb-false, eq-eqb, ne-eqb}
+use lib.Dec.{eqb}
 use lib.ListN.{length, length-replicate}
 use mathlib.Core.Bool.{true}
 use mathlib.Core.List.{List, [], _∷_, _++_}
 use mathlib.Core.Option.{Option, none, some}
 use mathlib.Core.Path.{_≡_, refl, sym, ap, subst, _∙_}
-use Rattle.base.specs.Choose.{choose, both, if-true, if-false, by-test, both-true}
+use Rattle.base.specs.Choose.{choose, both, if-true, if-false, by-test, test-cases, both-true}
 use Rattle.base.specs.Parts.{part, splice, length-part, splice-here}
 use Rattle.queue.specs.Queue.{ready}
 use Rattle.outgoing.specs.State.{keyingState}
-use Rattle.outgoing.specs.Send.{sendAnswer, sendState, sendMemory}
+use Rattle.outgoing.specs.Send.{sendState}
 use Rattle.outgoing.specs.declared.Sending.{Sending}
-use Rattle.send_keys.specs.Answer.{refusal}
+use Rattle.send_keys.specs.Answer.{isDone, refusal}
+use Rattle.send_keys.specs.declared.SendAnswer.{SendAnswer}
 use Rattle.sealing.specs.Sealing as sealings
 use Rattle.sealing.specs.declared.SealAnswer.{SealAnswer}
 use Rattle.sealing.specs.declared.SealAnswer.the-variants as reply
 use Rattle.sealing.specs.declared.SealQuestion.{SealQuestion}
 use Rattle.sealing.specs.declared.SealQuestion.the-variants as ask
 use Rattle.taking.specs.Take.{takeAnswer, takeState, takeBuffer, frontLen, Takes, front-fits}
+use Rattle.taking.specs.Take as taking
 use Rattle.taking.specs.declared.TakeAnswer.{TakeAnswer}
 use Rattle.taking.specs.declared.TakeAnswer.the-variants as took
 use Rattle.flight.specs.declared.Flight.{Flight}
-use Rattle.flight.specs.Flight as flying
-use Rattle.flight.specs.Save.{saveState, saveQueue, saveKept}
-use Rattle.messages.specs.Message.{messageAnswer, messageState, messageQueue, messageKept}
+use Rattle.flight.specs.declared.Saved.{Saved as SavedState}
+use Rattle.flight.specs.Save.{saveState}
+use Rattle.messages.specs.Message.{messageAnswer, messageState}
+use Rattle.resend.specs.declared.Resent.{Resent}
+use Rattle.resend.specs.Resend.{resendState}
 use Rattle.resend.specs.Tests.{resendAnswer}
-use Rattle.resend.specs.Resend.{resendState, resendQueue}
-use Rattle.process_ack.specs.Ack.{acked}
 use Rattle.acks.specs.Acks as noting
+use Rattle.acks.specs.declared.AckSent.{AckSent}
 use Rattle.acks.specs.declared.Notes.{Notes}
+use Rattle.acks.specs.declared.Noting.{Noting}
 use Rattle.send_words.specs.Words.{stateOf, isFlat}
 use Rattle.flight_words.specs.Words.{flightOf, flatTo}
 use Rattle.send_calls.specs.Calls as sends
@@ -38,26 +43,245 @@ use Rattle.send_calls.specs.declared.LinkSealing.{LinkSealing}
 use Rattle.send_calls.specs.declared.LinkTake.{LinkTake}
 use Rattle.send_calls.specs.declared.LinkPart.{LinkPart}
 use Rattle.ack_calls.specs.Calls as acks
-use Rattle.history_theorem.specs.Claim.{Masks}
-use Rattle.history_theorem.specs.Receiver.{Sealed, Handed}
-use Rattle.ends_theorem.specs.Flights.{FairNames}
+use Rattle.waiting_laws.specs.Answers.{noteReply, ackReply, takeReply, answered}
+use Rattle.waiting_laws.specs.Calls.{Stores, SendCall, fill·, writtenIn, stored, lending, Reply, only}
+use Rattle.history_theorem.specs.Account.{upd}
+use Rattle.history_theorem.specs.Receiver.{Sealed}
+use Rattle.ends_theorem.specs.Laws.{done-by}
+use Rattle.ends_theorem.specs.Ledger.{owed, sentBy, shortReply}
 use Rattle.ends_theorem.specs.Sender as world
-use Rattle.ends_theorem.specs.Ledger.{Sent}
-use Rattle.ends_theorem.specs.Sender.{Lent, Sender, takenBy, sealedBy, FairSeal, FairSend}
-use Rattle.waiting_laws.specs.Calls.{Stores, SendCall, keySend·, send·, save·, message·, beginFlight·, resend·, note·, sendAck·, ack·, fill·, sealed·, take·, stored, lending}
-use Rattle.hosts_theorem.specs.Memory.{Outgoing, OutCall, «husk_sending_key», «husk_sending_send», «husk_sending_sealed», «husk_sending_take», «husk_sending_take_in_place», «husk_flight_begin», «husk_flight_send», «husk_flight_message», «husk_flight_resend», «husk_flight_ack», «husk_notes_add», «husk_notes_send», MadeOut, queues, flies, notes, takesOne, takesPart, sealingOf, showsNow, sealsNow, seals, behindOut, lends, returns}
-use Rattle.hosts_theorem.specs.Writes.{sealing-names}
-use Rattle.hosts_theorem.specs.Claim.{zerosOf, sendOf, AgreesStores, AgreesOut, AnsweredOut, Shows, FairOut}
+use Rattle.ends_theorem.specs.Sender.{Books, Lent, Sender, takenBy, sealedBy, finishedBy}
+use Rattle.ends_theorem.specs.World.{Took, Over, End, sending, over, givenIn, givenBy, tookBy, overOf, oversBy, acts}
+use Rattle.hosts_theorem.specs.Memory.{Outgoing, OutCall, «husk_sending_key», «husk_sending_send», «husk_sending_sealed», «husk_sending_take», «husk_sending_take_in_place», «husk_flight_begin», «husk_flight_send», «husk_flight_message», «husk_flight_resend», «husk_flight_ack», «husk_notes_add», «husk_notes_send», MadeOut, behindOut, lends}
+use Rattle.hosts_theorem.specs.Log.{storesOf, zerosOf, sendOf, counts, replyOf, sealingOf, showsNow, turnsTo, sealsNow, finishesNow, takesOne, takesPart, tookNow, enters, senderTo, givenNow, sentTo, enteredOut, enteredFill, enteredOver, sealedIn, returns}
+use Rattle.hosts_theorem.specs.Answers.{sealing-names}
+use Rattle.hosts_theorem.specs.Claim.{StandsOut, AnsweredOut, Shows}
 
 pub wide : (n : ℕ) → length (zerosOf n) ≡ n
 unfolding zerosOf
 wide n = length-replicate n 0
+
+-- ---- the stores behind each call
+
+module _ (h : Outgoing) (f : isFlat (h .words) ≡ true) (g : flatTo (h .flight) 12 ≡ true) where
+  both-flat : both (isFlat (h .words)) (flatTo (h .flight) 12) ≡ true
+  both-flat = both-true f ∙ g
+
+  pub stores-square : (c : OutCall) → MadeOut h c → storesOf (behindOut h c) ≡ stored (storesOf h) (sendOf c)
+  unfolding takeState
+  stores-square («husk_sending_key» r v e iv) m =
+      ap (λ (s : Sending). record { state = s; queue = h .queue; flight = storesOf h .flight; kept = h .kept; notes = storesOf h .notes }) (m .1 .0 ∙ if-true _ _ f)
+  stores-square («husk_sending_send» r v e t c p) m =
+      let s = m .0 .1 .0 ∙ if-true _ _ f in
+      let q = m .1 ∙ if-true _ _ f in
+      λ i. record { state = s i; queue = q i; flight = storesOf h .flight; kept = h .kept; notes = storesOf h .notes }
+  stores-square («husk_sending_sealed» r v len n₀ n₁ p) m =
+      let s = m .0 .1 .0 ∙ if-true _ _ f in
+      let q = m .1 ∙ if-true _ _ f in
+      λ i. record { state = s i; queue = q i; flight = storesOf h .flight; kept = h .kept; notes = storesOf h .notes }
+  stores-square («husk_sending_take» r v b c) m =
+      ap (λ (s : Sending). record { state = s; queue = h .queue; flight = storesOf h .flight; kept = h .kept; notes = storesOf h .notes }) (m .0 .1 .0 ∙ if-true _ _ f)
+  stores-square («husk_sending_take_in_place» r v) m =
+      ap (λ (s : Sending). record { state = s; queue = h .queue; flight = storesOf h .flight; kept = h .kept; notes = storesOf h .notes })
+      (m .1 .0 ∙ if-true _ _ f ∙ ap (λ (n : ℕ). takeState (takeAnswer (stateOf (h .words)) (length (h .queue)) n) (stateOf (h .words)) .state) (sym (wide 65535)))
+  stores-square («husk_flight_begin» r k) m =
+      let x = m (h .numbers) .1 ∙ if-true _ _ g in
+      λ i. record { state = storesOf h .state; queue = h .queue; flight = x i; kept = h .kept; notes = storesOf h .notes }
+  stores-square («husk_flight_send» r v k l e t c p j) m =
+      let s = m .0 .1 ∙ if-true _ _ both-flat in
+      let q = m .1 .0 ∙ if-true _ _ both-flat in
+      let x = m .0 .3 ∙ if-true _ _ both-flat in
+      let y = m .1 .1 ∙ if-true _ _ both-flat in
+      λ i. record { state = s i; queue = q i; flight = x i; kept = y i; notes = storesOf h .notes }
+  stores-square («husk_flight_message» r v k l t b p j) m =
+      let s = m .0 .1 ∙ if-true _ _ both-flat in
+      let q = m .1 .0 ∙ if-true _ _ both-flat in
+      let x = m .0 .3 ∙ if-true _ _ both-flat in
+      let y = m .1 .1 ∙ if-true _ _ both-flat in
+      λ i. record { state = s i; queue = q i; flight = x i; kept = y i; notes = storesOf h .notes }
+  stores-square («husk_flight_resend» r v k l p) m =
+      let s = m .0 .1 ∙ if-true _ _ both-flat in
+      let q = m .1 ∙ if-true _ _ both-flat in
+      let x = m .0 .3 ∙ if-true _ _ both-flat in
+      λ i. record { state = s i; queue = q i; flight = x i; kept = h .kept; notes = storesOf h .notes }
+  stores-square («husk_flight_ack» r k l c) m =
+      let x = m .1 ∙ if-true _ _ g in
+      λ i. record { state = storesOf h .state; queue = h .queue; flight = x i; kept = h .kept; notes = storesOf h .notes }
+  stores-square («husk_notes_add» r x y z e n) m =
+      ap (λ (n : Notes). record { state = storesOf h .state; queue = h .queue; flight = storesOf h .flight; kept = h .kept; notes = n }) (m .1)
+  stores-square («husk_notes_send» r v x y z p) m =
+      let s = m .0 .1 ∙ if-true _ _ f in
+      let q = m .1 ∙ if-true _ _ f in
+      let n = m .0 .3 ∙ if-true _ _ f in
+      λ i. record { state = s i; queue = q i; flight = storesOf h .flight; kept = h .kept; notes = n i }
+
+  pub stays-flat : (c : OutCall) → MadeOut h c → (isFlat (behindOut h c .words) ≡ true) × (flatTo (behindOut h c .flight) 12 ≡ true)
+  stays-flat («husk_sending_key» r v e iv) m = (m .1 .1 ∙ f, g)
+  stays-flat («husk_sending_send» r v e t c p) m = (m .0 .1 .1 ∙ f, g)
+  stays-flat («husk_sending_sealed» r v len n₀ n₁ p) m = (m .0 .1 .1 ∙ f, g)
+  stays-flat («husk_sending_take» r v b c) m = (m .0 .1 .1 ∙ f, g)
+  stays-flat («husk_sending_take_in_place» r v) m = (m .1 .1 ∙ f, g)
+  stays-flat («husk_flight_begin» r k) m = (f, m (h .numbers) .2 ∙ g)
+  stays-flat («husk_flight_send» r v k l e t c p j) m = (m .0 .2 ∙ f, m .0 .4 ∙ g)
+  stays-flat («husk_flight_message» r v k l t b p j) m = (m .0 .2 ∙ f, m .0 .4 ∙ g)
+  stays-flat («husk_flight_resend» r v k l p) m = (m .0 .2 ∙ f, m .0 .4 ∙ g)
+  stays-flat («husk_flight_ack» r k l c) m = (f, m .2 ∙ g)
+  stays-flat («husk_notes_add» r x y z e n) m = (f, g)
+  stays-flat («husk_notes_send» r v x y z p) m = (m .0 .2 ∙ f, g)
+
+  -- ---- the answers
+
+  pub out-answer : (c : OutCall) → MadeOut h c → AnsweredOut (storesOf h) c
+  unfolding takeState
+  out-answer («husk_sending_key» r v e iv) m = m .0 ∙ if-true _ _ f
+  out-answer («husk_sending_send» r v e t c p) m = m .0 .0 ∙ if-true _ _ f
+  out-answer («husk_sending_sealed» r v len n₀ n₁ p) m = m .0 .0 ∙ if-true _ _ f
+  out-answer («husk_sending_take» r v b c) m = m .0 .0 ∙ if-true _ _ f
+  out-answer («husk_sending_take_in_place» r v) m = m .0 ∙ if-true _ _ f
+  out-answer («husk_flight_begin» r k) m = m (h .numbers) .0 ∙ if-true _ _ g
+  out-answer («husk_flight_send» r v k l e t c p j) m = m .0 .0 ∙ if-true _ _ both-flat
+  out-answer («husk_flight_message» r v k l t b p j) m = m .0 .0 ∙ if-true _ _ both-flat
+  out-answer («husk_flight_resend» r v k l p) m = m .0 .0 ∙ if-true _ _ both-flat
+  out-answer («husk_flight_ack» r k l c) m = m .0 ∙ if-true _ _ g
+  out-answer («husk_notes_add» r x y z e n) m = m .0
+  out-answer («husk_notes_send» r v x y z p) m = m .0 .0 ∙ if-true _ _ f
+
+-- ---- what the host sees of them
+
+abbrev took-reply : LinkTake → Reply
+took-reply r = record { number = r .refusal; told = r .length }
+
+take-told : (k : TakeAnswer) → took-reply (sends.flatTake k) ≡ takeReply k
+take-told (took.Taken n) = refl
+take-told took.OutOfRange = refl
+take-told took.Nothing = refl
+take-told took.Unsealed = refl
+take-told (took.Short n) = refl
+
+-- in place none is too short
+part-told : (k : TakeAnswer) (start : ℕ) → (taking.refusal k ≡ 16 → ⊥) → record { number = sends.flatPart k start .refusal; told = sends.flatPart k start .length } ≡ takeReply k
+part-told (took.Taken n) start never = refl
+part-told took.OutOfRange start never = refl
+part-told took.Nothing start never = refl
+part-told took.Unsealed start never = refl
+part-told (took.Short n) start never = absurd (never refl)
+
+-- the count of notes changes exactly where a record is noted
+abbrev told-by : ℕ → ℕ → ℕ
+told-by before behind = choose (eqb behind before) 0 1
+
+same-count : (n : ℕ) → told-by n n ≡ 0
+same-count n = if-true _ _ (eq-eqb n n refl)
+
+note-told : (s : Notes) (e n : ℕ) → record { number = noting.refusal (noting.noted s e n .answer); told = told-by (s .count) (noting.noted s e n .notes .count) } ≡ noteReply (noting.noted s e n .answer)
+unfolding noting.noted
+note-told s e n =
+    let P : Noting → Type 0 = λ k. record { number = noting.refusal (k .answer); told = told-by (s .count) (k .notes .count) } ≡ noteReply (k .answer) in
+    by-test P (λ t. ap (λ (x : ℕ). record { number = 12; told = x }) (same-count (s .count)))
+    (λ t. by-test P (λ u. ap (λ (x : ℕ). record { number = 0; told = x }) (if-false _ _ (ne-eqb _ _ (λ (z : s .count + 1 ≡ s .count). omega arith))))
+    (λ u. ap (λ (x : ℕ). record { number = 0; told = x }) (same-count (s .count))))
+
+-- and where the ACK of those noted is sent
+ack-told : (s : Sending) (n : Notes) (room : ℕ)
+    → record { number = refusal (noting.sentAck s n room .answer); told = told-by (n .count) (noting.sentAck s n room .notes .count) } ≡ ackReply (noting.sentAck s n room)
+unfolding noting.sentAck noting.ackSent noting.forgotten
+ack-told s n room =
+    let P : AckSent → Type 0 = λ k. record { number = refusal (k .answer); told = told-by (n .count) (k .notes .count) } ≡ ackReply k in
+    let quiet : (a : SendAnswer) → P (noting.nothingSent a s n) = λ a. ap (λ (x : ℕ). record { number = refusal a; told = x }) (same-count (n .count) ∙ sym (if-false _ _ refl)) in
+    by-test P
+    (λ t. by-test P (λ z. quiet (noting.ackAnswer s n room))
+    (λ z.
+    let a = noting.noticeState s n room .answer in
+    test-cases (isDone a)
+    (λ d.
+    ap (λ (x : ℕ). record { number = refusal a; told = x })
+    (ap (λ (m : Notes). told-by (n .count) (m .count)) (if-true _ _ d) ∙ if-false _ _ (ne-eqb _ _ (λ (q : 0 ≡ n .count). eqb-false _ _ z (sym q))) ∙ sym (if-true _ _ d)))
+    (λ d.
+    ap (λ (x : ℕ). record { number = refusal a; told = x })
+    (ap (λ (m : Notes). told-by (n .count) (m .count)) (if-false _ _ d) ∙ same-count (n .count) ∙ sym (if-false _ _ d)))))
+    (λ t. quiet (noting.ackAnswer s n room))
+
+message-answers : (a : SendAnswer) (s : Sending) (f : Flight) (q k : List ℕ) (t : ℕ) (b : List ℕ) → messageState a s f q k t b .answer ≡ a
+unfolding messageState
+message-answers a s f q k t b = by-test (λ (r : SavedState). r .answer ≡ a) (λ z. refl) (λ z. refl)
+
+resend-answers : (a : SendAnswer) (s : Sending) (f : Flight) (k q : List ℕ) → resendState a s f k q .answer ≡ a
+unfolding resendState
+resend-answers a s f k q = by-test (λ (r : Resent). r .answer ≡ a) (λ z. refl) (λ z. refl)
+
+module _ (h : Outgoing) (f : isFlat (h .words) ≡ true) (g : flatTo (h .flight) 12 ≡ true) where
+  pub reply-is : (c : OutCall) → MadeOut h c → replyOf h c ≡ answered (storesOf h) (sendOf c)
+  unfolding sendState saveState sealings.sealedState
+  reply-is («husk_sending_key» r v e iv) m = ap only (out-answer h f g («husk_sending_key» r v e iv) m)
+  reply-is («husk_sending_send» r v e t c p) m = ap only (out-answer h f g («husk_sending_send» r v e t c p) m)
+  reply-is («husk_sending_sealed» r v len n₀ n₁ p) m = ap only (out-answer h f g («husk_sending_sealed» r v len n₀ n₁ p) m)
+  reply-is («husk_sending_take» r v b c) m = ap took-reply (out-answer h f g («husk_sending_take» r v b c) m) ∙ take-told (takeAnswer (stateOf (h .words)) (length (h .queue)) (length b))
+  reply-is («husk_sending_take_in_place» r v) m =
+      ap (λ (x : LinkPart). record { number = x .refusal; told = x .length }) (out-answer h f g («husk_sending_take_in_place» r v) m)
+      ∙ part-told (sends.placeAnswer (h .words) (length (h .queue))) (stateOf (h .words) .queue .first * stateOf (h .words) .queue .mtu) (sends.never-short (h .words) (length (h .queue)))
+      ∙ ap (λ (n : ℕ). takeReply (takeAnswer (stateOf (h .words)) (length (h .queue)) n)) (sym (wide 65535))
+  reply-is («husk_flight_begin» r k) m = ap only (out-answer h f g («husk_flight_begin» r k) m)
+  reply-is («husk_flight_send» r v k l e t c p j) m = ap only (out-answer h f g («husk_flight_send» r v k l e t c p j) m)
+  reply-is («husk_flight_message» r v k l t b p j) m = ap only (out-answer h f g («husk_flight_message» r v k l t b p j) m ∙ ap refusal (message-answers (messageAnswer (stateOf (h .words)) (storesOf h .flight) (length (h .queue)) (length (h .kept)) t (length b)) (stateOf (h .words)) (storesOf h .flight) (h .queue) (h .kept) t b))
+  reply-is («husk_flight_resend» r v k l p) m = ap only (out-answer h f g («husk_flight_resend» r v k l p) m ∙ ap refusal (resend-answers (resendAnswer (stateOf (h .words)) (storesOf h .flight) (length (h .queue)) (length (h .kept))) (stateOf (h .words)) (storesOf h .flight) (h .kept) (h .queue)))
+  reply-is («husk_flight_ack» r k l c) m = ap only (out-answer h f g («husk_flight_ack» r k l c) m)
+  reply-is («husk_notes_add» r x y z e n) m =
+      let s = acks.notesOf (h .count) (h .epochs) (h .noted) in
+      let t = ap (λ (k : Notes). told-by (s .count) (k .count)) (m .1) in
+      (λ i. record { number = m .0 i; told = t i }) ∙ note-told s e n
+  reply-is («husk_notes_send» r v x y z p) m =
+      let s = acks.notesOf (h .count) (h .epochs) (h .noted) in
+      let a = m .0 .0 ∙ if-true _ _ f in
+      let t = ap (λ (k : Notes). told-by (s .count) (k .count)) (m .0 .3 ∙ if-true _ _ f) in
+      (λ i. record { number = a i; told = t i }) ∙ ack-told (stateOf (h .words)) s (length (h .queue))
+
+  -- a take: the host's buffer behind it
+  pub took-is : (c : OutCall) → MadeOut h c → (ts : List Took) → tookNow h c ts ≡ tookBy (storesOf h) (sendOf c) ts
+  took-is («husk_sending_take» r v b c) m ts =
+      let a = reply-is («husk_sending_take» r v b c) m in
+      let d = m .1 ∙ if-true _ _ f in
+      λ i. record { reply = a i; before = b; behind = d i } ∷ ts
+  took-is («husk_sending_take_in_place» r v) m ts =
+      let a = reply-is («husk_sending_take_in_place» r v) m in
+      let d = m .2 (zerosOf 65535) (wide 65535) ∙ if-true _ _ f in
+      λ i. record { reply = a i; before = zerosOf 65535; behind = d i } ∷ ts
+  took-is («husk_sending_key» r v e iv) m ts = refl
+  took-is («husk_sending_send» r v e t c p) m ts = refl
+  took-is («husk_sending_sealed» r v len n₀ n₁ p) m ts = refl
+  took-is («husk_flight_begin» r k) m ts = refl
+  took-is («husk_flight_send» r v k l e t c p j) m ts = refl
+  took-is («husk_flight_message» r v k l t b p j) m ts = refl
+  took-is («husk_flight_resend» r v k l p) m ts = refl
+  took-is («husk_flight_ack» r k l c) m ts = refl
+  took-is («husk_notes_add» r x y z e n) m ts = refl
+  took-is («husk_notes_send» r v x y z p) m ts = refl
+
+-- ---- what was shown, sealed and taken
 
 lent-same : (k : SealQuestion) (v l q : List ℕ) (old : Option Lent) → showsNow (sends.flatSealing k v l) q old ≡ world.lentBy k v l old q
 unfolding choose
 lent-same (ask.Seal e n p z) v l q old = refl
 lent-same ask.Nothing v l q old = refl
 lent-same ask.OutOfRange v l q old = refl
+
+-- the question shown behind a call
+pub shows-now : (h : Outgoing) → isFlat (h .words) ≡ true → (old : Option Lent) → showsNow (sealingOf (h .words)) (h .queue) old ≡ world.lends (stateOf (h .words)) (h .queue) old
+unfolding world.lends
+shows-now h f old =
+    let k = sealings.questionOf (stateOf (h .words)) in
+    ap (λ (r : LinkSealing). showsNow r (h .queue) old) (if-true _ _ f) ∙ lent-same (k .question) (k .nonce) (k .header) (h .queue) old
+
+turns-as : (x : Sender) (h : Outgoing) (w : Stores) {b b′ : Books} {i i′ : ℕ → List ℕ} {s s′ : ℕ → List Sealed} {t t′ : List (List ℕ)} → isFlat (h .words) ≡ true → storesOf h ≡ w → b ≡ b′
+    → i ≡ i′ → s ≡ s′ → t ≡ t′ → turnsTo x h b i s t ≡ world.turns x w b′ i′ s′ t′
+turns-as x h w {b} {b′} {i} {i′} {s} {s′} {t} {t′} f p c k l m =
+    let q = shows-now h f (x .lent) in
+    (λ j. record { stores = storesOf h; books = b; ivs = i; lent = q j; sealed = s; taken = t })
+    ∙ (λ j. world.turns x (p j) (c j) (k j) (l j) (m j))
+
+shows-same : (k : SealQuestion) (v l q : List ℕ) (old : Option Lent) → Shows (world.lentBy k v l old q) (sends.flatSealing k v l)
+shows-same (ask.Seal e n p z) v l q old = refl
+shows-same ask.Nothing v l q old = λ e. omega arith
+shows-same ask.OutOfRange v l q old = λ e. omega arith
 
 -- a sealing reply answered 0
 seals-same : (k : SealAnswer) (l : Option Lent) (before behind : List ℕ) (f : ℕ → List Sealed) → sealsNow (sealings.refusal k) l before behind f ≡ sealedBy k l before behind f
@@ -67,158 +291,12 @@ seals-same reply.Done (some l) before behind f = refl
 seals-same reply.OutOfRange (some l) before behind f = refl
 seals-same reply.NoQuestion (some l) before behind f = refl
 
--- ---- the stores
-
-module _ (h : Outgoing) (w : Stores) (a : AgreesStores h w) where
-  -- what is made of the memory is what is made of the stores
-  same : {A : Type 0} (f : Sending → List ℕ → Flight → List ℕ → Notes → A)
-      → f (stateOf (h .words)) (h .queue) (flightOf (h .flight) (h .numbers)) (h .kept) (acks.notesOf (h .count) (h .epochs) (h .noted)) ≡ f (w .state) (w .queue) (w .flight) (w .kept) (w .notes)
-  same f = cc
-
-  both-flat : both (isFlat (h .words)) (flatTo (h .flight) 12) ≡ true
-  both-flat = both-true (a .flat) ∙ a .flat-flight
-
-  queued : (v p : List ℕ) (ts : List (List ℕ)) (s : Sending) (q : List ℕ) → isFlat v ≡ isFlat (h .words) → stateOf v ≡ s → p ≡ q
-      → AgreesStores (queues h v p ts) (record { state = s; queue = q; flight = w .flight; kept = w .kept; notes = w .notes })
-  queued v p ts s q f e m = record {
-    flat = f ∙ a .flat;
-    state = e;
-    queue = m;
-    flat-flight = a .flat-flight;
-    flight = a .flight;
-    kept = a .kept;
-    notes = a .notes;
-  }
-
-  sealed-to : (r : ℕ) (v p : List ℕ) (s : Sending) (q : List ℕ) → isFlat v ≡ isFlat (h .words) → stateOf v ≡ s → p ≡ q
-      → AgreesStores (seals h r v p) (record { state = s; queue = q; flight = w .flight; kept = w .kept; notes = w .notes })
-  sealed-to r v p s q f e m = record {
-    flat = f ∙ a .flat;
-    state = e;
-    queue = m;
-    flat-flight = a .flat-flight;
-    flight = a .flight;
-    kept = a .kept;
-    notes = a .notes;
-  }
-
-  flown : (v p g m j : List ℕ) (s : Sending) (q : List ℕ) (x : Flight) (k : List ℕ) → isFlat v ≡ isFlat (h .words) → stateOf v ≡ s → p ≡ q
-      → flatTo g 12 ≡ flatTo (h .flight) 12 → flightOf g m ≡ x → j ≡ k
-      → AgreesStores (flies h v p g m j) (record { state = s; queue = q; flight = x; kept = k; notes = w .notes })
-  flown v p g m j s q x k f e b t y c = record {
-    flat = f ∙ a .flat;
-    state = e;
-    queue = b;
-    flat-flight = t ∙ a .flat-flight;
-    flight = y;
-    kept = c;
-    notes = a .notes;
-  }
-
-  marked : (v p x y z : List ℕ) (s : Sending) (q : List ℕ) (n : Notes) → isFlat v ≡ isFlat (h .words) → stateOf v ≡ s → p ≡ q → acks.notesOf x y z ≡ n
-      → AgreesStores (notes h v p x y z) (record { state = s; queue = q; flight = w .flight; kept = w .kept; notes = n })
-  marked v p x y z s q n f e b c = record {
-    flat = f ∙ a .flat;
-    state = e;
-    queue = b;
-    flat-flight = a .flat-flight;
-    flight = a .flight;
-    kept = a .kept;
-    notes = c;
-  }
-
-  pub stores-square : (c : OutCall) → MadeOut h c → AgreesStores (behindOut h c) (stored w (sendOf c))
-  unfolding takeState
-  stores-square («husk_sending_key» r v e iv) m =
-      queued v (h .queue) (h .taken) _ _ (m .1 .1) (m .1 .0 ∙ if-true _ _ (a .flat) ∙ same (λ s q f k n. keyingState s e iv .state)) (a .queue)
-  stores-square («husk_sending_send» r v e t c p) m =
-      queued v p (h .taken) _ _ (m .0 .1 .1)
-      (m .0 .1 .0 ∙ if-true _ _ (a .flat) ∙ same (λ s q f k n. sendState (sendAnswer s (length q) e t (length c)) s e (length c) .state))
-      (m .1 ∙ if-true _ _ (a .flat) ∙ same (λ s q f k n. sendMemory (sendAnswer s (length q) e t (length c)) s e t c q))
-  stores-square («husk_sending_sealed» r v len n₀ n₁ p) m =
-      sealed-to r v p _ _ (m .0 .1 .1)
-      (m .0 .1 .0 ∙ if-true _ _ (a .flat) ∙ same (λ s q f k n. sealings.sealedState (sealings.sealAnswer s (length q) len) s q .state))
-      (m .1 ∙ if-true _ _ (a .flat) ∙ same (λ s q f k n. sealings.sealedMemory (sealings.sealAnswer s (length q) len) s (sends.masks n₀ n₁) q))
-  stores-square («husk_sending_take» r v b c) m =
-      queued v (h .queue) _ _ _ (m .0 .1 .1)
-      (m .0 .1 .0 ∙ if-true _ _ (a .flat) ∙ same (λ s q f k n. takeState (takeAnswer s (length q) (length b)) s .state)) (a .queue)
-  stores-square («husk_sending_take_in_place» r v) m =
-      queued v (h .queue) _ _ _ (m .1 .1)
-      (m .1 .0 ∙ if-true _ _ (a .flat) ∙ same (λ s q f k n. takeState (takeAnswer s (length q) 65535) s .state)
-      ∙ ap (λ (n : ℕ). takeState (takeAnswer (w .state) (length (w .queue)) n) (w .state) .state) (sym (wide 65535))) (a .queue)
-  stores-square («husk_flight_begin» r g) m =
-      let b = m (h .numbers) in
-      flown (h .words) (h .queue) g (h .numbers) (h .kept) _ _ _ _ refl (a .state) (a .queue) (b .2)
-      (b .1 ∙ if-true _ _ (a .flat-flight) ∙ same (λ s q f k n. flying.begun f .flight)) (a .kept)
-  stores-square («husk_flight_send» r v g l e t c p j) m =
-      flown v p g l j _ _ _ _ (m .0 .2)
-      (m .0 .1 ∙ if-true _ _ both-flat ∙ same (λ s q f k n. saveState s f (length q) (length k) e t (length c) .state))
-      (m .1 .0 ∙ if-true _ _ both-flat ∙ same (λ s q f k n. saveQueue s f (length k) e t c q))
-      (m .0 .4)
-      (m .0 .3 ∙ if-true _ _ both-flat ∙ same (λ s q f k n. saveState s f (length q) (length k) e t (length c) .flight))
-      (m .1 .1 ∙ if-true _ _ both-flat ∙ same (λ s q f k n. saveKept s f (length q) e t c k))
-  stores-square («husk_flight_message» r v g l t b p j) m =
-      flown v p g l j _ _ _ _ (m .0 .2)
-      (m .0 .1 ∙ if-true _ _ both-flat ∙ same (λ s q f k n. messageState (messageAnswer s f (length q) (length k) t (length b)) s f q k t b .state))
-      (m .1 .0 ∙ if-true _ _ both-flat ∙ same (λ s q f k n. messageQueue (messageAnswer s f (length q) (length k) t (length b)) s f q k t b))
-      (m .0 .4)
-      (m .0 .3 ∙ if-true _ _ both-flat ∙ same (λ s q f k n. messageState (messageAnswer s f (length q) (length k) t (length b)) s f q k t b .flight))
-      (m .1 .1 ∙ if-true _ _ both-flat ∙ same (λ s q f k n. messageKept (messageAnswer s f (length q) (length k) t (length b)) s f q k t b))
-  stores-square («husk_flight_resend» r v g l p) m =
-      flown v p g l (h .kept) _ _ _ _ (m .0 .2)
-      (m .0 .1 ∙ if-true _ _ both-flat ∙ same (λ s q f k n. resendState (resendAnswer s f (length q) (length k)) s f k q .state))
-      (m .1 ∙ if-true _ _ both-flat ∙ same (λ s q f k n. resendQueue (resendAnswer s f (length q) (length k)) s f k q))
-      (m .0 .4)
-      (m .0 .3 ∙ if-true _ _ both-flat ∙ same (λ s q f k n. resendState (resendAnswer s f (length q) (length k)) s f k q .flight))
-      (a .kept)
-  stores-square («husk_flight_ack» r g l c) m =
-      flown (h .words) (h .queue) g l (h .kept) _ _ _ _ refl (a .state) (a .queue) (m .2)
-      (m .1 ∙ if-true _ _ (a .flat-flight) ∙ same (λ s q f k n. acked f c .flight)) (a .kept)
-  stores-square («husk_notes_add» r x y z e n₀) m =
-      marked (h .words) (h .queue) x y z _ _ _ refl (a .state) (a .queue) (m .1 ∙ same (λ s q f k n. noting.noted n e n₀ .notes))
-  stores-square («husk_notes_send» r v x y z p) m =
-      marked v p x y z _ _ _ (m .0 .2) (m .0 .1 ∙ if-true _ _ (a .flat) ∙ same (λ s q f k n. noting.sentAck s n (length q) .state))
-      (m .1 ∙ if-true _ _ (a .flat) ∙ same (λ s q f k n. noting.ackMemory s n q))
-      (m .0 .3 ∙ if-true _ _ (a .flat) ∙ same (λ s q f k n. noting.sentAck s n (length q) .notes))
-
-  -- ---- the answers
-
-  pub sealing-answer : (r : LinkSealing) → sends.SealingCall r (h .words)
-      → r ≡ sends.flatSealing (sealings.questionOf (w .state) .question) (sealings.questionOf (w .state) .nonce) (sealings.questionOf (w .state) .header)
-  sealing-answer r m =
-      m ∙ if-true _ _ (a .flat)
-      ∙ same (λ s q f k n. sends.flatSealing (sealings.questionOf s .question) (sealings.questionOf s .nonce) (sealings.questionOf s .header))
-
-  -- the question shown behind the call
-  shows-now : (old : Option Lent) → showsNow (sealingOf (h .words)) (h .queue) old ≡ world.lends (w .state) (w .queue) old
-  unfolding world.lends
-  shows-now old =
-      ap (λ (r : LinkSealing). showsNow r (h .queue) old) (sealing-answer (sealingOf (h .words)) refl)
-      ∙ ap (λ (q : List ℕ). showsNow (sends.flatSealing (sealings.questionOf (w .state) .question) (sealings.questionOf (w .state) .nonce) (sealings.questionOf (w .state) .header)) q old) (a .queue)
-      ∙ lent-same (sealings.questionOf (w .state) .question) (sealings.questionOf (w .state) .nonce) (sealings.questionOf (w .state) .header) (w .queue) old
-
-  pub out-answer : (c : OutCall) → MadeOut h c → AnsweredOut w c
-  unfolding takeState
-  out-answer («husk_sending_key» r v e iv) m = m .0 ∙ if-true _ _ (a .flat) ∙ same (λ s q f k n. refusal (keyingState s e iv .answer))
-  out-answer («husk_sending_send» r v e t c p) m =
-      m .0 .0 ∙ if-true _ _ (a .flat) ∙ same (λ s q f k n. refusal (sendState (sendAnswer s (length q) e t (length c)) s e (length c) .answer))
-  out-answer («husk_sending_sealed» r v len n₀ n₁ p) m =
-      m .0 .0 ∙ if-true _ _ (a .flat) ∙ same (λ s q f k n. sealings.refusal (sealings.sealedState (sealings.sealAnswer s (length q) len) s q .answer))
-  out-answer («husk_sending_take» r v b c) m = m .0 .0 ∙ if-true _ _ (a .flat) ∙ same (λ s q f k n. sends.flatTake (takeAnswer s (length q) (length b)))
-  out-answer («husk_sending_take_in_place» r v) m =
-      m .0 ∙ if-true _ _ (a .flat) ∙ same (λ s q f k n. sends.flatPart (takeAnswer s (length q) 65535) (s .queue .first * s .queue .mtu))
-  out-answer («husk_flight_begin» r g) m = m (h .numbers) .0 ∙ if-true _ _ (a .flat-flight) ∙ same (λ s q f k n. refusal (flying.begun f .answer))
-  out-answer («husk_flight_send» r v g l e t c p j) m =
-      m .0 .0 ∙ if-true _ _ both-flat ∙ same (λ s q f k n. refusal (saveState s f (length q) (length k) e t (length c) .answer))
-  out-answer («husk_flight_message» r v g l t b p j) m =
-      m .0 .0 ∙ if-true _ _ both-flat ∙ same (λ s q f k n. refusal (messageState (messageAnswer s f (length q) (length k) t (length b)) s f q k t b .answer))
-  out-answer («husk_flight_resend» r v g l p) m =
-      m .0 .0 ∙ if-true _ _ both-flat ∙ same (λ s q f k n. refusal (resendState (resendAnswer s f (length q) (length k)) s f k q .answer))
-  out-answer («husk_flight_ack» r g l c) m = m .0 ∙ if-true _ _ (a .flat-flight) ∙ same (λ s q f k n. refusal (acked f c .answer))
-  out-answer («husk_notes_add» r x y z e n₀) m = m .0 ∙ same (λ s q f k n. noting.refusal (noting.noted n e n₀ .answer))
-  out-answer («husk_notes_send» r v x y z p) m = m .0 .0 ∙ if-true _ _ (a .flat) ∙ same (λ s q f k n. refusal (noting.sentAck s n (length q) .answer))
-
--- ---- the datagrams taken
+finishes-same : (k : SealAnswer) (l : Option Lent) (before behind : List ℕ) (b : Books) → finishesNow (sealings.refusal k) l before behind b ≡ finishedBy k l before behind b
+unfolding choose
+finishes-same k none before behind b = refl
+finishes-same reply.Done (some l) before behind b = refl
+finishes-same reply.OutOfRange (some l) before behind b = refl
+finishes-same reply.NoQuestion (some l) before behind b = refl
 
 take-same : (k : TakeAnswer) (c : List ℕ) (ts : List (List ℕ)) → takesOne (sends.flatTake k) c ts ≡ takenBy k c ts
 unfolding choose
@@ -260,209 +338,223 @@ module _ (s : Sending) (q b : List ℕ) (ts : List (List ℕ)) where
       (λ l. if-false _ _ refl)))
       (λ r. if-false _ _ refl)
 
--- ---- the question shown
+-- ---- every sending call, at an end e whose stores the memory stands for
 
--- the lent question is the state's own
-abbrev pub LentNow : Sender → Type 0
-LentNow x = (old : Option Lent) × (x .lent ≡ world.lends (x .stores .state) (x .stores .queue) old)
+module _ (h : Outgoing) (e : End) (a : StandsOut h e) where
+  abbrev x : Sender
+  x = e .out
 
-shows-same : (k : SealQuestion) (v l q : List ℕ) (old : Option Lent) → Shows (world.lentBy k v l old q) (sends.flatSealing k v l)
-shows-same (ask.Seal e n p z) v l q old = refl
-shows-same ask.Nothing v l q old = λ e. omega arith
-shows-same ask.OutOfRange v l q old = λ e. omega arith
+  abbrev w : Stores
+  w = x .stores
 
-pub stored-one : (x : Sender) (rs : List Sent) (c : SendCall) → world.sends x rs c .stores ≡ stored (x .stores) c
-stored-one x rs (keySend· e iv) = refl
-stored-one x rs (send· e t c) = refl
-stored-one x rs (save· e t c) = refl
-stored-one x rs (message· kind body) = refl
-stored-one x rs beginFlight· = refl
-stored-one x rs resend· = refl
-stored-one x rs (note· e n) = refl
-stored-one x rs sendAck· = refl
-stored-one x rs (ack· d) = refl
-stored-one x rs (fill· v) = refl
-stored-one x rs (sealed· k m) = refl
-stored-one x rs (take· b) = refl
+  -- what is made of the memory is what is made of the stores
+  of-stores : {A : Type 0} (f : Stores → A) → f (storesOf h) ≡ f w
+  of-stores f = ap f (a .stores)
 
-lent-one : (x : Sender) (rs : List Sent) (c : SendCall) → world.sends x rs c .lent ≡ world.lends (stored (x .stores) c .state) (stored (x .stores) c .queue) (x .lent)
-lent-one x rs (keySend· e iv) = refl
-lent-one x rs (send· e t c) = refl
-lent-one x rs (save· e t c) = refl
-lent-one x rs (message· kind body) = refl
-lent-one x rs beginFlight· = refl
-lent-one x rs resend· = refl
-lent-one x rs (note· e n) = refl
-lent-one x rs sendAck· = refl
-lent-one x rs (ack· d) = refl
-lent-one x rs (fill· v) = refl
-lent-one x rs (sealed· k m) = refl
-lent-one x rs (take· b) = refl
-
-pub lent-now : (x : Sender) (rs : List Sent) (c : SendCall) → LentNow (world.sends x rs c)
-lent-now x rs c = (x .lent, lent-one x rs c ∙ sym (ap (λ (w : Stores). world.lends (w .state) (w .queue) (x .lent)) (stored-one x rs c)))
-
--- ---- every sending call
-
-module _ (h : Outgoing) (x : Sender) (rs : List Sent) (a : AgreesOut h x) where
-  pub sealing-shown : LentNow x → (r : LinkSealing) → sends.SealingCall r (h .words) → Shows (x .lent) r
+  pub sealing-answer : (r : LinkSealing) → sends.SealingCall r (h .words) → Shows (x .lent) r
   unfolding world.lends
-  sealing-shown l r m =
-      let k = sealings.questionOf (x .stores .state) in
-      subst (λ (o : Option Lent). Shows o r) (sym (l .1))
-      (subst (Shows (world.lentBy (k .question) (k .nonce) (k .header) (l .0) (x .stores .queue)))
-      (sym (sealing-answer h (x .stores) (a .stores) r m)) (shows-same (k .question) (k .nonce) (k .header) (x .stores .queue) (l .0)))
+  sealing-answer r m =
+      let k = sealings.questionOf (stateOf (h .words)) in
+      let l = a .shown in
+      subst (λ (o : Option Lent). Shows o r) (sym (l .1 ∙ shows-now h (a .flat) (l .0)))
+      (subst (Shows (world.lentBy (k .question) (k .nonce) (k .header) (l .0) (h .queue))) (sym (m ∙ if-true _ _ (a .flat)))
+      (shows-same (k .question) (k .nonce) (k .header) (h .queue) (l .0)))
 
-  -- the datagrams taken and the records sealed
-  out-taken : (c : OutCall) → MadeOut h c → behindOut h c .taken ≡ world.sends x rs (sendOf c) .taken
-  out-taken («husk_sending_key» r v e iv) m = a .taken
-  out-taken («husk_sending_send» r v e t c p) m = a .taken
-  out-taken («husk_sending_sealed» r v len n₀ n₁ p) m = a .taken
-  out-taken («husk_sending_take» r v b c) m =
-      let k = takeAnswer (x .stores .state) (length (x .stores .queue)) (length b) in
-      let d = takeBuffer k (x .stores .state) (x .stores .queue) b in
-      ap (λ (y : LinkTake). takesOne y c (h .taken)) (out-answer h (x .stores) (a .stores) («husk_sending_take» r v b c) m)
-      ∙ ap (λ (y : List ℕ). takesOne (sends.flatTake k) y (h .taken))
-      (m .1 ∙ if-true _ _ (a .stores .flat) ∙ same h (x .stores) (a .stores) (λ s q f k n. takeBuffer (takeAnswer s (length q) (length b)) s q b))
-      ∙ take-same k d (h .taken) ∙ ap (λ (ts : List (List ℕ)). takenBy k d ts) (a .taken)
-  out-taken («husk_sending_take_in_place» r v) m =
-      let k = takeAnswer (x .stores .state) (length (x .stores .queue)) (length (zerosOf 65535)) in
-      ap (λ (y : LinkPart). takesPart y (h .queue) (h .taken)) (out-answer h (x .stores) (a .stores) («husk_sending_take_in_place» r v) m)
-      ∙ ap (λ (n : ℕ). takesPart (sends.flatPart (takeAnswer (x .stores .state) (length (x .stores .queue)) n) (x .stores .state .queue .first * x .stores .state .queue .mtu)) (h .queue) (h .taken)) (sym (wide 65535))
-      ∙ ap (λ (y : List ℕ). takesPart (sends.flatPart k (x .stores .state .queue .first * x .stores .state .queue .mtu)) y (h .taken)) (a .stores .queue)
-      ∙ ap (λ ts. takesPart (sends.flatPart k (x .stores .state .queue .first * x .stores .state .queue .mtu)) (x .stores .queue) ts) (a .taken)
-      ∙ part-same (x .stores .state) (x .stores .queue) (zerosOf 65535) (x .taken)
-  out-taken («husk_flight_begin» r g) m = a .taken
-  out-taken («husk_flight_send» r v g n e t c p j) m = a .taken
-  out-taken («husk_flight_message» r v g n t b p j) m = a .taken
-  out-taken («husk_flight_resend» r v g n p) m = a .taken
-  out-taken («husk_flight_ack» r g n c) m = a .taken
-  out-taken («husk_notes_add» r u y z e n₀) m = a .taken
-  out-taken («husk_notes_send» r v u y z p) m = a .taken
+  module _ (c : OutCall) (m : MadeOut h c) where
+    behind-flat : isFlat (behindOut h c .words) ≡ true
+    behind-flat = stays-flat h (a .flat) (a .flat-flight) c m .0
 
-  -- the reply is answered 0 where the claim says sealed
-  sealed-same : (r : ℕ) (v : List ℕ) (len n₀ n₁ : ℕ) (p : List ℕ) → MadeOut h («husk_sending_sealed» r v len n₀ n₁ p)
-      → sealsNow r (h .shown) (h .queue) p (h .sealed) ≡ world.sends x rs (sealed· len (sends.masks n₀ n₁)) .sealed
+    behind-stores : storesOf (behindOut h c) ≡ stored w (sendOf c)
+    behind-stores = stores-square h (a .flat) (a .flat-flight) c m ∙ of-stores (λ s. stored s (sendOf c))
+
+    pub out-reply : replyOf h c ≡ answered w (sendOf c)
+    out-reply = reply-is h (a .flat) (a .flat-flight) c m ∙ of-stores (λ s. answered s (sendOf c))
+
+    out-took : tookNow h c (e .took) ≡ tookBy w (sendOf c) (e .took)
+    out-took = took-is h (a .flat) (a .flat-flight) c m (e .took) ∙ of-stores (λ s. tookBy s (sendOf c) (e .took))
+
+  -- ---- the logs of what was sent
+
+  key-done : (r : ℕ) (v : List ℕ) (u : ℕ) (iv : List ℕ) → MadeOut h («husk_sending_key» r v u iv) → eqb r 0 ≡ isDone (keyingState (w .state) u iv .answer)
+  key-done r v u iv m =
+      done-by (keyingState (w .state) u iv .answer)
+      (sym (out-answer h (a .flat) (a .flat-flight) («husk_sending_key» r v u iv) m ∙ of-stores (λ s. refusal (keyingState (s .state) u iv .answer))))
+
+  seal-number : (r : ℕ) (v : List ℕ) (len n₀ n₁ : ℕ) (p : List ℕ) → MadeOut h («husk_sending_sealed» r v len n₀ n₁ p)
+      → r ≡ sealings.refusal (sealings.sealAnswer (w .state) (length (w .queue)) len)
   unfolding sealings.sealedState
-  sealed-same r v len n₀ n₁ p m =
-      let k = sealings.sealAnswer (x .stores .state) (length (x .stores .queue)) len in
-      let b = stored (x .stores) (sealed· len (sends.masks n₀ n₁)) .queue in
-      ap (λ (y : ℕ). sealsNow y (h .shown) (h .queue) p (h .sealed)) (out-answer h (x .stores) (a .stores) («husk_sending_sealed» r v len n₀ n₁ p) m)
-      ∙ ap (λ (l : Option Lent). sealsNow (sealings.refusal k) l (h .queue) p (h .sealed)) (a .shown)
-      ∙ ap (λ (q : List ℕ). sealsNow (sealings.refusal k) (x .lent) q p (h .sealed)) (a .stores .queue)
-      ∙ ap (λ (q : List ℕ). sealsNow (sealings.refusal k) (x .lent) (x .stores .queue) q (h .sealed)) (stores-square h (x .stores) (a .stores) («husk_sending_sealed» r v len n₀ n₁ p) m .queue)
-      ∙ ap (λ (f : ℕ → List Sealed). sealsNow (sealings.refusal k) (x .lent) (x .stores .queue) b f) (a .sealed)
-      ∙ seals-same k (x .lent) (x .stores .queue) b (x .sealed)
+  seal-number r v len n₀ n₁ p m =
+      out-answer h (a .flat) (a .flat-flight) («husk_sending_sealed» r v len n₀ n₁ p) m ∙ of-stores (λ s. sealings.refusal (sealings.sealAnswer (s .state) (length (s .queue)) len))
 
-  out-sealed : (c : OutCall) → MadeOut h c → behindOut h c .sealed ≡ world.sends x rs (sendOf c) .sealed
-  out-sealed («husk_sending_key» r v e iv) m = a .sealed
-  out-sealed («husk_sending_send» r v e t c p) m = a .sealed
-  out-sealed («husk_sending_sealed» r v len n₀ n₁ p) m = sealed-same r v len n₀ n₁ p m
-  out-sealed («husk_sending_take» r v b c) m = a .sealed
-  out-sealed («husk_sending_take_in_place» r v) m = a .sealed
-  out-sealed («husk_flight_begin» r g) m = a .sealed
-  out-sealed («husk_flight_send» r v g n e t c p j) m = a .sealed
-  out-sealed («husk_flight_message» r v g n t b p j) m = a .sealed
-  out-sealed («husk_flight_resend» r v g n p) m = a .sealed
-  out-sealed («husk_flight_ack» r g n c) m = a .sealed
-  out-sealed («husk_notes_add» r u y z e n₀) m = a .sealed
-  out-sealed («husk_notes_send» r v u y z p) m = a .sealed
+  sender-as : (b : Books) (c : OutCall) → MadeOut h c → senderTo x h (behindOut h c) b c ≡ world.sendsWith x b (sendOf c)
+  sender-as b («husk_sending_key» r v u iv) m =
+      let c = «husk_sending_key» r v u iv in
+      turns-as x (behindOut h c) (stored w (sendOf c)) (behind-flat c m) (behind-stores c m) refl (ap (λ t. choose t (upd (x .ivs) u iv) (x .ivs)) (key-done r v u iv m)) refl refl
+  sender-as b («husk_sending_sealed» r v len n₀ n₁ p) m =
+      let c = «husk_sending_sealed» r v len n₀ n₁ p in
+      let n = seal-number r v len n₀ n₁ p m in
+      let q = of-stores (λ s. s .queue) in
+      let d = ap (λ (s : Stores). s .queue) (behind-stores c m) in
+      let k = sealings.sealAnswer (w .state) (length (w .queue)) len in
+      turns-as x (behindOut h c) (stored w (sendOf c)) (behind-flat c m) (behind-stores c m)
+      ((λ i. finishesNow (n i) (x .lent) (q i) (d i) b) ∙ finishes-same k (x .lent) (w .queue) (stored w (sendOf c) .queue) b) refl
+      ((λ i. sealsNow (n i) (x .lent) (q i) (d i) (x .sealed)) ∙ seals-same k (x .lent) (w .queue) (stored w (sendOf c) .queue) (x .sealed)) refl
+  sender-as b («husk_sending_take» r v y z) m =
+      let c = «husk_sending_take» r v y z in
+      let k = takeAnswer (w .state) (length (w .queue)) (length y) in
+      let n = out-answer h (a .flat) (a .flat-flight) c m ∙ of-stores (λ s. sends.flatTake (takeAnswer (s .state) (length (s .queue)) (length y))) in
+      let d = m .1 ∙ if-true _ _ (a .flat) ∙ of-stores (λ s. takeBuffer (takeAnswer (s .state) (length (s .queue)) (length y)) (s .state) (s .queue) y) in
+      turns-as x (behindOut h c) (stored w (sendOf c)) (behind-flat c m) (behind-stores c m) refl refl refl
+      ((λ i. takesOne (n i) (d i) (x .taken)) ∙ take-same k (takeBuffer k (w .state) (w .queue) y) (x .taken))
+  sender-as b («husk_sending_take_in_place» r v) m =
+      let c = «husk_sending_take_in_place» r v in
+      let n = out-answer h (a .flat) (a .flat-flight) c m
+      ∙ of-stores (λ s. sends.flatPart (takeAnswer (s .state) (length (s .queue)) 65535) (s .state .queue .first * s .state .queue .mtu))
+      ∙ ap (λ (k : ℕ). sends.flatPart (takeAnswer (w .state) (length (w .queue)) k) (w .state .queue .first * w .state .queue .mtu)) (sym (wide 65535)) in
+      let q = of-stores (λ s. s .queue) in
+      turns-as x (behindOut h c) (stored w (sendOf c)) (behind-flat c m) (behind-stores c m) refl refl refl
+      ((λ i. takesPart (n i) (q i) (x .taken)) ∙ part-same (w .state) (w .queue) (zerosOf 65535) (x .taken))
+  sender-as b («husk_sending_send» r v u t z p) m =
+      turns-as x (behindOut h («husk_sending_send» r v u t z p)) _ (behind-flat («husk_sending_send» r v u t z p) m) (behind-stores («husk_sending_send» r v u t z p) m) refl refl refl refl
+  sender-as b («husk_flight_begin» r k) m =
+      turns-as x (behindOut h («husk_flight_begin» r k)) _ (behind-flat («husk_flight_begin» r k) m) (behind-stores («husk_flight_begin» r k) m) refl refl refl refl
+  sender-as b («husk_flight_send» r v k l u t z p j) m =
+      turns-as x (behindOut h («husk_flight_send» r v k l u t z p j)) _ (behind-flat («husk_flight_send» r v k l u t z p j) m) (behind-stores («husk_flight_send» r v k l u t z p j) m) refl refl refl refl
+  sender-as b («husk_flight_message» r v k l t z p j) m =
+      turns-as x (behindOut h («husk_flight_message» r v k l t z p j)) _ (behind-flat («husk_flight_message» r v k l t z p j) m) (behind-stores («husk_flight_message» r v k l t z p j) m) refl refl refl refl
+  sender-as b («husk_flight_resend» r v k l p) m =
+      turns-as x (behindOut h («husk_flight_resend» r v k l p)) _ (behind-flat («husk_flight_resend» r v k l p) m) (behind-stores («husk_flight_resend» r v k l p) m) refl refl refl refl
+  sender-as b («husk_flight_ack» r k l z) m =
+      turns-as x (behindOut h («husk_flight_ack» r k l z)) _ (behind-flat («husk_flight_ack» r k l z) m) (behind-stores («husk_flight_ack» r k l z) m) refl refl refl refl
+  sender-as b («husk_notes_add» r y₀ y₁ y₂ u n) m =
+      turns-as x (behindOut h («husk_notes_add» r y₀ y₁ y₂ u n)) _ (behind-flat («husk_notes_add» r y₀ y₁ y₂ u n) m) (behind-stores («husk_notes_add» r y₀ y₁ y₂ u n) m) refl refl refl refl
+  sender-as b («husk_notes_send» r v y₀ y₁ y₂ p) m =
+      turns-as x (behindOut h («husk_notes_send» r v y₀ y₁ y₂ p)) _ (behind-flat («husk_notes_send» r v y₀ y₁ y₂ p) m) (behind-stores («husk_notes_send» r v y₀ y₁ y₂ p) m) refl refl refl refl
 
-  -- every call shows anew
-  shown-one : (c : OutCall) → behindOut h c .shown ≡ showsNow (sealingOf (behindOut h c .words)) (behindOut h c .queue) (h .shown)
-  shown-one («husk_sending_key» r v e iv) = refl
-  shown-one («husk_sending_send» r v e t c p) = refl
-  shown-one («husk_sending_sealed» r v len n₀ n₁ p) = refl
-  shown-one («husk_sending_take» r v b c) = refl
-  shown-one («husk_sending_take_in_place» r v) = refl
-  shown-one («husk_flight_begin» r g) = refl
-  shown-one («husk_flight_send» r v g n e t c p j) = refl
-  shown-one («husk_flight_message» r v g n t b p j) = refl
-  shown-one («husk_flight_resend» r v g n p) = refl
-  shown-one («husk_flight_ack» r g n c) = refl
-  shown-one («husk_notes_add» r u y z e n₀) = refl
-  shown-one («husk_notes_send» r v u y z p) = refl
+  -- the reply to a sealing ends what the host gave, by the account's answer
+  given-as : (c : OutCall) → MadeOut h c → answered w (sendOf c) ≡ owed (e .ledger) (sendOf c) → givenNow c (e .given) ≡ givenBy w (owed (e .ledger) (sendOf c)) (sendOf c) (e .given)
+  given-as («husk_sending_sealed» r v len n₀ n₁ p) m d =
+      ap (λ (k : Reply). choose (eqb (k .number) 0) none (e .given)) (out-reply («husk_sending_sealed» r v len n₀ n₁ p) m ∙ d)
+  given-as («husk_sending_key» r v u iv) m d = refl
+  given-as («husk_sending_send» r v u t z p) m d = refl
+  given-as («husk_sending_take» r v y z) m d = refl
+  given-as («husk_sending_take_in_place» r v) m d = refl
+  given-as («husk_flight_begin» r k) m d = refl
+  given-as («husk_flight_send» r v k l u t z p j) m d = refl
+  given-as («husk_flight_message» r v k l t z p j) m d = refl
+  given-as («husk_flight_resend» r v k l p) m d = refl
+  given-as («husk_flight_ack» r k l z) m d = refl
+  given-as («husk_notes_add» r y₀ y₁ y₂ u n) m d = refl
+  given-as («husk_notes_send» r v y₀ y₁ y₂ p) m d = refl
 
-  pub out-square : (c : OutCall) → MadeOut h c → AgreesOut (behindOut h c) (world.sends x rs (sendOf c))
-  out-square c m =
-      let s = stores-square h (x .stores) (a .stores) c m in record {
-        stores = subst (AgreesStores (behindOut h c)) (sym (stored-one x rs (sendOf c))) s;
-        taken = out-taken c m;
-        shown =
-            shown-one c ∙ shows-now (behindOut h c) (stored (x .stores) (sendOf c)) s (h .shown)
-            ∙ ap (world.lends (stored (x .stores) (sendOf c) .state) (stored (x .stores) (sendOf c) .queue)) (a .shown) ∙ sym (lent-one x rs (sendOf c));
-        sealed = out-sealed c m;
-      }
+  pub out-square : (f : End) (c : OutCall) → MadeOut h c → answered w (sendOf c) ≡ owed (e .ledger) (sendOf c) → enteredOut e h (behindOut h c) c ≡ acts f e (sending (sendOf c))
+  out-square f c m d =
+      let r = out-reply c m in
+      let s = sender-as (sentTo e (sendOf c)) c m in
+      let t = out-took c m in
+      let g = given-as c m d in
+      λ i. enters e (sendOf c) (r i) (s i) (t i) (g i)
 
-  -- ---- what is asked of the host is what the claim asks
+  -- ---- over other memory
 
-  pub out-fair : (masks : Masks) (handed handed′ : ℕ → List Handed) → handed′ ≡ handed → (c : OutCall) → FairOut masks handed′ h c
-      → FairSend masks x (sendOf c) × FairNames handed (sendOf c)
-  out-fair masks l k e («husk_sending_key» r v n iv) g = (g, tt)
-  out-fair masks l k e («husk_sending_send» r v n t c p) g = (tt, tt)
-  out-fair masks l k e («husk_sending_sealed» r v len n₀ n₁ p) g = (
-    subst (λ (o : Option Lent). FairSeal masks o (x .stores .queue) len (sends.masks n₀ n₁)) (a .shown)
-        (subst (λ (q : List ℕ). FairSeal masks (h .shown) q len (sends.masks n₀ n₁)) (a .stores .queue) g),
-    tt,
-  )
-  out-fair masks l k e («husk_sending_take» r v b c) g = (tt, tt)
-  out-fair masks l k e («husk_sending_take_in_place» r v) g = (tt, tt)
-  out-fair masks l k e («husk_flight_begin» r f) g = (tt, tt)
-  out-fair masks l k e («husk_flight_send» r v f n u t c p j) g = (tt, tt)
-  out-fair masks l k e («husk_flight_message» r v f n t b p j) g = (tt, tt)
-  out-fair masks l k e («husk_flight_resend» r v f n p) g = (tt, tt)
-  out-fair masks l k e («husk_flight_ack» r f n c) g = (tt, subst (λ (z : ℕ → List Handed). FairNames z (ack· c)) e g)
-  out-fair masks l k e («husk_notes_add» r u y z n n₀) g = (tt, tt)
-  out-fair masks l k e («husk_notes_send» r v u y z p) g = (tt, tt)
+  module _ (c : OutCall) (q k : List ℕ) (m : MadeOut (lends h q k) c) where
+    abbrev lent : Outgoing
+    lent = lends h q k
 
--- ---- over other memory
+    abbrev left : Outgoing
+    left = behindOut lent c
 
-pub over-agrees : (h : Outgoing) (w : Stores) (q k : List ℕ) → AgreesStores h w → AgreesStores (lends h q k) (lending w q k)
-over-agrees h w q k a = record {
-  flat = a .flat;
-  state = a .state;
-  queue = refl;
-  flat-flight = a .flat-flight;
-  flight = a .flight;
-  kept = refl;
-  notes = a .notes;
-}
+    left-stores : storesOf left ≡ stored (lending w q k) (sendOf c)
+    left-stores = stores-square lent (a .flat) (a .flat-flight) c m ∙ of-stores (λ s. stored (lending s q k) (sendOf c))
 
-back : (h g : Outgoing) (w u : Stores) → AgreesStores h w → AgreesStores g u → AgreesStores (returns h g) (lending u (w .queue) (w .kept))
-back h g w u a b = record {
-  flat = b .flat;
-  state = b .state;
-  queue = a .queue;
-  flat-flight = b .flat-flight;
-  flight = b .flight;
-  kept = a .kept;
-  notes = b .notes;
-}
+    pub over-reply : replyOf lent c ≡ answered (lending w q k) (sendOf c)
+    over-reply = reply-is lent (a .flat) (a .flat-flight) c m ∙ of-stores (λ s. answered (lending s q k) (sendOf c))
 
-pub over-square : (h : Outgoing) (x : Sender) → AgreesOut h x → (c : OutCall) (q k : List ℕ) → MadeOut (lends h q k) c
-    → AgreesOut (returns h (behindOut (lends h q k) c)) (world.sendsOver x (sendOf c) q k)
-over-square h x a c q k m =
-    let g = behindOut (lends h q k) c in
-    let s = back h g (x .stores) _ (a .stores) (stores-square (lends h q k) (lending (x .stores) q k) (over-agrees h (x .stores) q k (a .stores)) c m) in record {
-      stores = s;
-      taken = a .taken;
-      shown = shows-now (returns h g) _ s (h .shown) ∙ ap (world.lends _ _) (a .shown);
-      sealed = a .sealed;
-    }
+    overs-as : oversBy w q k (sendOf c) (e .overs) ≡ overOf w q k (sendOf c) ∷ e .overs
+    overs-as = all-calls c
+      where
+        all-calls : (c : OutCall) → oversBy w q k (sendOf c) (e .overs) ≡ overOf w q k (sendOf c) ∷ e .overs
+        all-calls («husk_sending_key» r v u iv) = refl
+        all-calls («husk_sending_send» r v u t z p) = refl
+        all-calls («husk_sending_sealed» r v len n₀ n₁ p) = refl
+        all-calls («husk_sending_take» r v y z) = refl
+        all-calls («husk_sending_take_in_place» r v) = refl
+        all-calls («husk_flight_begin» r k₀) = refl
+        all-calls («husk_flight_send» r v k₀ l u t z p j) = refl
+        all-calls («husk_flight_message» r v k₀ l t z p j) = refl
+        all-calls («husk_flight_resend» r v k₀ l p) = refl
+        all-calls («husk_flight_ack» r k₀ l z) = refl
+        all-calls («husk_notes_add» r y₀ y₁ y₂ u n) = refl
+        all-calls («husk_notes_send» r v y₀ y₁ y₂ p) = refl
 
--- ---- the host writes sealed bytes
+    pub over-square : (f : End) → enteredOver e lent left (returns h left) c ≡ acts f e (over (sendOf c) q k)
+    over-square f =
+        let own : storesOf (returns h left) ≡ lending (stored (lending w q k) (sendOf c)) (w .queue) (w .kept) =
+        (λ i. lending (left-stores i) (a .stores i .queue) (a .stores i .kept)) in
+        let x′ = turns-as x (returns h left) _ (stays-flat lent (a .flat) (a .flat-flight) c m .0) own refl refl refl refl in
+        let r = over-reply in
+        let t = took-is lent (a .flat) (a .flat-flight) c m (e .took) ∙ of-stores (λ s. tookBy (lending s q k) (sendOf c) (e .took)) in
+        let o : record { queue = q; queue′ = left .queue; kept = k; kept′ = left .kept } ∷ e .overs ≡ oversBy w q k (sendOf c) (e .overs) =
+        (λ i. record { queue = q; queue′ = left-stores i .queue; kept = k; kept′ = left-stores i .kept } ∷ e .overs) ∙ sym overs-as in
+        λ i. record {
+          mtu = e .mtu;
+          limit = e .limit;
+          out = x′ i;
+          ledger = e .ledger;
+          said = record { reply = r i; owed = shortReply (sendOf c) } ∷ e .said;
+          took = t i;
+          overs = o i;
+          given = e .given;
+          cleared = e .cleared;
+          into = e .into;
+          counts = e .counts;
+        }
 
-pub seals-square : (h : Outgoing) (x : Sender) → AgreesOut h x → (rs : List Sent) (r : LinkSealing) (bytes : List ℕ) → sends.SealingCall r (h .words) → r .kind ≡ 2 → length bytes ≡ r .length
-    → AgreesOut (queues h (h .words) (splice (r .start) bytes (h .queue)) (h .taken)) (world.sends x rs (fill· bytes))
-seals-square h x a rs r bytes m z l =
-    let e = sealing-answer h (x .stores) (a .stores) r m in
-    let g = queues h (h .words) (splice (r .start) bytes (h .queue)) (h .taken) in
-    let s : AgreesStores g (stored (x .stores) (fill· bytes)) =
-    queued h (x .stores) (a .stores) (h .words) _ (h .taken) _ _ refl (a .stores .state)
-    (ap (splice (r .start) bytes) (a .stores .queue) ∙ ap (λ (k : LinkSealing). splice (k .start) bytes (x .stores .queue)) e
-    ∙ sealing-names (x .stores .state) (x .stores .queue) bytes (subst (λ (k : LinkSealing). k .kind ≡ 2) e z) (subst (λ (k : LinkSealing). length bytes ≡ k .length) e l)) in record {
-      stores = s;
-      taken = a .taken;
-      shown = shows-now g (stored (x .stores) (fill· bytes)) s (h .shown) ∙ ap (world.lends _ _) (a .shown);
-      sealed = a .sealed;
-    }
+    pub over-stands : StandsOut (returns h left) (enteredOver e lent left (returns h left) c)
+    over-stands =
+        let z = stays-flat lent (a .flat) (a .flat-flight) c m in
+        record { flat = z .0; flat-flight = z .1; stores = refl; shown = (x .lent, refl) }
+
+  -- ---- the host writes sealed bytes
+
+  module _ (r : LinkSealing) (bytes : List ℕ) (m : sends.SealingCall r (h .words)) (z : r .kind ≡ 2) (l : length bytes ≡ r .length) where
+    named : (splice (r .start) bytes (h .queue) ≡ writtenIn (sealings.questionOf (stateOf (h .words)) .question) bytes (h .queue))
+        × (some bytes ≡ givenIn (sealings.questionOf (stateOf (h .words)) .question) bytes (e .given))
+    named =
+        let s = m ∙ if-true _ _ (a .flat) in
+        let n = sealing-names (stateOf (h .words)) (h .queue) bytes (e .given) (subst (λ (k : LinkSealing). k .kind ≡ 2) s z) (subst (λ (k : LinkSealing). length bytes ≡ k .length) s l) in
+        (ap (λ (k : LinkSealing). splice (k .start) bytes (h .queue)) s ∙ n .0, n .1)
+
+    pub fill-square : (f : End) → enteredFill e (sealedIn h r bytes) bytes ≡ acts f e (sending (fill· bytes))
+    fill-square f =
+        let q : storesOf (sealedIn h r bytes) ≡ stored w (fill· bytes) =
+        ap (λ (p : List ℕ). lending (storesOf h) p (h .kept)) (named .0) ∙ of-stores (λ s. stored s (fill· bytes)) in
+        let s = turns-as x (sealedIn h r bytes) (stored w (fill· bytes)) {b = sentTo e (fill· bytes)} (a .flat) q refl refl refl refl in
+        let g = named .1 ∙ of-stores (λ s. givenIn (sealings.questionOf (s .state) .question) bytes (e .given)) in
+        λ i. enters e (fill· bytes) (only 0) (s i) (e .took) (g i)
+
+    pub fill-stands : StandsOut (sealedIn h r bytes) (enteredFill e (sealedIn h r bytes) bytes)
+    fill-stands = record { flat = a .flat; flat-flight = a .flat-flight; stores = refl; shown = (x .lent, refl) }
+
+  -- ---- the words stand for the log's state
+
+  sender-stands : (g : Outgoing) (b : Books) (c : OutCall)
+      → (storesOf g ≡ senderTo x h g b c .stores) × (senderTo x h g b c .lent ≡ showsNow (sealingOf (g .words)) (g .queue) (x .lent))
+  sender-stands g b («husk_sending_key» r v u iv) = (refl, refl)
+  sender-stands g b («husk_sending_send» r v u t z p) = (refl, refl)
+  sender-stands g b («husk_sending_sealed» r v len n₀ n₁ p) = (refl, refl)
+  sender-stands g b («husk_sending_take» r v y z) = (refl, refl)
+  sender-stands g b («husk_sending_take_in_place» r v) = (refl, refl)
+  sender-stands g b («husk_flight_begin» r k) = (refl, refl)
+  sender-stands g b («husk_flight_send» r v k l u t z p j) = (refl, refl)
+  sender-stands g b («husk_flight_message» r v k l t z p j) = (refl, refl)
+  sender-stands g b («husk_flight_resend» r v k l p) = (refl, refl)
+  sender-stands g b («husk_flight_ack» r k l z) = (refl, refl)
+  sender-stands g b («husk_notes_add» r y₀ y₁ y₂ u n) = (refl, refl)
+  sender-stands g b («husk_notes_send» r v y₀ y₁ y₂ p) = (refl, refl)
+
+  pub out-stands : (c : OutCall) → MadeOut h c → StandsOut (behindOut h c) (enteredOut e h (behindOut h c) c)
+  out-stands c m =
+      let z = stays-flat h (a .flat) (a .flat-flight) c m in
+      let k = sender-stands (behindOut h c) (sentTo e (sendOf c)) c in
+      record { flat = z .0; flat-flight = z .1; stores = k .0; shown = (x .lent, k .1) }

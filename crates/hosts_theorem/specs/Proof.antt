@@ -1,42 +1,37 @@
--- Every list of calls of the C library is a list of events of the claim. Assumes nothing.
-use Prim.Native.Nat.{ℕ, _≤_}
-use native.Mathlib.Omega.{arith}
-use borrow.Author.Tests.{ltb-false}
-use lib.ListN.{replicate}
-use mathlib.Core.Bool.{true}
-use mathlib.Core.List.{List, [], _∷_, _++_, List·Memᴰ as Mem}
+-- Every list of calls of the C library is a list of events of the claim, and the hosts saw the world that it leads to. Assumes nothing.
+use Prim.Native.Nat.{ℕ, suc, _≤_}
+use lib.Dec.{leb, ltb}
+use lib.ListN.{length, replicate}
+use mathlib.Core.Bool.{Bool, true, false}
+use mathlib.Core.List.{List, [], _∷_, _++_}
 use mathlib.Core.Option.{none}
 use mathlib.Core.Path.{_≡_, refl, sym, ap, subst, _∙_}
-use Rattle.base.specs.Choose.{by-test, if-false}
-use Rattle.receiving.specs.Receiving.{freshOf}
-use Rattle.receiving.specs.declared.Kept.{Kept}
-use Rattle.queue.specs.Queue.{isSetting}
+use Rattle.base.specs.Choose.{choose, by-test, if-false}
 use Rattle.outgoing.specs.State.{started, freshSending, noWaiting}
-use Rattle.send_keys.specs.Answer.{refusal}
-use Rattle.send_keys.specs.declared.SendAnswer.{SendAnswer}
-use Rattle.recv_calls.specs.Flat.{answerOf}
+use Rattle.outgoing.specs.declared.Sending.{Sending}
 use Rattle.acks.specs.Acks.{freshNotes}
 use Rattle.ack_calls.specs.Calls as acks
+use Rattle.recv_calls.specs.Flat.{openingOf}
 use Rattle.sealing.specs.Sealing.{questionOf}
 use Rattle.sealing.specs.declared.Question as asked
-use Rattle.flight.specs.declared.Flight.{Flight}
-use Rattle.history_theorem.specs.Calls.{new-sound}
-use Rattle.history_theorem.specs.Claim.{Masks, Once, asHanded}
-use Rattle.history_theorem.specs.Receiver.{Sealed, Handed, Call, Inbound}
+use Rattle.waiting_laws.specs.Answers.{answered}
+use Rattle.waiting_laws.specs.Calls.{Stores, SendCall, fill·}
+use Rattle.history_theorem.specs.Claim.{Masks}
+use Rattle.history_theorem.specs.Receiver.{Sealed, Inbound, Call, begin·, read·, open·, openOver·, begins}
 use Rattle.history_theorem.specs.Sound.{Sound}
 use Rattle.ends_theorem.specs.Claim.{Holds, Startable}
-use Rattle.ends_theorem.specs.Flights.{Arrived, Held}
-use Rattle.ends_theorem.specs.Proof.{every-list}
-use Rattle.ends_theorem.specs.Sender.{Taken, lentBy}
-use Rattle.waiting_laws.specs.Calls.{Stores, SendCall, fill·, stored, lending, Short}
-use Rattle.ends_theorem.specs.Ledger.{sentBy}
-use Rattle.ends_theorem.specs.Starting.{sending-starts, receiving-starts}
+use Rattle.ends_theorem.specs.Every.{every-does}
+use Rattle.ends_theorem.specs.Ledger.{owed}
+use Rattle.ends_theorem.specs.Proof.{Good, run-keeps, new-good, every-list}
 use Rattle.ends_theorem.specs.Sender as world
-use Rattle.ends_theorem.specs.World.{Side, post, gateway, far, End, Deed, sending, over, receiving, Event, World, acts, step, run, Setting, newEnd, fresh-pair, FairDeed, Honest}
-use Rattle.hosts_theorem.specs.Memory.{Host, Act, receives, «husk_sending_sealing», tells, tellsOver, «host_seals», behindIn, Made, behind}
-use Rattle.hosts_theorem.specs.Claim.{Hosts, CCall, after, runs, AllMade, Started, callsOf, sendOf, hearing, deedsOf, at, eventsOf, AgreesIn, AgreesOut, Agrees, Answered, AllAnswered, FairAct, AllFair, Saw, EveryListOfCalls}
-use Rattle.hosts_theorem.specs.In.{doesAll, AllFairCalls, all-sound, in-square, in-answer, in-fair}
-use Rattle.hosts_theorem.specs.Out.{LentNow, lent-now, stored-one, out-square, over-square, over-agrees, seals-square, out-answer, out-fair, sealing-shown}
+use Rattle.ends_theorem.specs.Sender.{lentBy}
+use Rattle.ends_theorem.specs.Starting.{sending-starts, receiving-starts}
+use Rattle.ends_theorem.specs.World.{Side, post, gateway, far, Count, End, Deed, sending, over, receiving, Event, World, takesIn, acts, step, run, Setting, newEnd, fresh-pair, FairDeed, Honest}
+use Rattle.hosts_theorem.specs.Memory.{InCall, «husk_receiving_key», «husk_receiving_remove», «husk_receiving_enable_encryption», «husk_receiving_release_application_data», «husk_receiving_begin», «husk_receiving_begin_read», «husk_receiving_read», «husk_receiving_mask», «husk_receiving_opened», «husk_receiving_read_over», «husk_receiving_mask_over», «husk_receiving_opened_over», «host_writes», lends}
+use Rattle.hosts_theorem.specs.Log.{storesOf, sendOf, count, countsTo, enteredIn, Host, Act, inward, «husk_sending_sealing», outward, outwardOver, «host_seals», Made, behind}
+use Rattle.hosts_theorem.specs.Claim.{Hosts, CCall, after, runs, AllMade, Stands, StandsIn, StandsOut, Started, callsOf, hearing, deedsOf, at, eventsOf, Answered, AllAnswered, FairDeeds, AllFair, sightOf, EveryListOfCalls}
+use Rattle.hosts_theorem.specs.In.{doesAll, in-square, in-stands, in-answer}
+use Rattle.hosts_theorem.specs.Out.{shows-now, sealing-answer, out-answer, out-square, out-stands, over-square, over-stands, fill-square, fill-stands}
 
 -- ---- some deeds at one end
 
@@ -55,135 +50,165 @@ run-both : (w : World) (us vs : List Event) → run w (us ++ vs) ≡ run (run w 
 run-both w [] vs = refl
 run-both w (u ∷ us) vs = run-both (step w u) us vs
 
--- ---- the deeds of a call
+-- ---- the deeds of a receiving call, with its counts
 
-heard-into : (f e : End) (cs : List Call) → (actsAll f e (hearing cs) .into ≡ doesAll (f .out .sealed) (e .into) cs) × (actsAll f e (hearing cs) .out ≡ e .out)
-heard-into f e [] = (refl, refl)
-heard-into f e (c ∷ cs) = heard-into f (acts f e (receiving c)) cs
+module _ (f e : End) where
+  chosen : (t : Bool) (cs ds : List Call) (xs ys : List Count) → (t ≡ true → takesIn e (doesAll (f .out .sealed) (e .into) cs) xs ≡ actsAll f e (hearing cs))
+      → (t ≡ false → takesIn e (doesAll (f .out .sealed) (e .into) ds) ys ≡ actsAll f e (hearing ds))
+      → takesIn e (doesAll (f .out .sealed) (e .into) (choose t cs ds)) (choose t xs ys) ≡ actsAll f e (hearing (choose t cs ds))
+  unfolding choose
+  chosen true cs ds xs ys p q = p refl
+  chosen false cs ds xs ys p q = q refl
+
+  heard-as : (c : InCall) → takesIn e (doesAll (f .out .sealed) (e .into) (callsOf c)) (countsTo e c) ≡ actsAll f e (hearing (callsOf c))
+  heard-as («husk_receiving_key» r v k iv) = refl
+  heard-as («husk_receiving_remove» r v k) = refl
+  heard-as («husk_receiving_enable_encryption» r v) = refl
+  heard-as («husk_receiving_release_application_data» r v) = refl
+  heard-as («husk_receiving_begin» r v d) = refl
+  heard-as («husk_receiving_begin_read» r v d) =
+      chosen (ltb 16384 (length d)) (begin· d ∷ []) (begin· d ∷ read· ∷ []) _ _ (λ t. refl)
+      (λ t.
+      ap (λ (n : ℕ). takesIn e (doesAll (f .out .sealed) (e .into) (begin· d ∷ read· ∷ [])) (count e n (count e (suc (e .into .lastSerial)) (e .counts))))
+      (sym (if-false (e .into .serial) (suc (e .into .lastSerial)) t)))
+  heard-as («husk_receiving_read» r v) = refl
+  heard-as («husk_receiving_mask» r v n₀ n₁ b) = refl
+  heard-as («husk_receiving_opened» r v o len) = chosen (leb o 1) (open· (openingOf o len) ∷ []) [] _ _ (λ t. refl) (λ t. refl)
+  heard-as («husk_receiving_read_over» r v d) = refl
+  heard-as («husk_receiving_mask_over» r v n₀ n₁ b d) = refl
+  heard-as («husk_receiving_opened_over» r v o len d) = chosen (leb o 1) (openOver· (openingOf o len) d ∷ []) [] _ _ (λ t. refl) (λ t. refl)
+  heard-as («host_writes» r p) = refl
 
 module _ (masks : Side → Masks) where
+  -- ---- what is asked
+
   abbrev FairAll : Side → End → End → List Deed → Type 0
   FairAll s f e [] = Unit {0}
   FairAll s f e (d ∷ ds) = FairDeed masks s f e d × FairAll s f (acts f e d) ds
 
-  honest-at : (s : Side) (w : World) (ds : List Deed) (vs : List Event) → FairAll s (w (far s)) (w s) ds → Honest masks (run w (at s ds)) vs
-      → Honest masks w (at s ds ++ vs)
-  honest-at post w [] vs g h = h
-  honest-at post w (d ∷ ds) vs g h = (g .0, honest-at post (step w (record { side = post; deed = d })) ds vs (g .1) h)
-  honest-at gateway w [] vs g h = h
-  honest-at gateway w (d ∷ ds) vs g h = (g .0, honest-at gateway (step w (record { side = gateway; deed = d })) ds vs (g .1) h)
+  honest-at : (s : Side) (w : World) (ds : List Deed) → FairAll s (w (far s)) (w s) ds → Honest masks w (at s ds)
+  honest-at post w [] g = tt
+  honest-at post w (d ∷ ds) g = (g .0, honest-at post (step w (record { side = post; deed = d })) ds (g .1))
+  honest-at gateway w [] g = tt
+  honest-at gateway w (d ∷ ds) g = (g .0, honest-at gateway (step w (record { side = gateway; deed = d })) ds (g .1))
 
-  fair-heard : (s : Side) (f e : End) (cs : List Call) → FairAll s f e (hearing cs) → AllFairCalls (masks (far s)) (f .out .sealed) (e .into) cs
-  fair-heard s f e [] h = tt
-  fair-heard s f e (c ∷ cs) h = (h .0, fair-heard s f (acts f e (receiving c)) cs (h .1))
+  honest-both : (w : World) (us vs : List Event) → Honest masks w us → Honest masks (run w us) vs → Honest masks w (us ++ vs)
+  honest-both w [] vs g h = h
+  honest-both w (u ∷ us) vs g h = (g .0, honest-both (step w u) us vs (g .1) h)
 
-  heard-fair : (s : Side) (f e : End) (cs : List Call) → AllFairCalls (masks (far s)) (f .out .sealed) (e .into) cs → FairAll s f e (hearing cs)
-  heard-fair s f e [] h = tt
-  heard-fair s f e (c ∷ cs) h = (h .0, heard-fair s f (acts f e (receiving c)) cs (h .1))
+  module _ (s : Side) (f e : End) where
+    fair-chosen : (t : Bool) (cs ds : List Call) → (FairDeeds masks s f e (hearing cs) → FairAll s f e (hearing cs)) → (FairDeeds masks s f e (hearing ds) → FairAll s f e (hearing ds))
+        → FairDeeds masks s f e (hearing (choose t cs ds)) → FairAll s f e (hearing (choose t cs ds))
+    unfolding choose
+    fair-chosen true cs ds p q = p
+    fair-chosen false cs ds p q = q
 
-  -- ---- the MTU and the limit of an end stay
+    fair-heard : (c : InCall) → FairDeeds masks s f e (hearing (callsOf c)) → FairAll s f e (hearing (callsOf c))
+    fair-heard («husk_receiving_key» r v k iv) g = g
+    fair-heard («husk_receiving_remove» r v k) g = g
+    fair-heard («husk_receiving_enable_encryption» r v) g = g
+    fair-heard («husk_receiving_release_application_data» r v) g = g
+    fair-heard («husk_receiving_begin» r v d) g = g
+    fair-heard («husk_receiving_begin_read» r v d) g = fair-chosen (ltb 16384 (length d)) (begin· d ∷ []) (begin· d ∷ read· ∷ []) (λ k. k) (λ k. (tt, (tt, tt))) g
+    fair-heard («husk_receiving_read» r v) g = g
+    fair-heard («husk_receiving_mask» r v n₀ n₁ b) g = g
+    fair-heard («husk_receiving_opened» r v o len) g = fair-chosen (leb o 1) (open· (openingOf o len) ∷ []) [] (λ k. k) (λ k. k) g
+    fair-heard («husk_receiving_read_over» r v d) g = g
+    fair-heard («husk_receiving_mask_over» r v n₀ n₁ b d) g = g
+    fair-heard («husk_receiving_opened_over» r v o len d) g = fair-chosen (leb o 1) (openOver· (openingOf o len) d ∷ []) [] (λ k. k) (λ k. k) g
+    fair-heard («host_writes» r p) g = g
 
-  record Own (z : Setting) (e : End) : Type 0 where
-    mtu : e .mtu ≡ z .mtu
-    limit : e .limit ≡ z .limit
+    fair : (a : Act) → FairDeeds masks s f e (deedsOf a) → FairAll s f e (deedsOf a)
+    fair (inward c) g = fair-heard c g
+    fair («husk_sending_sealing» r) g = g
+    fair (outward c) g = g
+    fair (outwardOver c q k) g = g
+    fair («host_seals» r bytes) g = g
 
-  own-acts : (z : Setting) (f e : End) (d : Deed) → Own z e → Own z (acts f e d)
-  own-acts z f e (sending c) o = record { mtu = o .mtu; limit = o .limit }
-  own-acts z f e (over c q k) o = record { mtu = o .mtu; limit = o .limit }
-  own-acts z f e (receiving c) o = record { mtu = o .mtu; limit = o .limit }
+  -- ---- one call at one host; f the far host
 
-  own-all : (z : Setting) (f e : End) (ds : List Deed) → Own z e → Own z (actsAll f e ds)
-  own-all z f e [] o = o
-  own-all z f e (d ∷ ds) o = own-all z f (acts f e d) ds (own-acts z f e d o)
+  -- what a sending call is owed it is answered
+  abbrev Owes : End → Act → Type 0
+  Owes e (inward c) = Unit {0}
+  Owes e («husk_sending_sealing» r) = Unit {0}
+  Owes e (outward c) = answered (e .out .stores) (sendOf c) ≡ owed (e .ledger) (sendOf c)
+  Owes e (outwardOver c q k) = Unit {0}
+  Owes e («host_seals» r bytes) = Unit {0}
 
-  -- ---- one call at one end
+  owes : (w : World) → Good masks w → (s : Side) (a : Act) → FairDeeds masks s (w (far s)) (w s) (deedsOf a) → Owes (w s) a
+  owes w g s (inward c) h = tt
+  owes w g s («husk_sending_sealing» r) h = tt
+  owes w g s (outward c) h = every-does (masks s) (w s .out) (w s .ledger) (sendOf c) (g .matches s) (h .0 .0) .reply
+  owes w g s (outwardOver c q k) h = tt
+  owes w g s («host_seals» r bytes) h = tt
 
-  record Keeps (s : Side) (z : Setting) (h : Host) (e : End) : Type 0 where
-    agrees : Agrees h e
-    sound : Sound (e .into .into)
-    lent : LentNow (e .out)
-    own : Own z e
+  module _ (f h : Host) (o : Stands h) where
+    square : Sound (h .seen .into .into) → (a : Act) → Made h a → Owes (h .seen) a → behind f h a .seen ≡ actsAll (f .seen) (h .seen) (deedsOf a)
+    square z (inward c) m d =
+        ap (λ (i : Inbound). takesIn (h .seen) i (countsTo (h .seen) c)) (in-square (h .incoming) (h .seen .into) (o .incoming) (f .seen .out .sealed) z c m)
+        ∙ heard-as (f .seen) (h .seen) c
+    square z («husk_sending_sealing» r) m d = refl
+    square z (outward c) m d = out-square (h .outgoing) (h .seen) (o .outgoing) (f .seen) c m d
+    square z (outwardOver c q k) m d = over-square (h .outgoing) (h .seen) (o .outgoing) c q k m (f .seen)
+    square z («host_seals» r bytes) m d = fill-square (h .outgoing) (h .seen) (o .outgoing) r bytes (m .0) (m .1) (m .2) (f .seen)
 
-  -- what is asked of the host is what the claim asks; g and f are the far host and its end
-  fair : (s : Side) (z : Setting) (h g : Host) (f e : End) → Keeps s z h e → Agrees g f → (a : Act) → FairAct masks s z g h a → FairAll s f e (deedsOf a)
-  fair s z h g f e k b (receives c) m =
-      heard-fair s f e (callsOf c) (in-fair (h .incoming) (e .into) (k .agrees .incoming) (masks (far s)) (f .out .sealed) (g .outgoing .sealed) (b .outgoing .sealed) (k .sound) c m)
-  fair s z h g f e k b («husk_sending_sealing» r) m = tt
-  fair s z h g f e k b (tells c) m =
-      (out-fair (h .outgoing) (e .out) (sentBy (e .ledger) (sendOf c)) (k .agrees .outgoing) (masks s) (f .into .into .handed) (g .incoming .handed) (b .incoming .handed) c m, tt)
-  fair s z h g f e k b (tellsOver c q j) m =
-      (subst (λ (n : ℕ). Short (e .mtu) n q j (sendOf c)) (sym (k .own .limit)) (subst (λ (n : ℕ). Short n (z .limit) q j (sendOf c)) (sym (k .own .mtu)) m), tt)
-  fair s z h g f e k b («host_seals» r bytes) m = ((tt, tt), tt)
+    stands-on : (a : Act) → Made h a → Stands (behind f h a)
+    stands-on (inward c) m = record {
+      incoming = in-stands (h .incoming) (h .seen .into) (o .incoming) (f .seen .out .sealed) c m;
+      outgoing = record { flat = o .outgoing .flat; flat-flight = o .outgoing .flat-flight; stores = o .outgoing .stores; shown = o .outgoing .shown };
+    }
+    stands-on («husk_sending_sealing» r) m = o
+    stands-on (outward c) m = record { incoming = o .incoming; outgoing = out-stands (h .outgoing) (h .seen) (o .outgoing) c m }
+    stands-on (outwardOver c q k) m = record { incoming = o .incoming; outgoing = over-stands (h .outgoing) (h .seen) (o .outgoing) c q k m }
+    stands-on («host_seals» r bytes) m = record { incoming = o .incoming; outgoing = fill-stands (h .outgoing) (h .seen) (o .outgoing) r bytes (m .0) (m .1) (m .2) }
 
-  square : (s : Side) (z : Setting) (h : Host) (f e : End) → Keeps s z h e → (a : Act) → Made h a → FairAll s f e (deedsOf a) → Keeps s z (behind h a) (actsAll f e (deedsOf a))
-  square s z h f e k (receives c) m g =
-      let l = heard-into f e (callsOf c) in record {
-        agrees = record {
-          incoming = subst (AgreesIn (behindIn (h .incoming) c)) (sym (l .0)) (in-square (h .incoming) (e .into) (k .agrees .incoming) (f .out .sealed) (k .sound) c m);
-          outgoing = subst (AgreesOut (h .outgoing)) (sym (l .1)) (k .agrees .outgoing);
-        };
-        sound = subst (λ (j : Inbound). Sound (j .into)) (sym (l .0)) (all-sound (masks (far s)) (f .out .sealed) (e .into) (k .sound) (callsOf c) (fair-heard s f e (callsOf c) g));
-        lent = subst LentNow (sym (l .1)) (k .lent);
-        own = own-all z f e (hearing (callsOf c)) (k .own);
-      }
-  square s z h f e k («husk_sending_sealing» r) m g = k
-  square s z h f e k (tells c) m g = record {
-    agrees = record { incoming = k .agrees .incoming; outgoing = out-square (h .outgoing) (e .out) (sentBy (e .ledger) (sendOf c)) (k .agrees .outgoing) c m };
-    sound = k .sound;
-    lent = lent-now (e .out) (sentBy (e .ledger) (sendOf c)) (sendOf c);
-    own = own-acts z f e (sending (sendOf c)) (k .own);
-  }
-  square s z h f e k (tellsOver c q j) m g = record {
-    agrees = record { incoming = k .agrees .incoming; outgoing = over-square (h .outgoing) (e .out) (k .agrees .outgoing) c q j m };
-    sound = k .sound;
-    lent = (e .out .lent, refl);
-    own = own-acts z f e (over (sendOf c) q j) (k .own);
-  }
-  square s z h f e k («host_seals» r bytes) m g = record {
-    agrees = record {
-      incoming = k .agrees .incoming;
-      outgoing = seals-square (h .outgoing) (e .out) (k .agrees .outgoing) (sentBy (e .ledger) (fill· bytes)) r bytes (m .0) (m .1) (m .2);
-    };
-    sound = k .sound;
-    lent = lent-now (e .out) (sentBy (e .ledger) (fill· bytes)) (fill· bytes);
-    own = own-acts z f e (sending (fill· bytes)) (k .own);
-  }
-
-  answer : (s : Side) (z : Setting) (h : Host) (e : End) → Keeps s z h e → (a : Act) → Made h a → Answered e a
-  answer s z h e k (receives c) m = in-answer (h .incoming) (e .into) (k .agrees .incoming) c m
-  answer s z h e k («husk_sending_sealing» r) m = sealing-shown (h .outgoing) (e .out) [] (k .agrees .outgoing) (k .lent) r m
-  answer s z h e k (tells c) m = out-answer (h .outgoing) (e .out .stores) (k .agrees .outgoing .stores) c m
-  answer s z h e k (tellsOver c q j) m = out-answer _ _ (over-agrees (h .outgoing) (e .out .stores) q j (k .agrees .outgoing .stores)) c m
-  answer s z h e k («host_seals» r bytes) m = sealing-shown (h .outgoing) (e .out) [] (k .agrees .outgoing) (k .lent) r (m .0)
+    answer : (a : Act) → Made h a → Answered h a
+    answer (inward c) m = in-answer (h .incoming) (h .seen .into) (o .incoming) c m
+    answer («husk_sending_sealing» r) m = sealing-answer (h .outgoing) (h .seen) (o .outgoing) r m
+    answer (outward c) m = out-answer (h .outgoing) (o .outgoing .flat) (o .outgoing .flat-flight) c m
+    answer (outwardOver c q k) m = out-answer (lends (h .outgoing) q k) (o .outgoing .flat) (o .outgoing .flat-flight) c m
+    answer («host_seals» r bytes) m = sealing-answer (h .outgoing) (h .seen) (o .outgoing) r (m .0)
 
   -- ---- one call at one of two
 
-  module _ (settings : Side → Setting) where
-    abbrev KeepBoth : Hosts → World → Type 0
-    KeepBoth hs w = (s : Side) → Keeps s (settings s) (hs s) (w s)
+  module _ (hs : Hosts) (o : (s : Side) → Stands (hs s)) (g : Good masks (sightOf hs)) where
+    sight-on : (s : Side) (a : Act) → Made (hs s) a → Owes (hs s .seen) a → (t : Side)
+        → after hs (record { side = s; act = a }) t .seen ≡ run (sightOf hs) (at s (deedsOf a)) t
+    sight-on post a m d post = square (hs gateway) (hs post) (o post) (g .link post .sound) a m d ∙ sym (run-at post (sightOf hs) (deedsOf a) .0)
+    sight-on post a m d gateway = sym (run-at post (sightOf hs) (deedsOf a) .1)
+    sight-on gateway a m d post = sym (run-at gateway (sightOf hs) (deedsOf a) .1)
+    sight-on gateway a m d gateway = square (hs post) (hs gateway) (o gateway) (g .link gateway .sound) a m d ∙ sym (run-at gateway (sightOf hs) (deedsOf a) .0)
 
-    call-keeps : (s : Side) (a : Act) (hs : Hosts) (w : World) → KeepBoth hs w → Made (hs s) a → FairAll s (w (far s)) (w s) (deedsOf a)
-        → KeepBoth (after hs (record { side = s; act = a })) (run w (at s (deedsOf a)))
-    call-keeps post a hs w k m g post =
-        subst (Keeps post (settings post) (behind (hs post) a)) (sym (run-at post w (deedsOf a) .0)) (square post (settings post) (hs post) (w gateway) (w post) (k post) a m g)
-    call-keeps post a hs w k m g gateway = subst (Keeps gateway (settings gateway) (hs gateway)) (sym (run-at post w (deedsOf a) .1)) (k gateway)
-    call-keeps gateway a hs w k m g post = subst (Keeps post (settings post) (hs post)) (sym (run-at gateway w (deedsOf a) .1)) (k post)
-    call-keeps gateway a hs w k m g gateway =
-        subst (Keeps gateway (settings gateway) (behind (hs gateway) a)) (sym (run-at gateway w (deedsOf a) .0)) (square gateway (settings gateway) (hs gateway) (w post) (w gateway) (k gateway) a m g)
+    both-stand : (s : Side) (a : Act) → Made (hs s) a → (t : Side) → Stands (after hs (record { side = s; act = a }) t)
+    both-stand post a m post = stands-on (hs gateway) (hs post) (o post) a m
+    both-stand post a m gateway = o gateway
+    both-stand gateway a m post = o post
+    both-stand gateway a m gateway = stands-on (hs post) (hs gateway) (o gateway) a m
 
-    -- ---- a list of calls
+  -- ---- a list of calls
 
-    all-keep : (hs : Hosts) (w : World) (cs : List CCall) → KeepBoth hs w → AllMade hs cs → AllFair masks settings hs cs
-        → KeepBoth (runs hs cs) (run w (eventsOf cs)) × AllAnswered w cs × Honest masks w (eventsOf cs)
-    all-keep hs w [] k m h = (k, tt, tt)
-    all-keep hs w (c ∷ cs) k m h =
-        let s = c .side in
-        let g = fair s (settings s) (hs s) (hs (far s)) (w (far s)) (w s) (k s) (k (far s) .agrees) (c .act) (h .0) in
-        let r = all-keep (after hs c) (run w (at s (deedsOf (c .act)))) cs (call-keeps s (c .act) hs w k (m .0) g) (m .1) (h .1) in (
-          subst (KeepBoth (runs (after hs c) cs)) (sym (run-both w (at s (deedsOf (c .act))) (eventsOf cs))) (r .0),
-          (answer s (settings s) (hs s) (w s) (k s) (c .act) (m .0), r .1),
-          honest-at s w (deedsOf (c .act)) (eventsOf cs) g (r .2),
-        )
+  record Seen (hs : Hosts) (cs : List CCall) : Type 0 where
+    honest : Honest masks (sightOf hs) (eventsOf cs)
+    agrees : sightOf (runs hs cs) ≡ run (sightOf hs) (eventsOf cs)
+    stands : (s : Side) → Stands (runs hs cs s)
+    answered : AllAnswered hs cs
+
+  all-seen : (hs : Hosts) (cs : List CCall) → ((s : Side) → Stands (hs s)) → Good masks (sightOf hs) → AllMade hs cs → AllFair masks hs cs → Seen hs cs
+  all-seen hs [] o g m h = record { honest = tt; agrees = refl; stands = o; answered = tt }
+  all-seen hs (c ∷ cs) o g m h =
+      let s = c .side in
+      let us = at s (deedsOf (c .act)) in
+      let w = sightOf hs in
+      let one = honest-at s w (deedsOf (c .act)) (fair s (w (far s)) (w s) (c .act) (h .0)) in
+      let now : (t : Side) → after hs c t .seen ≡ run w us t = sight-on hs o g s (c .act) (m .0) (owes w g s (c .act) (h .0)) in
+      let seen : sightOf (after hs c) ≡ run w us = (λ i t. now t i) in
+      let rest = all-seen (after hs c) cs (both-stand hs o g s (c .act) (m .0)) (subst (Good masks) (sym seen) (run-keeps masks w us g one)) (m .1) (h .1) in
+      record {
+        honest = honest-both w us (eventsOf cs) one (subst (λ (v : World). Honest masks v (eventsOf cs)) seen (rest .honest));
+        agrees = rest .agrees ∙ ap (λ (v : World). run v (eventsOf cs)) seen ∙ sym (run-both w us (eventsOf cs));
+        stands = rest .stands;
+        answered = (answer (hs (far s)) (hs s) (o s) (c .act) (m .0), rest .answered);
+      }
 
 -- ---- the start
 
@@ -216,53 +241,27 @@ fresh-lent mtu limit q =
     (λ t. ap (λ (k : asked.Question). lentBy (k .question) (k .nonce) (k .header) none q) (sym (if-false _ _ refl))) (λ t. refl))
     (λ s. refl)
 
-starts : (masks : Side → Masks) (at : Side) (s : Setting) (h : Host) → Startable s → Started s h → Keeps masks at s h (newEnd s)
-starts masks at s h o t = record {
-  agrees = record {
-    incoming = record { flat = t .receiving .2; state = t .receiving .1; datagram = t .datagram; said = t .said; handed = t .handed; asked = t .asked };
-    outgoing = record {
-      stores = record {
-        flat = t .sending .2;
-        state = t .sending .1 ∙ fresh-state (s .mtu) (s .limit);
-        queue = t .queue;
-        flat-flight = t .flight .1;
-        flight = t .flight .0;
-        kept = t .kept;
-        notes = ap (λ (x : List ℕ). acks.notesOf x (h .outgoing .epochs) (h .outgoing .noted)) (t .count)
-            ∙ ap (λ (x : List ℕ). acks.notesOf (replicate 1 0) x (h .outgoing .noted)) (t .epochs)
-            ∙ ap (acks.notesOf (replicate 1 0) (replicate 32 0)) (t .noted) ∙ fresh-notes;
+starts : (s : Setting) (h : Host) → Started s h → Stands h
+starts s h t =
+    let e = sym (t .seen) in
+    let z = t .sending .1 ∙ fresh-state (s .mtu) (s .limit) in
+    let n : acks.notesOf (h .outgoing .count) (h .outgoing .epochs) (h .outgoing .noted) ≡ freshNotes =
+    (λ i. acks.notesOf (t .count i) (t .epochs i) (t .noted i)) ∙ fresh-notes in record {
+      incoming = record {
+        flat = t .receiving .2;
+        state = t .receiving .1 ∙ ap (λ (x : End). x .into .into .state) e;
+        datagram = t .datagram ∙ ap (λ (x : End). x .into .into .datagram) e;
       };
-      taken = t .taken;
-      shown = t .shown;
-      sealed = t .sealed;
-    };
-  };
-  sound = new-sound (s .min) (o .min);
-  lent = (none, fresh-lent (s .mtu) (s .limit) (s .queue));
-  own = record { mtu = refl; limit = refl };
-}
-
--- ---- what the hosts saw
-
-saw-of : (hs : Hosts) (w : World) (s : Side) (e : ℕ) → Agrees (hs s) (w s) → Agrees (hs (far s)) (w (far s)) → Holds w s e → Saw hs w s e
-saw-of hs w s e a b h =
-    let same = sym (a .incoming .handed) in record {
-      once = subst (λ (f : ℕ → List Handed). Once (f e)) same (h .received .once);
-      as-sealed = λ x m.
-          let r = h .received .as-sealed x (subst (λ (f : ℕ → List Handed). Mem x (f e)) (a .incoming .handed) m) in
-          (r .0, subst (λ (f : ℕ → List Sealed). Mem (r .0) (f e)) (sym (b .outgoing .sealed)) (r .1), r .2);
-      sealed-once = λ r q m n.
-          h .sealed-once r q (subst (λ (f : ℕ → List Sealed). Mem r (f e)) (b .outgoing .sealed) m) (subst (λ (f : ℕ → List Sealed). Mem q (f e)) (b .outgoing .sealed) n);
-      as-sent = λ x m.
-          let r = h .received .as-sealed x (subst (λ (f : ℕ → List Handed). Mem x (f e)) (a .incoming .handed) m) in
-          subst (λ (v : Handed). Mem v (w (far s) .out .books .sent e)) (sym (r .2)) (h .sealed-sent (r .0) (r .1));
-      none-left-out = λ d m r due. subst (λ (f : ℕ → List Handed). Mem (asHanded r) (f e)) same (h .received .none-left-out d m r due);
-      flight-held =
-          subst (λ (f : Flight). Held (w (far s) .mtu) f (hs (far s) .outgoing .kept) 0 (w (far s) .ledger .saved)) (sym (b .outgoing .stores .flight))
-          (subst (λ (l : List ℕ). Held (w (far s) .mtu) (w (far s) .out .stores .flight) l 0 (w (far s) .ledger .saved)) (sym (b .outgoing .stores .kept)) (h .flight-held));
-      acked-handed = λ k two m t. subst (λ (f : ℕ → List Handed). Arrived f k) same (h .acked-handed k two m t);
-      cleared-handed = λ k m. subst (λ (f : ℕ → List Handed). Arrived f k) same (h .cleared-handed k m);
-      taken-lines = subst (λ (ts : List (List ℕ)). Taken ts (w (far s) .out .books .lines)) (sym (b .outgoing .taken)) (h .taken-lines);
+      outgoing = record {
+        flat = t .sending .2;
+        flat-flight = t .flight .1;
+        stores = (λ i. record { state = z i; queue = t .queue i; flight = t .flight .0 i; kept = t .kept i; notes = n i }) ∙ ap (λ (x : End). x .out .stores) e;
+        shown = (
+          none,
+          sym (ap (λ (x : End). x .out .lent) e) ∙ fresh-lent (s .mtu) (s .limit) (h .outgoing .queue)
+              ∙ ap (λ (x : Sending). world.lends x (h .outgoing .queue) none) (sym z) ∙ sym (shows-now (h .outgoing) (t .sending .2) none),
+        );
+      };
     }
 
 -- ---- every list of calls
@@ -270,11 +269,15 @@ saw-of hs w s e a b h =
 pub every-list-of-calls : EveryListOfCalls
 every-list-of-calls settings hs st masks cs made fair =
     let ok : (s : Side) → Startable (settings s) = λ s. startable (settings s) (hs s) (st s) in
-    let k = all-keep masks settings hs (fresh-pair settings) cs (λ s. starts masks s (settings s) (hs s) (ok s) (st s)) made fair in
-    let holds = every-list settings ok masks (eventsOf cs) (k .2) in record {
-      honest = k .2;
-      agrees = λ s. k .0 s .agrees;
-      answered = k .1;
+    let first : sightOf hs ≡ fresh-pair settings = (λ i s. st s .seen i) in
+    let k = all-seen masks hs cs (λ s. starts (settings s) (hs s) (st s)) (subst (Good masks) (sym first) (new-good masks settings ok)) made fair in
+    let honest = subst (λ (w : World). Honest masks w (eventsOf cs)) first (k .honest) in
+    let agrees = k .agrees ∙ ap (λ (w : World). run w (eventsOf cs)) first in
+    let holds = every-list settings ok masks (eventsOf cs) honest in record {
+      honest = honest;
+      agrees = λ s. ap (λ (w : World). w s) agrees;
+      stands = k .stands;
+      answered = k .answered;
       holds = holds;
-      saw = λ s e. saw-of (runs hs cs) (run (fresh-pair settings) (eventsOf cs)) s e (k .0 s .agrees) (k .0 (far s) .agrees) (holds s e);
+      saw = λ s e. subst (λ (w : World). Holds w s e) (sym agrees) (holds s e);
     }
