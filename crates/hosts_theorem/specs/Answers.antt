@@ -47,7 +47,7 @@ use Rattle.recv_calls.specs.Flat.{flatReading}
 use Rattle.recv_calls.specs.declared.LinkReading.{LinkReading}
 use Rattle.send_calls.specs.Calls.{flatSealing}
 use Rattle.send_calls.specs.declared.LinkSealing.{LinkSealing}
-use Rattle.history_theorem.specs.Receiver.{Out, outOf}
+use Rattle.history_theorem.specs.Receiver.{outOf}
 use Rattle.ends_theorem.specs.World.{givenIn}
 use Rattle.hosts_theorem.specs.Log.{flatRead, reasonIn, readingOf, outBy}
 

@@ -1,12 +1,13 @@
 -- Every list of calls of the C library on two hosts: the events of crate ends_theorem that it is, and the claim of what the hosts saw.
-use Prim.Native.Nat.{ℕ, _+_, _*_, _≤_}
+use Prim.Native.Nat.{ℕ, _+_, _*_, _≤_, _<_}
 use lib.Dec.{leb, ltb}
 use lib.ListN.{length, replicate}
-use mathlib.Core.Bool.{true, false}
+use mathlib.Core.Bool.{true}
 use mathlib.Core.List.{List, [], _∷_, _++_}
 use mathlib.Core.Option.{Option, none, some}
 use mathlib.Core.Path.{_≡_}
 use Rattle.base.specs.Choose.{choose}
+use Rattle.datagram.specs.declared.Reading.the-variants as says
 use Rattle.receiving.specs.Receiving.{keyOf, removeOf, encryptOf, releaseOf, beginOf, readOf, maskOf, openedOf}
 use Rattle.outgoing.specs.State.{keyingState}
 use Rattle.outgoing.specs.Send.{sendAnswer, sendState}
@@ -30,14 +31,15 @@ use Rattle.send_calls.specs.Calls as sends
 use Rattle.send_calls.specs.declared.LinkSealing.{LinkSealing}
 use Rattle.flight_calls.specs.Calls as flights
 use Rattle.waiting_laws.specs.Calls.{Stores, fill·}
-use Rattle.history_theorem.specs.Claim.{Masks}
-use Rattle.history_theorem.specs.Receiver.{Inbound, Call, key·, remove·, encrypt·, release·, begin·, read·, mask·, write·, open·, readOver·, maskOver·, openOver·}
+use Rattle.history_theorem.specs.Account.{sealedHead, nothing, keyOwed}
+use Rattle.history_theorem.specs.Claim.{Masks, Proper}
+use Rattle.history_theorem.specs.Receiver.{aRead, aMaskReply, anOpenReply, removeOwed, beginOwed, Inbound, Call, key·, remove·, encrypt·, release·, begin·, read·, mask·, write·, open·, readOver·, maskOver·, openOver·}
 use Rattle.ends_theorem.specs.Claim.{Holds}
-use Rattle.ends_theorem.specs.Ledger.{newLedger}
+use Rattle.ends_theorem.specs.Ledger.{Item, items, oldest, owed, shortReply}
 use Rattle.ends_theorem.specs.Sender.{Lent}
 use Rattle.ends_theorem.specs.World.{Side, post, gateway, far, End, Deed, sending, over, receiving, Event, World, run, Setting, newEnd, fresh-pair, FairDeed, Honest}
-use Rattle.hosts_theorem.specs.Memory.{Incoming, Outgoing, InCall, «husk_receiving_key», «husk_receiving_remove», «husk_receiving_enable_encryption», «husk_receiving_release_application_data», «husk_receiving_begin», «husk_receiving_begin_read», «husk_receiving_read», «husk_receiving_mask», «husk_receiving_opened», «husk_receiving_read_over», «husk_receiving_mask_over», «husk_receiving_opened_over», «host_writes», OutCall, «husk_sending_key», «husk_sending_send», «husk_sending_sealed», «husk_sending_take», «husk_sending_take_in_place», «husk_flight_begin», «husk_flight_send», «husk_flight_message», «husk_flight_resend», «husk_flight_ack», «husk_notes_add», «husk_notes_send», lends}
-use Rattle.hosts_theorem.specs.Log.{flatRead, Host, Act, inward, «husk_sending_sealing», outward, outwardOver, «host_seals», Made, behind, storesOf, sealingOf, showsNow, sendOf}
+use Rattle.hosts_theorem.specs.Memory.{Incoming, Outgoing, InCall, «husk_receiving_key», «husk_receiving_remove», «husk_receiving_enable_encryption», «husk_receiving_release_application_data», «husk_receiving_begin», «husk_receiving_begin_read», «husk_receiving_read», «husk_receiving_mask», «husk_receiving_opened», «husk_receiving_read_over», «husk_receiving_mask_over», «husk_receiving_opened_over», «host_writes», OutCall, «husk_sending_key», «husk_sending_send», «husk_sending_sealed», «husk_sending_take», «husk_sending_take_in_place», «husk_flight_begin», «husk_flight_send», «husk_flight_message», «husk_flight_resend», «husk_flight_ack», «husk_notes_add», «husk_notes_send», behindOut, lends}
+use Rattle.hosts_theorem.specs.Log.{flatRead, readingOf, replyOf, Host, Act, inward, «husk_sending_sealing», outward, outwardOver, «host_seals», Made, behind, storesOf, sealingOf, showsNow, sendOf}
 
 -- ---- two hosts and a list of calls
 
@@ -195,6 +197,46 @@ abbrev pub AllAnswered : Hosts → List CCall → Type 0
 AllAnswered hs [] = Unit {0}
 AllAnswered hs (a ∷ cs) = Answered (hs (a .side)) (a .act) × AllAnswered (after hs a) cs
 
+-- ---- and it is the one that the host's own account owes the call
+
+-- keying, removing, peer encryption, release and beginning: the number owed; reading: as the question that waits demands; over a datagram of another
+-- length: 15, and the bytes stay; a reply neither 0 nor 1: 12
+abbrev pub OwedIn : Inbound → InCall → Type 0
+OwedIn i («husk_receiving_key» r v epoch iv) = r ≡ keyOwed (i .into .account) epoch
+OwedIn i («husk_receiving_remove» r v epoch) = r ≡ removeOwed (i .into) epoch
+OwedIn i («husk_receiving_enable_encryption» r v) = r ≡ 0
+OwedIn i («husk_receiving_release_application_data» r v) = r ≡ 0
+OwedIn i («husk_receiving_begin» r v d) = r ≡ beginOwed d
+OwedIn i («husk_receiving_begin_read» r v d) = (16384 < length d → r ≡ bare 0 1) × (length d ≤ 16384 → Proper aRead nothing (readingOf r))
+OwedIn i («husk_receiving_read» r v) = Proper aRead (i .into .account .waits) (readingOf r)
+OwedIn i («husk_receiving_mask» r v m n e) = Proper aMaskReply (i .into .account .waits) (readingOf r)
+OwedIn i («husk_receiving_opened» r v o len) =
+    (o ≤ 1 → Proper (anOpenReply (openingOf o len)) (i .into .account .waits) (readingOf r)) × (1 < o → r ≡ bare 0 12)
+OwedIn i («husk_receiving_read_over» r v d) = readingOf r ≡ says.Reply
+OwedIn i («husk_receiving_mask_over» r v m n e d) = (readingOf r ≡ says.Reply) × (e ≡ d)
+OwedIn i («husk_receiving_opened_over» r v o len d) = (o ≤ 1 → readingOf r ≡ says.Reply) × (1 < o → r ≡ bare 0 12)
+-- no call
+OwedIn i («host_writes» r p) = Unit {0}
+
+-- a sealing is asked exactly while a record waits, for the oldest
+abbrev pub OwedSealing : Option Item → LinkSealing → Type 0
+OwedSealing none r = r .kind ≡ 2 → ⊥
+OwedSealing (some i) r = (r .kind ≡ 2) × (r .epoch ≡ i .epoch) × (r .number ≡ i .num) × (r .length + sealedHead ≡ i .size)
+
+-- a sending call: 01's number and what is told besides; over memory that is too short 12, and no byte of it changes
+abbrev pub Owed : Host → Act → Type 0
+Owed h (inward c) = OwedIn (h .seen .into) c
+Owed h («husk_sending_sealing» r) = OwedSealing (oldest (items (h .seen .ledger .queue))) r
+Owed h (outward c) = replyOf (h .outgoing) c ≡ owed (h .seen .ledger) (sendOf c)
+Owed h (outwardOver c q k) =
+    let m = lends (h .outgoing) q k in
+    (replyOf m c ≡ shortReply (sendOf c)) × (behindOut m c .queue ≡ q) × (behindOut m c .kept ≡ k)
+Owed h («host_seals» r bytes) = OwedSealing (oldest (items (h .seen .ledger .queue))) r
+
+abbrev pub AllOwed : Hosts → List CCall → Type 0
+AllOwed hs [] = Unit {0}
+AllOwed hs (a ∷ cs) = Owed (hs (a .side)) (a .act) × AllOwed (after hs a) cs
+
 -- ---- what is asked of the hosts: what the claim asks of each event, by what the hosts saw. Of the two that husk_receiving_begin_read is nothing is
 -- asked, so each is asked before the call
 
@@ -220,7 +262,9 @@ pub record Refines (masks : Side → Masks) (settings : Side → Setting) (hs : 
   -- the hosts saw the world that the events lead to, and their words stand for its states
   pub agrees : (s : Side) → runs hs cs s .seen ≡ run (fresh-pair settings) (eventsOf cs) s
   pub stands : (s : Side) → Stands (runs hs cs s)
+  -- every answer in the list is the definition's, and the one that the account owes
   pub answered : AllAnswered hs cs
+  pub owed : AllOwed hs cs
   -- the claim of that world, and of what the hosts saw
   pub holds : (s : Side) (e : ℕ) → Holds (run (fresh-pair settings) (eventsOf cs)) s e
   pub saw : (s : Side) (e : ℕ) → Holds (sightOf (runs hs cs)) s e

@@ -1,11 +1,9 @@
 -- Hosts that start: for every setting in range the words that the three starting calls leave, so that the claim is not hollow. Assumes nothing.
-use Prim.Native.Nat.{ℕ, _≤_}
-use borrow.Author.Tests.{le-ltb}
+use Prim.Native.Nat.{ℕ}
 use lib.ListN.{replicate, set}
-use mathlib.Core.Bool.{true}
 use mathlib.Core.List.{List, []}
 use mathlib.Core.Path.{_≡_, refl, sym, ap, _∙_}
-use Rattle.base.specs.Choose.{both, if-true, if-false, by-test}
+use Rattle.base.specs.Choose.{by-test}
 use Rattle.receiving.specs.Receiving.{freshOf}
 use Rattle.receiving.specs.declared.Kept.{Kept}
 use Rattle.recv_keys.specs.Keys.{fresh}
@@ -18,7 +16,6 @@ use Rattle.recv_key_steps.specs.Kept as kept
 use Rattle.send_words.specs.Words.{words, mtu-at, limit-at}
 use Rattle.flight_words.specs.Words as flightWords
 use Rattle.send_calls.specs.Calls.{starts-done}
-use Rattle.recv_calls.specs.Flat.{answerOf}
 use Rattle.flight_calls.specs.Calls as flights
 use Rattle.ends_theorem.specs.Claim.{Startable}
 use Rattle.ends_theorem.specs.Starting.{ranges-setting, receiving-starts}

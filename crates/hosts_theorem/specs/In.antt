@@ -1,6 +1,5 @@
 -- Each receiving call of the C library, entered in the host's log, is the claim's call. Assumes nothing.
 use Prim.Native.Nat.{ℕ, suc, _+_, _≤_}
-use borrow.Author.Tests.{ltb-false}
 use lib.Dec.{eqb, leb, ltb}
 use lib.ListN.{length}
 use mathlib.Core.Bool.{Bool, true, false}
@@ -14,7 +13,6 @@ use Rattle.datagram.specs.declared.Question.{Question}
 use Rattle.opening_reply.specs.declared.Opening.{Opening}
 use Rattle.receiving.specs.Receiving.{answerNumber, keyOf, removeOf, encryptOf, releaseOf, beginOf, readOf, maskOf, openedOf}
 use Rattle.receiving.specs.declared.Kept.{Kept}
-use Rattle.receiving.specs.declared.Read.{Read}
 use Rattle.receiving.specs.declared.Receiving.{Receiving}
 use Rattle.recv_keys.specs.declared.RecvKeys.{RecvKeys}
 use Rattle.recv_words.specs.Words.{isFlat}
@@ -24,10 +22,10 @@ use Rattle.recv_calls.specs.Calls as receive
 use Rattle.recv_calls.specs.declared.LinkReading.{LinkReading}
 use Rattle.history_theorem.specs.Account.{Shown, keyOwed, keys}
 use Rattle.history_theorem.specs.Calls.{begin-told}
-use Rattle.history_theorem.specs.Receiver.{Sealed, Trial, Receiver, Out, outOf, withState, flagged, removedFrom, removed, removeOwed, begun, startsOn, beginOwed, begins, writtenIn, readBy, maskBy, openBy, readOut, maskOut, openOut, afterRead, afterMask, afterOpen, useOf, fateOf, unused, logs, strays, Inbound, takes, tells, Call, begin·, read·, mask·, write·, open·, openOver·, does}
+use Rattle.history_theorem.specs.Receiver.{Sealed, Trial, Receiver, Out, withState, flagged, removedFrom, removed, removeOwed, begun, startsOn, beginOwed, begins, writtenIn, maskBy, openBy, readOut, maskOut, openOut, afterRead, afterMask, afterOpen, useOf, fateOf, unused, logs, strays, Inbound, takes, tells, Call, begin·, read·, mask·, write·, open·, openOver·, does}
 use Rattle.history_theorem.specs.Sound.{UnderWay, Sound}
 use Rattle.hosts_theorem.specs.Memory.{Incoming, InCall, «husk_receiving_key», «husk_receiving_remove», «husk_receiving_enable_encryption», «husk_receiving_release_application_data», «husk_receiving_begin», «husk_receiving_begin_read», «husk_receiving_read», «husk_receiving_mask», «husk_receiving_opened», «husk_receiving_read_over», «husk_receiving_mask_over», «husk_receiving_opened_over», «host_writes», MadeIn, behindIn}
-use Rattle.hosts_theorem.specs.Log.{flatRead, readingOf, outBy, removedTo, beginsTo, accepted, refused, reads, rewords, withBytes, enteredIn}
+use Rattle.hosts_theorem.specs.Log.{flatRead, outBy, removedTo, beginsTo, accepted, refused, reads, rewords, withBytes, enteredIn}
 use Rattle.hosts_theorem.specs.Answers.{writesIn, read-names, read-nonce, mask-nonce, open-nonce, entered}
 use Rattle.hosts_theorem.specs.Claim.{StandsIn, callsOf, AnsweredIn}
 
@@ -205,16 +203,22 @@ module _ (h : Incoming) (i : Inbound) (a : StandsIn h i) where
       ∙ ap (λ (j : Inbound). does sealed j read·) (begins-fits i d 0 z t)
 
   -- refused: nothing is read
+  pub long-answer : Sound y → (r : LinkReading) (v d : List ℕ) → receive.BeginReadCall r v w d → ltb 16384 (length d) ≡ true → r ≡ bare 0 1
+  unfolding receive.firstReading beginOwed
+  long-answer o r v d m t =
+      let z : answerNumber (beginOf (y .state) (length d) .answer) ≡ 1 = begin-told y o d ∙ if-true _ _ t in
+      m .0 ∙ if-true _ _ (a .flat) ∙ ap (λ (x : Receiving). receive.firstReading (beginOf x (length d)) d) (a .state)
+      ∙ if-false _ _ (ap (λ (n : ℕ). eqb n 0) z) ∙ ap (bare 0) z
+
   long-square : Sound y → (r : LinkReading) (v d : List ℕ) → receive.BeginReadCall r v w d → ltb 16384 (length d) ≡ true
       → refused i (stateOf v) (r .refusal) d ≡ begins i d
-  unfolding receive.firstReading receive.firstState beginOwed
+  unfolding receive.firstState beginOwed
   long-square o r v d m t =
       let z : answerNumber (beginOf (y .state) (length d) .answer) ≡ 1 = begin-told y o d ∙ if-true _ _ t in
-      let q : eqb (answerNumber (beginOf (y .state) (length d) .answer)) 0 ≡ false = ap (λ (n : ℕ). eqb n 0) z in
-      let e = m .0 ∙ if-true _ _ (a .flat) ∙ ap (λ (x : Receiving). receive.firstReading (beginOf x (length d)) d) (a .state) ∙ if-false _ _ q in
       ap (λ (s : Receiving). refused i s (r .refusal) d)
-      (m .1 ∙ if-true _ _ (a .flat) ∙ ap (λ (x : Receiving). receive.firstState (beginOf x (length d)) d) (a .state) ∙ if-false _ _ q)
-      ∙ begins-long i d (r .refusal) (ap (λ (x : LinkReading). x .refusal) e) t
+      (m .1 ∙ if-true _ _ (a .flat) ∙ ap (λ (x : Receiving). receive.firstState (beginOf x (length d)) d) (a .state)
+      ∙ if-false _ _ (ap (λ (n : ℕ). eqb n 0) z))
+      ∙ begins-long i d (r .refusal) (ap (λ (x : LinkReading). x .refusal) (long-answer o r v d m t) ∙ sym z) t
 
   -- ---- every receiving call
 
@@ -288,7 +292,7 @@ module _ (h : Incoming) (i : Inbound) (a : StandsIn h i) where
 
   -- ---- the answers
 
-  opened-answer : (r : LinkReading) (v : List ℕ) (o len : ℕ) (d : List ℕ) → receive.OpenedCall r v w o len d
+  pub opened-answer : (r : LinkReading) (v : List ℕ) (o len : ℕ) (d : List ℕ) → receive.OpenedCall r v w o len d
       → r ≡ choose (leb o 1) (flatRead (openedOf (stateOf w) (openingOf o len) d)) (bare 0 12)
   opened-answer r v o len d m =
       test-cases (leb o 1) (λ t. m .0 ∙ if-true _ _ (both-true t ∙ a .flat) ∙ sym (if-true _ _ t)) (λ t. m .0 ∙ if-false _ _ (both-false _ t) ∙ sym (if-false _ _ t))

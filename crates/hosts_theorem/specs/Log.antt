@@ -18,7 +18,6 @@ use Rattle.receiving.specs.declared.Read.{Read}
 use Rattle.receiving.specs.declared.Receiving.{Receiving}
 use Rattle.sealing.specs.Sealing.{questionOf}
 use Rattle.recv_key_steps.specs.Kept.{stateOf}
-use Rattle.recv_calls.specs.Calls as receive
 use Rattle.recv_calls.specs.Flat.{flatReading, openingOf}
 use Rattle.recv_calls.specs.declared.LinkReading.{LinkReading}
 use Rattle.send_words.specs.Words as sendWords
@@ -33,7 +32,7 @@ use Rattle.history_theorem.specs.Account.{upd, keyOwed, keys, isIn}
 use Rattle.history_theorem.specs.Receiver.{Sealed, Receiver, Out, withState, flagged, removedFrom, removeOwed, startsOn, beginOwed, Inbound, takes, tells, logs, strays, readBy, maskBy, openBy, useOf, unused, fateOf}
 use Rattle.ends_theorem.specs.Ledger.{owed, after, sentBy, shortReply, clears}
 use Rattle.ends_theorem.specs.Sender.{Books, Lent, Sender, firstBytes, sealedAs, finish, entersAll}
-use Rattle.ends_theorem.specs.World.{Count, Took, Over, End, takesIn}
+use Rattle.ends_theorem.specs.World.{Count, Took, End, takesIn}
 use Rattle.hosts_theorem.specs.Memory.{Incoming, Outgoing, InCall, «husk_receiving_key», «husk_receiving_remove», «husk_receiving_enable_encryption», «husk_receiving_release_application_data», «husk_receiving_begin», «husk_receiving_begin_read», «husk_receiving_read», «husk_receiving_mask», «husk_receiving_opened», «husk_receiving_read_over», «husk_receiving_mask_over», «husk_receiving_opened_over», «host_writes», OutCall, «husk_sending_key», «husk_sending_send», «husk_sending_sealed», «husk_sending_take», «husk_sending_take_in_place», «husk_flight_begin», «husk_flight_send», «husk_flight_message», «husk_flight_resend», «husk_flight_ack», «husk_notes_add», «husk_notes_send», MadeIn, MadeOut, queues, behindIn, behindOut, lends}
 
 -- ---- what an answer of a reading call says

@@ -37,21 +37,21 @@ use Rattle.acks.specs.declared.AckSent.{AckSent}
 use Rattle.acks.specs.declared.Notes.{Notes}
 use Rattle.acks.specs.declared.Noting.{Noting}
 use Rattle.send_words.specs.Words.{stateOf, isFlat}
-use Rattle.flight_words.specs.Words.{flightOf, flatTo}
+use Rattle.flight_words.specs.Words.{flatTo}
 use Rattle.send_calls.specs.Calls as sends
 use Rattle.send_calls.specs.declared.LinkSealing.{LinkSealing}
 use Rattle.send_calls.specs.declared.LinkTake.{LinkTake}
 use Rattle.send_calls.specs.declared.LinkPart.{LinkPart}
 use Rattle.ack_calls.specs.Calls as acks
 use Rattle.waiting_laws.specs.Answers.{noteReply, ackReply, takeReply, answered}
-use Rattle.waiting_laws.specs.Calls.{Stores, SendCall, fill·, writtenIn, stored, lending, Reply, only}
+use Rattle.waiting_laws.specs.Calls.{Stores, fill·, writtenIn, stored, lending, Reply, only}
 use Rattle.history_theorem.specs.Account.{upd}
 use Rattle.history_theorem.specs.Receiver.{Sealed}
 use Rattle.ends_theorem.specs.Laws.{done-by}
-use Rattle.ends_theorem.specs.Ledger.{owed, sentBy, shortReply}
+use Rattle.ends_theorem.specs.Ledger.{owed, shortReply}
 use Rattle.ends_theorem.specs.Sender as world
 use Rattle.ends_theorem.specs.Sender.{Books, Lent, Sender, takenBy, sealedBy, finishedBy}
-use Rattle.ends_theorem.specs.World.{Took, Over, End, sending, over, givenIn, givenBy, tookBy, overOf, oversBy, acts}
+use Rattle.ends_theorem.specs.World.{Took, End, sending, over, givenIn, givenBy, tookBy, overOf, oversBy, acts}
 use Rattle.hosts_theorem.specs.Memory.{Outgoing, OutCall, «husk_sending_key», «husk_sending_send», «husk_sending_sealed», «husk_sending_take», «husk_sending_take_in_place», «husk_flight_begin», «husk_flight_send», «husk_flight_message», «husk_flight_resend», «husk_flight_ack», «husk_notes_add», «husk_notes_send», MadeOut, behindOut, lends}
 use Rattle.hosts_theorem.specs.Log.{storesOf, zerosOf, sendOf, counts, replyOf, sealingOf, showsNow, turnsTo, sealsNow, finishesNow, takesOne, takesPart, tookNow, enters, senderTo, givenNow, sentTo, enteredOut, enteredFill, enteredOver, sealedIn, returns}
 use Rattle.hosts_theorem.specs.Answers.{sealing-names}

@@ -1,5 +1,5 @@
 -- Every list of calls of the C library is a list of events of the claim, and the hosts saw the world that it leads to. Assumes nothing.
-use Prim.Native.Nat.{ℕ, suc, _≤_}
+use Prim.Native.Nat.{ℕ, suc}
 use lib.Dec.{leb, ltb}
 use lib.ListN.{length, replicate}
 use mathlib.Core.Bool.{Bool, true, false}
@@ -15,9 +15,8 @@ use Rattle.recv_calls.specs.Flat.{openingOf}
 use Rattle.sealing.specs.Sealing.{questionOf}
 use Rattle.sealing.specs.declared.Question as asked
 use Rattle.waiting_laws.specs.Answers.{answered}
-use Rattle.waiting_laws.specs.Calls.{Stores, SendCall, fill·}
 use Rattle.history_theorem.specs.Claim.{Masks}
-use Rattle.history_theorem.specs.Receiver.{Sealed, Inbound, Call, begin·, read·, open·, openOver·, begins}
+use Rattle.history_theorem.specs.Receiver.{Inbound, Call, begin·, read·, open·, openOver·}
 use Rattle.history_theorem.specs.Sound.{Sound}
 use Rattle.ends_theorem.specs.Claim.{Holds, Startable}
 use Rattle.ends_theorem.specs.Every.{every-does}
@@ -26,11 +25,12 @@ use Rattle.ends_theorem.specs.Proof.{Good, run-keeps, new-good, every-list}
 use Rattle.ends_theorem.specs.Sender as world
 use Rattle.ends_theorem.specs.Sender.{lentBy}
 use Rattle.ends_theorem.specs.Starting.{sending-starts, receiving-starts}
-use Rattle.ends_theorem.specs.World.{Side, post, gateway, far, Count, End, Deed, sending, over, receiving, Event, World, takesIn, acts, step, run, Setting, newEnd, fresh-pair, FairDeed, Honest}
+use Rattle.ends_theorem.specs.World.{Side, post, gateway, far, Count, End, Deed, Event, World, takesIn, acts, step, run, Setting, fresh-pair, FairDeed, Honest}
 use Rattle.hosts_theorem.specs.Memory.{InCall, «husk_receiving_key», «husk_receiving_remove», «husk_receiving_enable_encryption», «husk_receiving_release_application_data», «husk_receiving_begin», «husk_receiving_begin_read», «husk_receiving_read», «husk_receiving_mask», «husk_receiving_opened», «husk_receiving_read_over», «husk_receiving_mask_over», «husk_receiving_opened_over», «host_writes», lends}
-use Rattle.hosts_theorem.specs.Log.{storesOf, sendOf, count, countsTo, enteredIn, Host, Act, inward, «husk_sending_sealing», outward, outwardOver, «host_seals», Made, behind}
-use Rattle.hosts_theorem.specs.Claim.{Hosts, CCall, after, runs, AllMade, Stands, StandsIn, StandsOut, Started, callsOf, hearing, deedsOf, at, eventsOf, Answered, AllAnswered, FairDeeds, AllFair, sightOf, EveryListOfCalls}
+use Rattle.hosts_theorem.specs.Log.{sendOf, count, countsTo, Host, Act, inward, «husk_sending_sealing», outward, outwardOver, «host_seals», Made, behind}
+use Rattle.hosts_theorem.specs.Claim.{Hosts, CCall, after, runs, AllMade, Stands, Started, callsOf, hearing, deedsOf, at, eventsOf, Answered, AllAnswered, Owed, AllOwed, FairDeeds, AllFair, sightOf, EveryListOfCalls}
 use Rattle.hosts_theorem.specs.In.{doesAll, in-square, in-stands, in-answer}
+use Rattle.hosts_theorem.specs.Owed.{fine, owed-now}
 use Rattle.hosts_theorem.specs.Out.{shows-now, sealing-answer, out-answer, out-square, out-stands, over-square, over-stands, fill-square, fill-stands}
 
 -- ---- some deeds at one end
@@ -185,6 +185,11 @@ module _ (masks : Side → Masks) where
     both-stand gateway a m post = o post
     both-stand gateway a m gateway = stands-on (hs post) (hs gateway) (o gateway) a m
 
+    -- g′ what holds behind it
+    owed-on : (s : Side) (a : Act) → Made (hs s) a → Good masks (sightOf (after hs (record { side = s; act = a }))) → Owed (hs s) a
+    owed-on post a m g′ = owed-now (hs gateway) (hs post) (o post) (g .link post .sound) (fine masks (sightOf hs) g post) a m (fine masks (sightOf (after hs (record { side = post; act = a }))) g′ post)
+    owed-on gateway a m g′ = owed-now (hs post) (hs gateway) (o gateway) (g .link gateway .sound) (fine masks (sightOf hs) g gateway) a m (fine masks (sightOf (after hs (record { side = gateway; act = a }))) g′ gateway)
+
   -- ---- a list of calls
 
   record Seen (hs : Hosts) (cs : List CCall) : Type 0 where
@@ -192,9 +197,10 @@ module _ (masks : Side → Masks) where
     agrees : sightOf (runs hs cs) ≡ run (sightOf hs) (eventsOf cs)
     stands : (s : Side) → Stands (runs hs cs s)
     answered : AllAnswered hs cs
+    owed : AllOwed hs cs
 
   all-seen : (hs : Hosts) (cs : List CCall) → ((s : Side) → Stands (hs s)) → Good masks (sightOf hs) → AllMade hs cs → AllFair masks hs cs → Seen hs cs
-  all-seen hs [] o g m h = record { honest = tt; agrees = refl; stands = o; answered = tt }
+  all-seen hs [] o g m h = record { honest = tt; agrees = refl; stands = o; answered = tt; owed = tt }
   all-seen hs (c ∷ cs) o g m h =
       let s = c .side in
       let us = at s (deedsOf (c .act)) in
@@ -202,12 +208,14 @@ module _ (masks : Side → Masks) where
       let one = honest-at s w (deedsOf (c .act)) (fair s (w (far s)) (w s) (c .act) (h .0)) in
       let now : (t : Side) → after hs c t .seen ≡ run w us t = sight-on hs o g s (c .act) (m .0) (owes w g s (c .act) (h .0)) in
       let seen : sightOf (after hs c) ≡ run w us = (λ i t. now t i) in
-      let rest = all-seen (after hs c) cs (both-stand hs o g s (c .act) (m .0)) (subst (Good masks) (sym seen) (run-keeps masks w us g one)) (m .1) (h .1) in
+      let good = subst (Good masks) (sym seen) (run-keeps masks w us g one) in
+      let rest = all-seen (after hs c) cs (both-stand hs o g s (c .act) (m .0)) good (m .1) (h .1) in
       record {
         honest = honest-both w us (eventsOf cs) one (subst (λ (v : World). Honest masks v (eventsOf cs)) seen (rest .honest));
         agrees = rest .agrees ∙ ap (λ (v : World). run v (eventsOf cs)) seen ∙ sym (run-both w us (eventsOf cs));
         stands = rest .stands;
         answered = (answer (hs (far s)) (hs s) (o s) (c .act) (m .0), rest .answered);
+        owed = (owed-on hs o g s (c .act) (m .0) good, rest .owed);
       }
 
 -- ---- the start
@@ -278,6 +286,7 @@ every-list-of-calls settings hs st masks cs made fair =
       agrees = λ s. ap (λ (w : World). w s) agrees;
       stands = k .stands;
       answered = k .answered;
+      owed = k .owed;
       holds = holds;
       saw = λ s e. subst (λ (w : World). Holds w s e) (sym agrees) (holds s e);
     }
