@@ -75,9 +75,9 @@ use Rattle.ends_theorem.specs.Width.{same-width, same-limit}
 use Rattle.ends_theorem.specs.World.{Side, post, gateway, far, Count, Said, End, Deed, sending, over, receiving, Event, World, takesIn, countsBy, acts, step, run, Setting, fresh-pair, FairDeed, Honest, Took, Over, givenBy}
 
 -- the settings of the state are those that the end was created with
-record Sized (e : End) : Type 0 where
-  width : e .out .stores .state .queue .mtu ≡ e .mtu
-  limit : e .out .stores .state .queue .limit ≡ e .limit
+pub record Sized (e : End) : Type 0 where
+  pub width : e .out .stores .state .queue .mtu ≡ e .mtu
+  pub limit : e .out .stores .state .queue .limit ≡ e .limit
 
 -- two sent under one number are one
 one-sent : (hs : List Handed) → Once hs → (h k : Handed) → Mem h hs → Mem k hs → h .num ≡ k .num → h ≡ k
@@ -168,18 +168,18 @@ clears-handed handed b l (take· buffer) one fair h k m = elim m [ ]
 
 module _ (masks : Side → Masks) where
   -- each end sends in order and as its account says, each direction is linked, and no count moves
-  record Good (w : World) : Type 0 where
-    out : (s : Side) → Sends (masks s) (w s .out)
-    link : (s : Side) → Link (masks (far s)) (w (far s) .out .sealed) (w s .into)
-    counts : (s : Side) → (c : Count) → Mem c (w s .counts) → SameNumbers c
-    sized : (s : Side) → Sized (w s)
-    matches : (s : Side) → Matches (w s .out .stores) (w s .ledger)
-    said : (s : Side) → (a : Said) → Mem a (w s .said) → a .reply ≡ a .owed
-    took : (s : Side) → (t : Took) → Mem t (w s .took) → TookOnly t
-    overs : (s : Side) → (o : Over) → Mem o (w s .overs) → (o .queue′ ≡ o .queue) × (o .kept′ ≡ o .kept)
-    given : (s : Side) → Given (w s .out .stores .state) (w s .out .stores .queue) (w s .given)
-    heard : (s : Side) → Heard (w s .into .into .handed) (w (far s) .out .books .sent) (w (far s) .ledger)
-    cleared : (s : Side) → (k : Kept) → Mem k (w (far s) .cleared) → Arrived (w s .into .into .handed) k
+  pub record Good (w : World) : Type 0 where
+    pub out : (s : Side) → Sends (masks s) (w s .out)
+    pub link : (s : Side) → Link (masks (far s)) (w (far s) .out .sealed) (w s .into)
+    pub counts : (s : Side) → (c : Count) → Mem c (w s .counts) → SameNumbers c
+    pub sized : (s : Side) → Sized (w s)
+    pub matches : (s : Side) → Matches (w s .out .stores) (w s .ledger)
+    pub said : (s : Side) → (a : Said) → Mem a (w s .said) → a .reply ≡ a .owed
+    pub took : (s : Side) → (t : Took) → Mem t (w s .took) → TookOnly t
+    pub overs : (s : Side) → (o : Over) → Mem o (w s .overs) → (o .queue′ ≡ o .queue) × (o .kept′ ≡ o .kept)
+    pub given : (s : Side) → Given (w s .out .stores .state) (w s .out .stores .queue) (w s .given)
+    pub heard : (s : Side) → Heard (w s .into .into .handed) (w (far s) .out .books .sent) (w (far s) .ledger)
+    pub cleared : (s : Side) → (k : Kept) → Mem k (w (far s) .cleared) → Arrived (w s .into .into .handed) k
 
   -- ---- one sending call
 
@@ -436,7 +436,7 @@ module _ (masks : Side → Masks) where
     step-cleared gateway h post = own-cleared gateway (w post) (w gateway) d (g .out gateway) (g .link post) h (g .heard post) (g .cleared post)
     step-cleared gateway h gateway = other-cleared (w post) (w gateway) d (g .cleared gateway)
 
-  run-keeps : (w : World) (vs : List Event) → Good w → Honest masks w vs → Good (run w vs)
+  pub run-keeps : (w : World) (vs : List Event) → Good w → Honest masks w vs → Good (run w vs)
   run-keeps w [] g h = g
   run-keeps w (v ∷ vs) g h =
       run-keeps (step w v) vs (record {
@@ -453,7 +453,7 @@ module _ (masks : Side → Masks) where
         cleared = step-cleared w (v .deed) g (v .side) (h .0);
       }) (h .1)
 
-  new-good : (settings : Side → Setting) → ((s : Side) → Startable (settings s)) → Good (fresh-pair settings)
+  pub new-good : (settings : Side → Setting) → ((s : Side) → Startable (settings s)) → Good (fresh-pair settings)
   new-good settings ok = record {
     out = λ s. new-sends (masks s) (settings s .mtu) (settings s .limit) (settings s .queue) (settings s .kept) (in-range (settings s) (ok s)) (ok s .room);
     link = λ s. new-link (masks (far s)) (settings s .min) (ok s .min);
@@ -468,7 +468,7 @@ module _ (masks : Side → Masks) where
     cleared = λ s k m. elim m [ ];
   }
 
-  holds : (w : World) → Good w → (s : Side) (e : ℕ) → Holds w s e
+  pub holds : (w : World) → Good w → (s : Side) (e : ℕ) → Holds w s e
   holds w g s e =
       let m = g .matches (far s) in
       record {

@@ -1,0 +1,277 @@
+-- Every list of calls of the C library on two hosts: the events of crate ends_theorem that it is, and the claim of what the hosts saw.
+use Prim.Native.Nat.{ℕ, _+_, _*_, _≤_, _<_}
+use lib.Dec.{leb, ltb}
+use lib.ListN.{length, replicate}
+use mathlib.Core.Bool.{true}
+use mathlib.Core.List.{List, [], _∷_, _++_}
+use mathlib.Core.Option.{Option, none, some}
+use mathlib.Core.Path.{_≡_}
+use Rattle.base.specs.Choose.{choose}
+use Rattle.datagram.specs.declared.Reading.the-variants as says
+use Rattle.receiving.specs.Receiving.{keyOf, removeOf, encryptOf, releaseOf, beginOf, readOf, maskOf, openedOf}
+use Rattle.outgoing.specs.State.{keyingState}
+use Rattle.outgoing.specs.Send.{sendAnswer, sendState}
+use Rattle.send_keys.specs.Answer.{refusal}
+use Rattle.sealing.specs.Sealing as sealings
+use Rattle.taking.specs.Take.{takeAnswer}
+use Rattle.flight.specs.Flight as flying
+use Rattle.flight.specs.Save.{saveState}
+use Rattle.messages.specs.Message.{messageAnswer, messageState}
+use Rattle.resend.specs.Tests.{resendAnswer}
+use Rattle.resend.specs.Resend.{resendState}
+use Rattle.process_ack.specs.Ack.{acked}
+use Rattle.acks.specs.Acks as noting
+use Rattle.recv_words.specs.Words.{isFlat}
+use Rattle.recv_key_steps.specs.Kept.{stateOf}
+use Rattle.send_words.specs.Words as sendWords
+use Rattle.flight_words.specs.Words.{flatTo}
+use Rattle.recv_calls.specs.Flat.{answerOf, bare, openingOf}
+use Rattle.recv_calls.specs.Calls as receive
+use Rattle.send_calls.specs.Calls as sends
+use Rattle.send_calls.specs.declared.LinkSealing.{LinkSealing}
+use Rattle.flight_calls.specs.Calls as flights
+use Rattle.waiting_laws.specs.Calls.{Stores, fill·}
+use Rattle.history_theorem.specs.Account.{sealedHead, nothing, keyOwed}
+use Rattle.history_theorem.specs.Claim.{Masks, Proper}
+use Rattle.history_theorem.specs.Receiver.{aRead, aMaskReply, anOpenReply, removeOwed, beginOwed, Inbound, Call, key·, remove·, encrypt·, release·, begin·, read·, mask·, write·, open·, readOver·, maskOver·, openOver·}
+use Rattle.ends_theorem.specs.Claim.{Holds}
+use Rattle.ends_theorem.specs.Ledger.{Item, items, oldest, owed, shortReply}
+use Rattle.ends_theorem.specs.Sender.{Lent}
+use Rattle.ends_theorem.specs.World.{Side, post, gateway, far, End, Deed, sending, over, receiving, Event, World, run, Setting, newEnd, fresh-pair, FairDeed, Honest}
+use Rattle.hosts_theorem.specs.Memory.{Incoming, Outgoing, InCall, «husk_receiving_key», «husk_receiving_remove», «husk_receiving_enable_encryption», «husk_receiving_release_application_data», «husk_receiving_begin», «husk_receiving_begin_read», «husk_receiving_read», «husk_receiving_mask», «husk_receiving_opened», «husk_receiving_read_over», «husk_receiving_mask_over», «husk_receiving_opened_over», «host_writes», OutCall, «husk_sending_key», «husk_sending_send», «husk_sending_sealed», «husk_sending_take», «husk_sending_take_in_place», «husk_flight_begin», «husk_flight_send», «husk_flight_message», «husk_flight_resend», «husk_flight_ack», «husk_notes_add», «husk_notes_send», behindOut, lends}
+use Rattle.hosts_theorem.specs.Log.{flatRead, readingOf, replyOf, Host, Act, inward, «husk_sending_sealing», outward, outwardOver, «host_seals», Made, behind, storesOf, sealingOf, showsNow, sendOf}
+
+-- ---- two hosts and a list of calls
+
+abbrev pub Hosts : Type 0
+Hosts = Side → Host
+
+pub record CCall : Type 0 where
+  pub side : Side
+  pub act : Act
+
+abbrev pub put : Side → Host → Hosts → Hosts
+put post h hs post = h
+put post h hs gateway = hs gateway
+put gateway h hs post = hs post
+put gateway h hs gateway = h
+
+abbrev pub after : Hosts → CCall → Hosts
+after hs a = put (a .side) (behind (hs (far (a .side))) (hs (a .side)) (a .act)) hs
+
+abbrev pub runs : Hosts → List CCall → Hosts
+runs hs [] = hs
+runs hs (a ∷ cs) = runs (after hs a) cs
+
+-- each call meets its contract over the memory as the last call at its host left it
+abbrev pub AllMade : Hosts → List CCall → Type 0
+AllMade hs [] = Unit {0}
+AllMade hs (a ∷ cs) = Made (hs (a .side)) (a .act) × AllMade (after hs a) cs
+
+-- ---- the words stand for the log's state
+
+pub record StandsIn (h : Incoming) (i : Inbound) : Type 0 where
+  pub flat : isFlat (h .words) ≡ true
+  pub state : stateOf (h .words) ≡ i .into .state
+  pub datagram : h .datagram ≡ i .into .datagram
+
+-- and the question in the log is the one that husk_sending_sealing shows, its bytes as first shown
+pub record StandsOut (h : Outgoing) (e : End) : Type 0 where
+  pub flat : sendWords.isFlat (h .words) ≡ true
+  pub flat-flight : flatTo (h .flight) 12 ≡ true
+  pub stores : storesOf h ≡ e .out .stores
+  pub shown : (old : Option Lent) × (e .out .lent ≡ showsNow (sealingOf (h .words)) (h .queue) old)
+
+pub record Stands (h : Host) : Type 0 where
+  pub incoming : StandsIn (h .incoming) (h .seen .into)
+  pub outgoing : StandsOut (h .outgoing) (h .seen)
+
+-- ---- the start: words made by husk_receiving_init and husk_sending_init, which answered 0, and by husk_flight_init; notes of zeros; lent memory
+-- with any first contents, a queue not under its limit times the MTU; nothing in the log but the settings
+
+pub record Started (s : Setting) (h : Host) : Type 0 where
+  pub receiving : receive.FreshCall 0 (h .incoming .words) (s .min)
+  pub datagram : h .incoming .datagram ≡ []
+  pub sending : sends.FreshCall 0 (h .outgoing .words) (s .mtu) (s .limit)
+  pub queue : h .outgoing .queue ≡ s .queue
+  pub room : s .limit * s .mtu ≤ length (s .queue)
+  pub flight : flights.FreshCall (h .outgoing .flight) (h .outgoing .numbers)
+  pub kept : h .outgoing .kept ≡ s .kept
+  pub count : h .outgoing .count ≡ replicate 1 0
+  pub epochs : h .outgoing .epochs ≡ replicate 32 0
+  pub noted : h .outgoing .noted ≡ replicate 32 0
+  pub seen : h .seen ≡ newEnd s
+
+-- ---- the events that a call is
+
+abbrev pub callsOf : InCall → List Call
+callsOf («husk_receiving_key» r v epoch iv) = key· epoch iv ∷ []
+callsOf («husk_receiving_remove» r v epoch) = remove· epoch ∷ []
+callsOf («husk_receiving_enable_encryption» r v) = encrypt· ∷ []
+callsOf («husk_receiving_release_application_data» r v) = release· ∷ []
+callsOf («husk_receiving_begin» r v d) = begin· d ∷ []
+-- begun and read; over 16,384 bytes, refused and nothing read
+callsOf («husk_receiving_begin_read» r v d) = choose (ltb 16384 (length d)) (begin· d ∷ []) (begin· d ∷ read· ∷ [])
+callsOf («husk_receiving_read» r v) = read· ∷ []
+callsOf («husk_receiving_mask» r v m n e) = mask· (receive.masks m n) ∷ []
+-- a reply neither 0 nor 1 is no event
+callsOf («husk_receiving_opened» r v o len) = choose (leb o 1) (open· (openingOf o len) ∷ []) []
+callsOf («husk_receiving_read_over» r v d) = readOver· d ∷ []
+callsOf («husk_receiving_mask_over» r v m n e d) = maskOver· (receive.masks m n) d ∷ []
+callsOf («husk_receiving_opened_over» r v o len d) = choose (leb o 1) (openOver· (openingOf o len) d ∷ []) []
+callsOf («host_writes» r p) = write· p ∷ []
+
+abbrev pub hearing : List Call → List Deed
+hearing [] = []
+hearing (c ∷ cs) = receiving c ∷ hearing cs
+
+abbrev pub deedsOf : Act → List Deed
+deedsOf (inward c) = hearing (callsOf c)
+-- only shows
+deedsOf («husk_sending_sealing» r) = []
+deedsOf (outward c) = sending (sendOf c) ∷ []
+deedsOf (outwardOver c q k) = over (sendOf c) q k ∷ []
+deedsOf («host_seals» r bytes) = sending (fill· bytes) ∷ []
+
+abbrev pub at : Side → List Deed → List Event
+at s [] = []
+at s (d ∷ ds) = record { side = s; deed = d } ∷ at s ds
+
+abbrev pub eventsOf : List CCall → List Event
+eventsOf [] = []
+eventsOf (a ∷ cs) = at (a .side) (deedsOf (a .act)) ++ eventsOf cs
+
+-- ---- each answer is the one that the definitions give, never that for words which stand for nothing
+
+abbrev pub AnsweredIn : Incoming → InCall → Type 0
+AnsweredIn h («husk_receiving_key» r v epoch iv) = r ≡ answerOf (keyOf (stateOf (h .words)) epoch iv .answer)
+AnsweredIn h («husk_receiving_remove» r v epoch) = r ≡ answerOf (removeOf (stateOf (h .words)) epoch .answer)
+AnsweredIn h («husk_receiving_enable_encryption» r v) = r ≡ answerOf (encryptOf (stateOf (h .words)) .answer)
+AnsweredIn h («husk_receiving_release_application_data» r v) = r ≡ answerOf (releaseOf (stateOf (h .words)) .answer)
+AnsweredIn h («husk_receiving_begin» r v d) = r ≡ answerOf (beginOf (stateOf (h .words)) (length d) .answer)
+AnsweredIn h («husk_receiving_begin_read» r v d) = r ≡ receive.firstReading (beginOf (stateOf (h .words)) (length d)) d
+AnsweredIn h («husk_receiving_read» r v) = r ≡ flatRead (readOf (stateOf (h .words)) (h .datagram))
+AnsweredIn h («husk_receiving_mask» r v m n e) = r ≡ flatRead (maskOf (stateOf (h .words)) (receive.masks m n) (h .datagram) .0)
+AnsweredIn h («husk_receiving_opened» r v o len) =
+    r ≡ choose (leb o 1) (flatRead (openedOf (stateOf (h .words)) (openingOf o len) (h .datagram))) (bare 0 12)
+AnsweredIn h («husk_receiving_read_over» r v d) = r ≡ flatRead (readOf (stateOf (h .words)) d)
+AnsweredIn h («husk_receiving_mask_over» r v m n e d) = r ≡ flatRead (maskOf (stateOf (h .words)) (receive.masks m n) d .0)
+AnsweredIn h («husk_receiving_opened_over» r v o len d) =
+    r ≡ choose (leb o 1) (flatRead (openedOf (stateOf (h .words)) (openingOf o len) d)) (bare 0 12)
+AnsweredIn h («host_writes» r p) = r ≡ flatRead (readOf (stateOf (h .words)) (h .datagram))
+
+abbrev pub AnsweredOut : Stores → OutCall → Type 0
+AnsweredOut w («husk_sending_key» r v epoch iv) = r ≡ refusal (keyingState (w .state) epoch iv .answer)
+AnsweredOut w («husk_sending_send» r v epoch t c p) =
+    r ≡ refusal (sendState (sendAnswer (w .state) (length (w .queue)) epoch t (length c)) (w .state) epoch (length c) .answer)
+AnsweredOut w («husk_sending_sealed» r v len m n p) =
+    r ≡ sealings.refusal (sealings.sealedState (sealings.sealAnswer (w .state) (length (w .queue)) len) (w .state) (w .queue) .answer)
+AnsweredOut w («husk_sending_take» r v b c) = r ≡ sends.flatTake (takeAnswer (w .state) (length (w .queue)) (length b))
+AnsweredOut w («husk_sending_take_in_place» r v) =
+    r ≡ sends.flatPart (takeAnswer (w .state) (length (w .queue)) 65535) (w .state .queue .first * w .state .queue .mtu)
+AnsweredOut w («husk_flight_begin» r g) = r ≡ refusal (flying.begun (w .flight) .answer)
+AnsweredOut w («husk_flight_send» r v g m epoch t c p j) =
+    r ≡ refusal (saveState (w .state) (w .flight) (length (w .queue)) (length (w .kept)) epoch t (length c) .answer)
+AnsweredOut w («husk_flight_message» r v g m kind body p j) =
+    r ≡ refusal (messageState (messageAnswer (w .state) (w .flight) (length (w .queue)) (length (w .kept)) kind (length body)) (w .state) (w .flight) (w .queue) (w .kept) kind body .answer)
+AnsweredOut w («husk_flight_resend» r v g m p) =
+    r ≡ refusal (resendState (resendAnswer (w .state) (w .flight) (length (w .queue)) (length (w .kept))) (w .state) (w .flight) (w .kept) (w .queue) .answer)
+AnsweredOut w («husk_flight_ack» r g m c) = r ≡ refusal (acked (w .flight) c .answer)
+AnsweredOut w («husk_notes_add» r x y z epoch number) = r ≡ noting.refusal (noting.noted (w .notes) epoch number .answer)
+AnsweredOut w («husk_notes_send» r v x y z p) = r ≡ refusal (noting.sentAck (w .state) (w .notes) (length (w .queue)) .answer)
+
+-- the question that husk_sending_sealing shows is the one that the world lends: kind 2 and its fields; no other kind shows one
+abbrev pub Shows : Option Lent → LinkSealing → Type 0
+Shows none r = r .kind ≡ 2 → ⊥
+Shows (some l) r =
+    r ≡ record { kind = 2; refusal = 0; epoch = l .epoch; number = l .num; start = l .place; length = l .size; nonce = l .nonce; header = l .header }
+
+abbrev pub Answered : Host → Act → Type 0
+Answered h (inward c) = AnsweredIn (h .incoming) c
+Answered h («husk_sending_sealing» r) = Shows (h .seen .out .lent) r
+Answered h (outward c) = AnsweredOut (storesOf (h .outgoing)) c
+Answered h (outwardOver c q k) = AnsweredOut (storesOf (lends (h .outgoing) q k)) c
+Answered h («host_seals» r bytes) = Shows (h .seen .out .lent) r
+
+abbrev pub AllAnswered : Hosts → List CCall → Type 0
+AllAnswered hs [] = Unit {0}
+AllAnswered hs (a ∷ cs) = Answered (hs (a .side)) (a .act) × AllAnswered (after hs a) cs
+
+-- ---- and it is the one that the host's own account owes the call
+
+-- keying, removing, peer encryption, release and beginning: the number owed; reading: as the question that waits demands; over a datagram of another
+-- length: 15, and the bytes stay; a reply neither 0 nor 1: 12
+abbrev pub OwedIn : Inbound → InCall → Type 0
+OwedIn i («husk_receiving_key» r v epoch iv) = r ≡ keyOwed (i .into .account) epoch
+OwedIn i («husk_receiving_remove» r v epoch) = r ≡ removeOwed (i .into) epoch
+OwedIn i («husk_receiving_enable_encryption» r v) = r ≡ 0
+OwedIn i («husk_receiving_release_application_data» r v) = r ≡ 0
+OwedIn i («husk_receiving_begin» r v d) = r ≡ beginOwed d
+OwedIn i («husk_receiving_begin_read» r v d) = (16384 < length d → r ≡ bare 0 1) × (length d ≤ 16384 → Proper aRead nothing (readingOf r))
+OwedIn i («husk_receiving_read» r v) = Proper aRead (i .into .account .waits) (readingOf r)
+OwedIn i («husk_receiving_mask» r v m n e) = Proper aMaskReply (i .into .account .waits) (readingOf r)
+OwedIn i («husk_receiving_opened» r v o len) =
+    (o ≤ 1 → Proper (anOpenReply (openingOf o len)) (i .into .account .waits) (readingOf r)) × (1 < o → r ≡ bare 0 12)
+OwedIn i («husk_receiving_read_over» r v d) = readingOf r ≡ says.Reply
+OwedIn i («husk_receiving_mask_over» r v m n e d) = (readingOf r ≡ says.Reply) × (e ≡ d)
+OwedIn i («husk_receiving_opened_over» r v o len d) = (o ≤ 1 → readingOf r ≡ says.Reply) × (1 < o → r ≡ bare 0 12)
+-- no call
+OwedIn i («host_writes» r p) = Unit {0}
+
+-- a sealing is asked exactly while a record waits, for the oldest
+abbrev pub OwedSealing : Option Item → LinkSealing → Type 0
+OwedSealing none r = r .kind ≡ 2 → ⊥
+OwedSealing (some i) r = (r .kind ≡ 2) × (r .epoch ≡ i .epoch) × (r .number ≡ i .num) × (r .length + sealedHead ≡ i .size)
+
+-- a sending call: 01's number and what is told besides; over memory that is too short 12, and no byte of it changes
+abbrev pub Owed : Host → Act → Type 0
+Owed h (inward c) = OwedIn (h .seen .into) c
+Owed h («husk_sending_sealing» r) = OwedSealing (oldest (items (h .seen .ledger .queue))) r
+Owed h (outward c) = replyOf (h .outgoing) c ≡ owed (h .seen .ledger) (sendOf c)
+Owed h (outwardOver c q k) =
+    let m = lends (h .outgoing) q k in
+    (replyOf m c ≡ shortReply (sendOf c)) × (behindOut m c .queue ≡ q) × (behindOut m c .kept ≡ k)
+Owed h («host_seals» r bytes) = OwedSealing (oldest (items (h .seen .ledger .queue))) r
+
+abbrev pub AllOwed : Hosts → List CCall → Type 0
+AllOwed hs [] = Unit {0}
+AllOwed hs (a ∷ cs) = Owed (hs (a .side)) (a .act) × AllOwed (after hs a) cs
+
+-- ---- what is asked of the hosts: what the claim asks of each event, by what the hosts saw. Of the two that husk_receiving_begin_read is nothing is
+-- asked, so each is asked before the call
+
+abbrev pub FairDeeds : (Side → Masks) → Side → End → End → List Deed → Type 0
+FairDeeds masks s f e [] = Unit {0}
+FairDeeds masks s f e (d ∷ ds) = FairDeed masks s f e d × FairDeeds masks s f e ds
+
+abbrev pub AllFair : (Side → Masks) → Hosts → List CCall → Type 0
+AllFair masks hs [] = Unit {0}
+AllFair masks hs (c ∷ cs) =
+    FairDeeds masks (c .side) (hs (far (c .side)) .seen) (hs (c .side) .seen) (deedsOf (c .act)) × AllFair masks (after hs c) cs
+
+-- ---- what is claimed
+
+-- what the hosts saw
+abbrev pub sightOf : Hosts → World
+sightOf hs s = hs s .seen
+
+-- of the hosts behind a list of calls, and the world behind its events
+pub record Refines (masks : Side → Masks) (settings : Side → Setting) (hs : Hosts) (cs : List CCall) : Type 0 where
+  -- the events meet what the claim asks
+  pub honest : Honest masks (fresh-pair settings) (eventsOf cs)
+  -- the hosts saw the world that the events lead to, and their words stand for its states
+  pub agrees : (s : Side) → runs hs cs s .seen ≡ run (fresh-pair settings) (eventsOf cs) s
+  pub stands : (s : Side) → Stands (runs hs cs s)
+  -- every answer in the list is the definition's, and the one that the account owes
+  pub answered : AllAnswered hs cs
+  pub owed : AllOwed hs cs
+  -- the claim of that world, and of what the hosts saw
+  pub holds : (s : Side) (e : ℕ) → Holds (run (fresh-pair settings) (eventsOf cs)) s e
+  pub saw : (s : Side) (e : ℕ) → Holds (sightOf (runs hs cs)) s e
+
+-- every list of calls of the C library: for all settings that the starting calls accepted, all memory that they left, all masks, every list
+-- of calls each of which met its contract, on either host, in any order, by hosts that answer as asked
+abbrev pub EveryListOfCalls : Type 0
+EveryListOfCalls =
+    (settings : Side → Setting) (hs : Hosts) → ((s : Side) → Started (settings s) (hs s))
+    → (masks : Side → Masks) (cs : List CCall) → AllMade hs cs → AllFair masks hs cs → Refines masks settings hs cs

@@ -1,0 +1,407 @@
+-- What a host enters in its log at each call: the history that the claim speaks of (crates history_theorem and ends_theorem), from the host's own
+-- arguments, the memory behind the call and the answer. The log's state is what the words stand for, and its account is the claim's, which is
+-- kept from arguments and replies alone.
+use Prim.Native.Nat.{ℕ, suc, _+_}
+use lib.Dec.{eqb, leb, ltb}
+use lib.ListN.{length, getD, replicate}
+use mathlib.Core.Bool.{true}
+use mathlib.Core.List.{List, [], _∷_, _++_}
+use mathlib.Core.Option.{Option, none, some}
+use mathlib.Core.Path.{_≡_}
+use Rattle.base.specs.Choose.{choose}
+use Rattle.base.specs.Parts.{part, splice}
+use Rattle.datagram.specs.declared.Reading.the-variants as says
+use Rattle.datagram.specs.declared.Reading.{Reading}
+use Rattle.datagram.specs.declared.Reason.the-variants as reason
+use Rattle.datagram.specs.declared.Reason.{Reason}
+use Rattle.receiving.specs.declared.Read.{Read}
+use Rattle.receiving.specs.declared.Receiving.{Receiving}
+use Rattle.sealing.specs.Sealing.{questionOf}
+use Rattle.recv_key_steps.specs.Kept.{stateOf}
+use Rattle.recv_calls.specs.Flat.{flatReading, openingOf}
+use Rattle.recv_calls.specs.declared.LinkReading.{LinkReading}
+use Rattle.send_words.specs.Words as sendWords
+use Rattle.send_calls.specs.Calls as sends
+use Rattle.send_calls.specs.declared.LinkSealing.{LinkSealing}
+use Rattle.send_calls.specs.declared.LinkTake.{LinkTake}
+use Rattle.send_calls.specs.declared.LinkPart.{LinkPart}
+use Rattle.flight_words.specs.Words.{flightOf}
+use Rattle.ack_calls.specs.Calls as acks
+use Rattle.waiting_laws.specs.Calls.{Stores, SendCall, keySend·, send·, save·, message·, beginFlight·, resend·, note·, sendAck·, ack·, fill·, sealed·, take·, Reply, only}
+use Rattle.history_theorem.specs.Account.{upd, keyOwed, keys, isIn}
+use Rattle.history_theorem.specs.Receiver.{Sealed, Receiver, Out, withState, flagged, removedFrom, removeOwed, startsOn, beginOwed, Inbound, takes, tells, logs, strays, readBy, maskBy, openBy, useOf, unused, fateOf}
+use Rattle.ends_theorem.specs.Ledger.{owed, after, sentBy, shortReply, clears}
+use Rattle.ends_theorem.specs.Sender.{Books, Lent, Sender, firstBytes, sealedAs, finish, entersAll}
+use Rattle.ends_theorem.specs.World.{Count, Took, End, takesIn}
+use Rattle.hosts_theorem.specs.Memory.{Incoming, Outgoing, InCall, «husk_receiving_key», «husk_receiving_remove», «husk_receiving_enable_encryption», «husk_receiving_release_application_data», «husk_receiving_begin», «husk_receiving_begin_read», «husk_receiving_read», «husk_receiving_mask», «husk_receiving_opened», «husk_receiving_read_over», «husk_receiving_mask_over», «husk_receiving_opened_over», «host_writes», OutCall, «husk_sending_key», «husk_sending_send», «husk_sending_sealed», «husk_sending_take», «husk_sending_take_in_place», «husk_flight_begin», «husk_flight_send», «husk_flight_message», «husk_flight_resend», «husk_flight_ack», «husk_notes_add», «husk_notes_send», MadeIn, MadeOut, queues, behindIn, behindOut, lends}
+
+-- ---- what an answer of a reading call says
+
+-- a reading as the library answers it
+abbrev pub flatRead : Read → LinkReading
+flatRead k = flatReading (k .reading) (k .nonce)
+
+-- 01's numbers of the refusals that drop one record
+unfoldable pub reasonIn : ℕ → Reason
+reasonIn n =
+    choose (eqb n 4) reason.Invalid
+    (choose (eqb n 5) reason.EarlyBits
+    (choose (eqb n 6) reason.NoKeys
+    (choose (eqb n 7) reason.TooShort
+    (choose (eqb n 8) reason.TooHigh (choose (eqb n 9) reason.Replayed (choose (eqb n 10) reason.NotOpened reason.NoContentType))))))
+
+-- by its kind, as the header lists them: refused, the datagram's end, a record dropped, plaintext, unopened, opened; a mask or an opening asked
+unfoldable pub readingOf : LinkReading → Reading
+readingOf r =
+    choose (eqb (r .kind) 0) (choose (eqb (r .refusal) 12) says.Setting says.Reply)
+    (choose (eqb (r .kind) 1) (choose (eqb (r .refusal) 2) says.Incomplete (choose (eqb (r .refusal) 3) says.TooMany says.End))
+    (choose (eqb (r .kind) 2) (says.Dropped (reasonIn (r .refusal)))
+    (choose (eqb (r .kind) 3) (says.Plaintext (r .«content_type») (r .number) (r .start) (r .length))
+    (choose (eqb (r .kind) 4) (says.Unopened (r .epoch) (r .number) (r .start) (r .length))
+    (choose (eqb (r .kind) 5) (says.Opened (r .epoch) (r .number) (r .«content_type») (r .start) (r .length))
+    (choose (eqb (r .kind) 6) (says.Mask (r .epoch) (r .start))
+    (says.Opening (r .epoch) (r .number) (r .start) (r .«header_len») (r .length))))))))
+
+-- a reading call: the answer, the state that the words behind it stand for, the datagram's bytes behind it
+abbrev pub outBy : LinkReading → List ℕ → List ℕ → Out
+outBy r v d = record { state = stateOf v; datagram = d; reading = readingOf r; nonce = r .nonce }
+
+-- ---- the log of a receiving host
+
+-- an epoch removed: a record whose question was of that epoch loses it
+abbrev pub removedTo : Receiver → Receiving → ℕ → Receiver
+removedTo y s e = choose (isIn e (y .account .keyed)) (removedFrom y s e (y .trial)) (withState y s (y .account))
+
+-- a datagram begun or refused: each has a serial number
+abbrev pub beginsTo : Inbound → Receiver → ℕ → ℕ → List ℕ → Inbound
+beginsTo i y serial r d = record {
+  into = y;
+  serial = serial;
+  lastSerial = suc (i .lastSerial);
+  moves = record { datagram = suc (i .lastSerial); spends = unused; before = i .into .state .keys; behind = y .state .keys } ∷ i .moves;
+  strays = i .strays;
+  told = record { answer = r; owed = beginOwed d } ∷ i .told;
+}
+
+abbrev pub accepted : Inbound → Receiving → ℕ → List ℕ → Inbound
+accepted i s r d = beginsTo i (startsOn (i .into) s d) (suc (i .lastSerial)) r d
+
+abbrev pub refused : Inbound → Receiving → ℕ → List ℕ → Inbound
+refused i s r d = beginsTo i (withState (i .into) s (i .into .account)) (i .serial) r d
+
+abbrev pub reads : (ℕ → List Sealed) → Inbound → Out → Inbound
+reads sealed i o = logs i (readBy (i .into) sealed (i .into .account .waits) o) (i .serial) unused
+
+-- nothing but the words
+abbrev pub rewords : Inbound → List ℕ → Inbound
+rewords i v = takes i (withState (i .into) (stateOf v) (i .into .account))
+
+-- other bytes in the begun datagram
+abbrev pub withBytes : Receiver → List ℕ → Receiver
+withBytes y d = record {
+  state = y .state;
+  datagram = d;
+  arrived = y .arrived;
+  account = y .account;
+  used = y .used;
+  handed = y .handed;
+  trial = y .trial;
+  tried = y .tried;
+  spoken = y .spoken;
+  lost = y .lost;
+}
+
+-- the log behind a call, the far host having sealed these records by then
+abbrev pub enteredIn : (ℕ → List Sealed) → Inbound → InCall → Inbound
+enteredIn sealed i («husk_receiving_key» r v epoch iv) =
+    tells i (withState (i .into) (stateOf v) (keys (i .into .account) epoch iv)) r (keyOwed (i .into .account) epoch)
+enteredIn sealed i («husk_receiving_remove» r v epoch) = tells i (removedTo (i .into) (stateOf v) epoch) r (removeOwed (i .into) epoch)
+enteredIn sealed i («husk_receiving_enable_encryption» r v) =
+    tells i (withState (i .into) (stateOf v) (flagged (i .into .account) true (i .into .account .released))) r 0
+enteredIn sealed i («husk_receiving_release_application_data» r v) =
+    tells i (withState (i .into) (stateOf v) (flagged (i .into .account) (i .into .account .encryption) true)) r 0
+enteredIn sealed i («husk_receiving_begin» r v d) = choose (eqb r 0) (accepted i (stateOf v) r d) (refused i (stateOf v) r d)
+-- the words between beginning and reading are not seen; no key changes between them
+enteredIn sealed i («husk_receiving_begin_read» r v d) =
+    choose (ltb 16384 (length d)) (refused i (stateOf v) (r .refusal) d) (reads sealed (accepted i (i .into .state) 0 d) (outBy r v d))
+enteredIn sealed i («husk_receiving_read» r v) = reads sealed i (outBy r v (i .into .datagram))
+enteredIn sealed i («husk_receiving_mask» r v m n e) = logs i (maskBy (i .into) (outBy r v e)) (i .serial) unused
+-- a reply is 0 or 1
+enteredIn sealed i («husk_receiving_opened» r v o len) =
+    choose (leb o 1)
+    (logs i (openBy (i .into) (openingOf o len) (outBy r v (i .into .datagram))) (i .serial)
+    (useOf (i .into .account .waits) (openingOf o len) (fateOf (readingOf r)))) (rewords i v)
+enteredIn sealed i («husk_receiving_read_over» r v d) = strays i d (outBy r v d)
+enteredIn sealed i («husk_receiving_mask_over» r v m n e d) = strays i d (outBy r v e)
+enteredIn sealed i («husk_receiving_opened_over» r v o len d) = choose (leb o 1) (strays i d (outBy r v d)) (rewords i v)
+enteredIn sealed i («host_writes» r p) = takes i (withBytes (i .into) (splice (r .start + r .«header_len») p (i .into .datagram)))
+
+-- ---- the log of a sending host
+
+-- what the memory stands for
+abbrev pub storesOf : Outgoing → Stores
+storesOf h = record {
+  state = sendWords.stateOf (h .words);
+  queue = h .queue;
+  flight = flightOf (h .flight) (h .numbers);
+  kept = h .kept;
+  notes = acks.notesOf (h .count) (h .epochs) (h .noted);
+}
+
+-- a buffer that holds every datagram
+unfoldable pub zerosOf : ℕ → List ℕ
+zerosOf n = replicate n 0
+
+-- the claim's call
+abbrev pub sendOf : OutCall → SendCall
+sendOf («husk_sending_key» r v epoch iv) = keySend· epoch iv
+sendOf («husk_sending_send» r v epoch t c p) = send· epoch t c
+sendOf («husk_sending_sealed» r v len m n p) = sealed· len (sends.masks m n)
+sendOf («husk_sending_take» r v b c) = take· b
+-- a take into a buffer that holds every datagram
+sendOf («husk_sending_take_in_place» r v) = take· (zerosOf 65535)
+sendOf («husk_flight_begin» r g) = beginFlight·
+sendOf («husk_flight_send» r v g m epoch t c p j) = save· epoch t c
+sendOf («husk_flight_message» r v g m kind body p j) = message· kind body
+sendOf («husk_flight_resend» r v g m p) = resend·
+sendOf («husk_flight_ack» r g m c) = ack· c
+sendOf («husk_notes_add» r x y z epoch number) = note· epoch number
+sendOf («husk_notes_send» r v x y z p) = sendAck·
+
+-- 1 where the count of notes changed: a record was noted, or the ACK of those noted was sent
+abbrev pub counts : List ℕ → List ℕ → ℕ
+counts before behind = choose (eqb (getD behind 0 0) (getD before 0 0)) 0 1
+
+-- what the host sees of a call: 01's number and what is told besides
+abbrev pub replyOf : Outgoing → OutCall → Reply
+replyOf h («husk_sending_key» r v epoch iv) = only r
+replyOf h («husk_sending_send» r v epoch t c p) = only r
+replyOf h («husk_sending_sealed» r v len m n p) = only r
+replyOf h («husk_sending_take» r v b c) = record { number = r .refusal; told = r .length }
+replyOf h («husk_sending_take_in_place» r v) = record { number = r .refusal; told = r .length }
+replyOf h («husk_flight_begin» r g) = only r
+replyOf h («husk_flight_send» r v g m epoch t c p j) = only r
+replyOf h («husk_flight_message» r v g m kind body p j) = only r
+replyOf h («husk_flight_resend» r v g m p) = only r
+replyOf h («husk_flight_ack» r g m c) = only r
+replyOf h («husk_notes_add» r x y z epoch number) = record { number = r; told = counts (h .count) x }
+replyOf h («husk_notes_send» r v x y z p) = record { number = r; told = counts (h .count) x }
+
+-- what husk_sending_sealing answers over these words
+abbrev pub sealingOf : List ℕ → LinkSealing
+sealingOf w = sends.Seals w (questionOf (sendWords.stateOf w))
+
+-- kind 2 shows a question; the bytes first shown stay with one that is shown again
+abbrev pub showsNow : LinkSealing → List ℕ → Option Lent → Option Lent
+showsNow r q old =
+    choose (eqb (r .kind) 2)
+    (some (record {
+      epoch = r .epoch;
+      num = r .number;
+      nonce = r .nonce;
+      header = r .header;
+      place = r .start;
+      size = r .length;
+      bytes = firstBytes old (r .epoch) (r .number) (part (r .start) (r .length) q);
+    })) none
+
+-- the logs of what was sent and shown behind a call, h the memory behind it
+abbrev pub turnsTo : Sender → Outgoing → Books → (ℕ → List ℕ) → (ℕ → List Sealed) → List (List ℕ) → Sender
+turnsTo x h b ivs sealed taken = record {
+  stores = storesOf h;
+  books = b;
+  ivs = ivs;
+  lent = showsNow (sealingOf (h .words)) (h .queue) (x .lent);
+  sealed = sealed;
+  taken = taken;
+}
+
+-- answered 0, the record that the question showed is sealed, and finished in the order of those sent
+abbrev pub sealsNow : ℕ → Option Lent → List ℕ → List ℕ → (ℕ → List Sealed) → ℕ → List Sealed
+sealsNow r none before behind f = f
+sealsNow r (some l) before behind f = choose (eqb r 0) (upd f (l .epoch) (sealedAs l before behind ∷ f (l .epoch))) f
+
+abbrev pub finishesNow : ℕ → Option Lent → List ℕ → List ℕ → Books → Books
+finishesNow r none before behind b = b
+finishesNow r (some l) before behind b =
+    choose (eqb r 0) (record { sent = b .sent; lines = finish (l .epoch) (l .num) (sealedAs l before behind .wire) (b .lines) }) b
+
+-- kind 2: a datagram, at the start of the buffer, or where it lies in the queue
+abbrev pub takesOne : LinkTake → List ℕ → List (List ℕ) → List (List ℕ)
+takesOne r c ts = choose (eqb (r .kind) 2) (ts ++ (part 0 (r .length) c ∷ [])) ts
+
+abbrev pub takesPart : LinkPart → List ℕ → List (List ℕ) → List (List ℕ)
+takesPart r q ts = choose (eqb (r .kind) 2) (ts ++ (part (r .start) (r .length) q ∷ [])) ts
+
+-- a take: the answer, and the buffer before and behind it
+abbrev pub tookNow : Outgoing → OutCall → List Took → List Took
+tookNow h («husk_sending_take» r v b c) ts = record { reply = replyOf h («husk_sending_take» r v b c); before = b; behind = c } ∷ ts
+tookNow h («husk_sending_take_in_place» r v) ts =
+    record {
+      reply = replyOf h («husk_sending_take_in_place» r v);
+      before = zerosOf 65535;
+      behind = splice 0 (part (r .start) (r .length) (h .queue)) (zerosOf 65535);
+    } ∷ ts
+tookNow h («husk_sending_key» r v epoch iv) ts = ts
+tookNow h («husk_sending_send» r v epoch t c p) ts = ts
+tookNow h («husk_sending_sealed» r v len m n p) ts = ts
+tookNow h («husk_flight_begin» r g) ts = ts
+tookNow h («husk_flight_send» r v g m epoch t c p j) ts = ts
+tookNow h («husk_flight_message» r v g m kind body p j) ts = ts
+tookNow h («husk_flight_resend» r v g m p) ts = ts
+tookNow h («husk_flight_ack» r g m c) ts = ts
+tookNow h («husk_notes_add» r x y z epoch number) ts = ts
+tookNow h («husk_notes_send» r v x y z p) ts = ts
+
+-- a sending call entered: the answer beside what the account owes; the account behind it, and the records that go with a flight which an ACK empties
+abbrev pub enters : End → SendCall → Reply → Sender → List Took → Option (List ℕ) → End
+enters e c r x took given = record {
+  mtu = e .mtu;
+  limit = e .limit;
+  out = x;
+  ledger = after (e .ledger) c;
+  said = record { reply = r; owed = owed (e .ledger) c } ∷ e .said;
+  took = took;
+  overs = e .overs;
+  given = given;
+  cleared = clears (e .ledger) c ++ e .cleared;
+  into = e .into;
+  counts = e .counts;
+}
+
+-- x the logs before, h and g the memory before and behind the call, b the books with what it sent: a keying, a sealing reply and a take add besides
+abbrev pub senderTo : Sender → Outgoing → Outgoing → Books → OutCall → Sender
+senderTo x h g b («husk_sending_key» r v epoch iv) = turnsTo x g b (choose (eqb r 0) (upd (x .ivs) epoch iv) (x .ivs)) (x .sealed) (x .taken)
+senderTo x h g b («husk_sending_sealed» r v len m n p) =
+    turnsTo x g (finishesNow r (x .lent) (h .queue) p b) (x .ivs) (sealsNow r (x .lent) (h .queue) p (x .sealed)) (x .taken)
+senderTo x h g b («husk_sending_take» r v a c) = turnsTo x g b (x .ivs) (x .sealed) (takesOne r c (x .taken))
+senderTo x h g b («husk_sending_take_in_place» r v) = turnsTo x g b (x .ivs) (x .sealed) (takesPart r (h .queue) (x .taken))
+senderTo x h g b («husk_sending_send» r v epoch t c p) = turnsTo x g b (x .ivs) (x .sealed) (x .taken)
+senderTo x h g b («husk_flight_begin» r k) = turnsTo x g b (x .ivs) (x .sealed) (x .taken)
+senderTo x h g b («husk_flight_send» r v k m epoch t c p j) = turnsTo x g b (x .ivs) (x .sealed) (x .taken)
+senderTo x h g b («husk_flight_message» r v k m kind body p j) = turnsTo x g b (x .ivs) (x .sealed) (x .taken)
+senderTo x h g b («husk_flight_resend» r v k m p) = turnsTo x g b (x .ivs) (x .sealed) (x .taken)
+senderTo x h g b («husk_flight_ack» r k m c) = turnsTo x g b (x .ivs) (x .sealed) (x .taken)
+senderTo x h g b («husk_notes_add» r n y z epoch number) = turnsTo x g b (x .ivs) (x .sealed) (x .taken)
+senderTo x h g b («husk_notes_send» r v n y z p) = turnsTo x g b (x .ivs) (x .sealed) (x .taken)
+
+-- what the host wrote last is given until its sealing reply is answered 0
+abbrev pub givenNow : OutCall → Option (List ℕ) → Option (List ℕ)
+givenNow («husk_sending_sealed» r v len m n p) o = choose (eqb r 0) none o
+givenNow («husk_sending_key» r v epoch iv) o = o
+givenNow («husk_sending_send» r v epoch t c p) o = o
+givenNow («husk_sending_take» r v b c) o = o
+givenNow («husk_sending_take_in_place» r v) o = o
+givenNow («husk_flight_begin» r g) o = o
+givenNow («husk_flight_send» r v g m epoch t c p j) o = o
+givenNow («husk_flight_message» r v g m kind body p j) o = o
+givenNow («husk_flight_resend» r v g m p) o = o
+givenNow («husk_flight_ack» r g m c) o = o
+givenNow («husk_notes_add» r x y z epoch number) o = o
+givenNow («husk_notes_send» r v x y z p) o = o
+
+-- the records that the account has as sent go into the books
+abbrev pub sentTo : End → SendCall → Books
+sentTo e c = entersAll (sentBy (e .ledger) c) (e .out .books)
+
+-- a call over the host's own memory
+abbrev pub enteredOut : End → Outgoing → Outgoing → OutCall → End
+enteredOut e h g c =
+    enters e (sendOf c) (replyOf h c) (senderTo (e .out) h g (sentTo e (sendOf c)) c) (tookNow h c (e .took)) (givenNow c (e .given))
+
+-- the host's own writing, into the part that it was asked to seal
+abbrev pub enteredFill : End → Outgoing → List ℕ → End
+enteredFill e g bytes =
+    enters e (fill· bytes) (only 0) (turnsTo (e .out) g (sentTo e (fill· bytes)) (e .out .ivs) (e .out .sealed) (e .out .taken)) (e .took) (some bytes)
+
+-- a call over other memory h: g what it left there, own the host's own memory behind it
+abbrev pub enteredOver : End → Outgoing → Outgoing → Outgoing → OutCall → End
+enteredOver e h g own c = record {
+  mtu = e .mtu;
+  limit = e .limit;
+  out = turnsTo (e .out) own (e .out .books) (e .out .ivs) (e .out .sealed) (e .out .taken);
+  ledger = e .ledger;
+  said = record { reply = replyOf h c; owed = shortReply (sendOf c) } ∷ e .said;
+  took = tookNow h c (e .took);
+  overs = record { queue = h .queue; queue′ = g .queue; kept = h .kept; kept′ = g .kept } ∷ e .overs;
+  given = e .given;
+  cleared = e .cleared;
+  into = e .into;
+  counts = e .counts;
+}
+
+-- ---- a host: its memory, and its log, which the claim speaks of as an end
+
+pub record Host : Type 0 where
+  pub incoming : Incoming
+  pub outgoing : Outgoing
+  pub seen : End
+
+-- a call that reads the datagram with this serial number is counted; the keys to send are not lent to it
+abbrev pub count : End → ℕ → List Count → List Count
+count e k cs = record { datagram = k; before = e .out .stores .state .keys; behind = e .out .stores .state .keys } ∷ cs
+
+abbrev pub countsTo : End → InCall → List Count
+countsTo e («husk_receiving_key» r v epoch iv) = e .counts
+countsTo e («husk_receiving_remove» r v epoch) = e .counts
+countsTo e («husk_receiving_enable_encryption» r v) = e .counts
+countsTo e («husk_receiving_release_application_data» r v) = e .counts
+countsTo e («husk_receiving_begin» r v d) = count e (suc (e .into .lastSerial)) (e .counts)
+countsTo e («husk_receiving_begin_read» r v d) =
+    choose (ltb 16384 (length d)) (count e (suc (e .into .lastSerial)) (e .counts))
+    (count e (suc (e .into .lastSerial)) (count e (suc (e .into .lastSerial)) (e .counts)))
+countsTo e («husk_receiving_read» r v) = count e (e .into .serial) (e .counts)
+countsTo e («husk_receiving_mask» r v m n b) = count e (e .into .serial) (e .counts)
+countsTo e («husk_receiving_opened» r v o len) = choose (leb o 1) (count e (e .into .serial) (e .counts)) (e .counts)
+countsTo e («husk_receiving_read_over» r v d) = count e (e .into .serial) (e .counts)
+countsTo e («husk_receiving_mask_over» r v m n b d) = count e (e .into .serial) (e .counts)
+countsTo e («husk_receiving_opened_over» r v o len d) = choose (leb o 1) (count e (e .into .serial) (e .counts)) (e .counts)
+countsTo e («host_writes» r p) = e .counts
+
+-- a call at a host: receiving; sending over the host's own memory; sending over another queue q and other memory k for saved contents
+pub data Act : Type 0 where
+  inward : InCall → Act
+  «husk_sending_sealing» : (r : LinkSealing) → Act
+  outward : OutCall → Act
+  outwardOver : (c : OutCall) (q k : List ℕ) → Act
+  -- no call: r is what husk_sending_sealing answers, and the host writes as many bytes as it names into the part of the queue that it names
+  «host_seals» : (r : LinkSealing) (bytes : List ℕ) → Act
+
+-- it was made: its own contract, over the host's memory
+abbrev pub Made : Host → Act → Type 0
+Made h (inward c) = MadeIn (h .incoming) c
+Made h («husk_sending_sealing» r) = sends.SealingCall r (h .outgoing .words)
+Made h (outward c) = MadeOut (h .outgoing) c
+Made h (outwardOver c q k) = MadeOut (lends (h .outgoing) q k) c
+Made h («host_seals» r bytes) = sends.SealingCall r (h .outgoing .words) × (r .kind ≡ 2) × (length bytes ≡ r .length)
+
+-- the queue behind the host's writing
+abbrev pub sealedIn : Outgoing → LinkSealing → List ℕ → Outgoing
+sealedIn h r bytes = queues h (h .words) (splice (r .start) bytes (h .queue))
+
+-- what was done over other memory: the host's own queue and saved contents stay
+abbrev pub returns : Outgoing → Outgoing → Outgoing
+returns h g = lends g (h .queue) (h .kept)
+
+-- memory and log behind it; f the far host
+abbrev pub behind : Host → Host → Act → Host
+behind f h (inward c) = record {
+  incoming = behindIn (h .incoming) c;
+  outgoing = h .outgoing;
+  seen = takesIn (h .seen) (enteredIn (f .seen .out .sealed) (h .seen .into) c) (countsTo (h .seen) c);
+}
+behind f h («husk_sending_sealing» r) = h
+behind f h (outward c) = record {
+  incoming = h .incoming;
+  outgoing = behindOut (h .outgoing) c;
+  seen = enteredOut (h .seen) (h .outgoing) (behindOut (h .outgoing) c) c;
+}
+behind f h (outwardOver c q k) =
+    let o = lends (h .outgoing) q k in
+    let g = behindOut o c in
+    record { incoming = h .incoming; outgoing = returns (h .outgoing) g; seen = enteredOver (h .seen) o g (returns (h .outgoing) g) c }
+behind f h («host_seals» r bytes) = record {
+  incoming = h .incoming;
+  outgoing = sealedIn (h .outgoing) r bytes;
+  seen = enteredFill (h .seen) (sealedIn (h .outgoing) r bytes) bytes;
+}

@@ -1,0 +1,292 @@
+-- Every list of calls of the C library is a list of events of the claim, and the hosts saw the world that it leads to. Assumes nothing.
+use Prim.Native.Nat.{ℕ, suc}
+use lib.Dec.{leb, ltb}
+use lib.ListN.{length, replicate}
+use mathlib.Core.Bool.{Bool, true, false}
+use mathlib.Core.List.{List, [], _∷_, _++_}
+use mathlib.Core.Option.{none}
+use mathlib.Core.Path.{_≡_, refl, sym, ap, subst, _∙_}
+use Rattle.base.specs.Choose.{choose, by-test, if-false}
+use Rattle.outgoing.specs.State.{started, freshSending, noWaiting}
+use Rattle.outgoing.specs.declared.Sending.{Sending}
+use Rattle.acks.specs.Acks.{freshNotes}
+use Rattle.ack_calls.specs.Calls as acks
+use Rattle.recv_calls.specs.Flat.{openingOf}
+use Rattle.sealing.specs.Sealing.{questionOf}
+use Rattle.sealing.specs.declared.Question as asked
+use Rattle.waiting_laws.specs.Answers.{answered}
+use Rattle.history_theorem.specs.Claim.{Masks}
+use Rattle.history_theorem.specs.Receiver.{Inbound, Call, begin·, read·, open·, openOver·}
+use Rattle.history_theorem.specs.Sound.{Sound}
+use Rattle.ends_theorem.specs.Claim.{Holds, Startable}
+use Rattle.ends_theorem.specs.Every.{every-does}
+use Rattle.ends_theorem.specs.Ledger.{owed}
+use Rattle.ends_theorem.specs.Proof.{Good, run-keeps, new-good, every-list}
+use Rattle.ends_theorem.specs.Sender as world
+use Rattle.ends_theorem.specs.Sender.{lentBy}
+use Rattle.ends_theorem.specs.Starting.{sending-starts, receiving-starts}
+use Rattle.ends_theorem.specs.World.{Side, post, gateway, far, Count, End, Deed, Event, World, takesIn, acts, step, run, Setting, fresh-pair, FairDeed, Honest}
+use Rattle.hosts_theorem.specs.Memory.{InCall, «husk_receiving_key», «husk_receiving_remove», «husk_receiving_enable_encryption», «husk_receiving_release_application_data», «husk_receiving_begin», «husk_receiving_begin_read», «husk_receiving_read», «husk_receiving_mask», «husk_receiving_opened», «husk_receiving_read_over», «husk_receiving_mask_over», «husk_receiving_opened_over», «host_writes», lends}
+use Rattle.hosts_theorem.specs.Log.{sendOf, count, countsTo, Host, Act, inward, «husk_sending_sealing», outward, outwardOver, «host_seals», Made, behind}
+use Rattle.hosts_theorem.specs.Claim.{Hosts, CCall, after, runs, AllMade, Stands, Started, callsOf, hearing, deedsOf, at, eventsOf, Answered, AllAnswered, Owed, AllOwed, FairDeeds, AllFair, sightOf, EveryListOfCalls}
+use Rattle.hosts_theorem.specs.In.{doesAll, in-square, in-stands, in-answer}
+use Rattle.hosts_theorem.specs.Owed.{fine, owed-now}
+use Rattle.hosts_theorem.specs.Out.{shows-now, sealing-answer, out-answer, out-square, out-stands, over-square, over-stands, fill-square, fill-stands}
+
+-- ---- some deeds at one end
+
+abbrev actsAll : End → End → List Deed → End
+actsAll f e [] = e
+actsAll f e (d ∷ ds) = actsAll f (acts f e d) ds
+
+-- the end that acts, and the other
+run-at : (s : Side) (w : World) (ds : List Deed) → (run w (at s ds) s ≡ actsAll (w (far s)) (w s) ds) × (run w (at s ds) (far s) ≡ w (far s))
+run-at post w [] = (refl, refl)
+run-at post w (d ∷ ds) = run-at post (step w (record { side = post; deed = d })) ds
+run-at gateway w [] = (refl, refl)
+run-at gateway w (d ∷ ds) = run-at gateway (step w (record { side = gateway; deed = d })) ds
+
+run-both : (w : World) (us vs : List Event) → run w (us ++ vs) ≡ run (run w us) vs
+run-both w [] vs = refl
+run-both w (u ∷ us) vs = run-both (step w u) us vs
+
+-- ---- the deeds of a receiving call, with its counts
+
+module _ (f e : End) where
+  chosen : (t : Bool) (cs ds : List Call) (xs ys : List Count) → (t ≡ true → takesIn e (doesAll (f .out .sealed) (e .into) cs) xs ≡ actsAll f e (hearing cs))
+      → (t ≡ false → takesIn e (doesAll (f .out .sealed) (e .into) ds) ys ≡ actsAll f e (hearing ds))
+      → takesIn e (doesAll (f .out .sealed) (e .into) (choose t cs ds)) (choose t xs ys) ≡ actsAll f e (hearing (choose t cs ds))
+  unfolding choose
+  chosen true cs ds xs ys p q = p refl
+  chosen false cs ds xs ys p q = q refl
+
+  heard-as : (c : InCall) → takesIn e (doesAll (f .out .sealed) (e .into) (callsOf c)) (countsTo e c) ≡ actsAll f e (hearing (callsOf c))
+  heard-as («husk_receiving_key» r v k iv) = refl
+  heard-as («husk_receiving_remove» r v k) = refl
+  heard-as («husk_receiving_enable_encryption» r v) = refl
+  heard-as («husk_receiving_release_application_data» r v) = refl
+  heard-as («husk_receiving_begin» r v d) = refl
+  heard-as («husk_receiving_begin_read» r v d) =
+      chosen (ltb 16384 (length d)) (begin· d ∷ []) (begin· d ∷ read· ∷ []) _ _ (λ t. refl)
+      (λ t.
+      ap (λ (n : ℕ). takesIn e (doesAll (f .out .sealed) (e .into) (begin· d ∷ read· ∷ [])) (count e n (count e (suc (e .into .lastSerial)) (e .counts))))
+      (sym (if-false (e .into .serial) (suc (e .into .lastSerial)) t)))
+  heard-as («husk_receiving_read» r v) = refl
+  heard-as («husk_receiving_mask» r v n₀ n₁ b) = refl
+  heard-as («husk_receiving_opened» r v o len) = chosen (leb o 1) (open· (openingOf o len) ∷ []) [] _ _ (λ t. refl) (λ t. refl)
+  heard-as («husk_receiving_read_over» r v d) = refl
+  heard-as («husk_receiving_mask_over» r v n₀ n₁ b d) = refl
+  heard-as («husk_receiving_opened_over» r v o len d) = chosen (leb o 1) (openOver· (openingOf o len) d ∷ []) [] _ _ (λ t. refl) (λ t. refl)
+  heard-as («host_writes» r p) = refl
+
+module _ (masks : Side → Masks) where
+  -- ---- what is asked
+
+  abbrev FairAll : Side → End → End → List Deed → Type 0
+  FairAll s f e [] = Unit {0}
+  FairAll s f e (d ∷ ds) = FairDeed masks s f e d × FairAll s f (acts f e d) ds
+
+  honest-at : (s : Side) (w : World) (ds : List Deed) → FairAll s (w (far s)) (w s) ds → Honest masks w (at s ds)
+  honest-at post w [] g = tt
+  honest-at post w (d ∷ ds) g = (g .0, honest-at post (step w (record { side = post; deed = d })) ds (g .1))
+  honest-at gateway w [] g = tt
+  honest-at gateway w (d ∷ ds) g = (g .0, honest-at gateway (step w (record { side = gateway; deed = d })) ds (g .1))
+
+  honest-both : (w : World) (us vs : List Event) → Honest masks w us → Honest masks (run w us) vs → Honest masks w (us ++ vs)
+  honest-both w [] vs g h = h
+  honest-both w (u ∷ us) vs g h = (g .0, honest-both (step w u) us vs (g .1) h)
+
+  module _ (s : Side) (f e : End) where
+    fair-chosen : (t : Bool) (cs ds : List Call) → (FairDeeds masks s f e (hearing cs) → FairAll s f e (hearing cs)) → (FairDeeds masks s f e (hearing ds) → FairAll s f e (hearing ds))
+        → FairDeeds masks s f e (hearing (choose t cs ds)) → FairAll s f e (hearing (choose t cs ds))
+    unfolding choose
+    fair-chosen true cs ds p q = p
+    fair-chosen false cs ds p q = q
+
+    fair-heard : (c : InCall) → FairDeeds masks s f e (hearing (callsOf c)) → FairAll s f e (hearing (callsOf c))
+    fair-heard («husk_receiving_key» r v k iv) g = g
+    fair-heard («husk_receiving_remove» r v k) g = g
+    fair-heard («husk_receiving_enable_encryption» r v) g = g
+    fair-heard («husk_receiving_release_application_data» r v) g = g
+    fair-heard («husk_receiving_begin» r v d) g = g
+    fair-heard («husk_receiving_begin_read» r v d) g = fair-chosen (ltb 16384 (length d)) (begin· d ∷ []) (begin· d ∷ read· ∷ []) (λ k. k) (λ k. (tt, (tt, tt))) g
+    fair-heard («husk_receiving_read» r v) g = g
+    fair-heard («husk_receiving_mask» r v n₀ n₁ b) g = g
+    fair-heard («husk_receiving_opened» r v o len) g = fair-chosen (leb o 1) (open· (openingOf o len) ∷ []) [] (λ k. k) (λ k. k) g
+    fair-heard («husk_receiving_read_over» r v d) g = g
+    fair-heard («husk_receiving_mask_over» r v n₀ n₁ b d) g = g
+    fair-heard («husk_receiving_opened_over» r v o len d) g = fair-chosen (leb o 1) (openOver· (openingOf o len) d ∷ []) [] (λ k. k) (λ k. k) g
+    fair-heard («host_writes» r p) g = g
+
+    fair : (a : Act) → FairDeeds masks s f e (deedsOf a) → FairAll s f e (deedsOf a)
+    fair (inward c) g = fair-heard c g
+    fair («husk_sending_sealing» r) g = g
+    fair (outward c) g = g
+    fair (outwardOver c q k) g = g
+    fair («host_seals» r bytes) g = g
+
+  -- ---- one call at one host; f the far host
+
+  -- what a sending call is owed it is answered
+  abbrev Owes : End → Act → Type 0
+  Owes e (inward c) = Unit {0}
+  Owes e («husk_sending_sealing» r) = Unit {0}
+  Owes e (outward c) = answered (e .out .stores) (sendOf c) ≡ owed (e .ledger) (sendOf c)
+  Owes e (outwardOver c q k) = Unit {0}
+  Owes e («host_seals» r bytes) = Unit {0}
+
+  owes : (w : World) → Good masks w → (s : Side) (a : Act) → FairDeeds masks s (w (far s)) (w s) (deedsOf a) → Owes (w s) a
+  owes w g s (inward c) h = tt
+  owes w g s («husk_sending_sealing» r) h = tt
+  owes w g s (outward c) h = every-does (masks s) (w s .out) (w s .ledger) (sendOf c) (g .matches s) (h .0 .0) .reply
+  owes w g s (outwardOver c q k) h = tt
+  owes w g s («host_seals» r bytes) h = tt
+
+  module _ (f h : Host) (o : Stands h) where
+    square : Sound (h .seen .into .into) → (a : Act) → Made h a → Owes (h .seen) a → behind f h a .seen ≡ actsAll (f .seen) (h .seen) (deedsOf a)
+    square z (inward c) m d =
+        ap (λ (i : Inbound). takesIn (h .seen) i (countsTo (h .seen) c)) (in-square (h .incoming) (h .seen .into) (o .incoming) (f .seen .out .sealed) z c m)
+        ∙ heard-as (f .seen) (h .seen) c
+    square z («husk_sending_sealing» r) m d = refl
+    square z (outward c) m d = out-square (h .outgoing) (h .seen) (o .outgoing) (f .seen) c m d
+    square z (outwardOver c q k) m d = over-square (h .outgoing) (h .seen) (o .outgoing) c q k m (f .seen)
+    square z («host_seals» r bytes) m d = fill-square (h .outgoing) (h .seen) (o .outgoing) r bytes (m .0) (m .1) (m .2) (f .seen)
+
+    stands-on : (a : Act) → Made h a → Stands (behind f h a)
+    stands-on (inward c) m = record {
+      incoming = in-stands (h .incoming) (h .seen .into) (o .incoming) (f .seen .out .sealed) c m;
+      outgoing = record { flat = o .outgoing .flat; flat-flight = o .outgoing .flat-flight; stores = o .outgoing .stores; shown = o .outgoing .shown };
+    }
+    stands-on («husk_sending_sealing» r) m = o
+    stands-on (outward c) m = record { incoming = o .incoming; outgoing = out-stands (h .outgoing) (h .seen) (o .outgoing) c m }
+    stands-on (outwardOver c q k) m = record { incoming = o .incoming; outgoing = over-stands (h .outgoing) (h .seen) (o .outgoing) c q k m }
+    stands-on («host_seals» r bytes) m = record { incoming = o .incoming; outgoing = fill-stands (h .outgoing) (h .seen) (o .outgoing) r bytes (m .0) (m .1) (m .2) }
+
+    answer : (a : Act) → Made h a → Answered h a
+    answer (inward c) m = in-answer (h .incoming) (h .seen .into) (o .incoming) c m
+    answer («husk_sending_sealing» r) m = sealing-answer (h .outgoing) (h .seen) (o .outgoing) r m
+    answer (outward c) m = out-answer (h .outgoing) (o .outgoing .flat) (o .outgoing .flat-flight) c m
+    answer (outwardOver c q k) m = out-answer (lends (h .outgoing) q k) (o .outgoing .flat) (o .outgoing .flat-flight) c m
+    answer («host_seals» r bytes) m = sealing-answer (h .outgoing) (h .seen) (o .outgoing) r (m .0)
+
+  -- ---- one call at one of two
+
+  module _ (hs : Hosts) (o : (s : Side) → Stands (hs s)) (g : Good masks (sightOf hs)) where
+    sight-on : (s : Side) (a : Act) → Made (hs s) a → Owes (hs s .seen) a → (t : Side)
+        → after hs (record { side = s; act = a }) t .seen ≡ run (sightOf hs) (at s (deedsOf a)) t
+    sight-on post a m d post = square (hs gateway) (hs post) (o post) (g .link post .sound) a m d ∙ sym (run-at post (sightOf hs) (deedsOf a) .0)
+    sight-on post a m d gateway = sym (run-at post (sightOf hs) (deedsOf a) .1)
+    sight-on gateway a m d post = sym (run-at gateway (sightOf hs) (deedsOf a) .1)
+    sight-on gateway a m d gateway = square (hs post) (hs gateway) (o gateway) (g .link gateway .sound) a m d ∙ sym (run-at gateway (sightOf hs) (deedsOf a) .0)
+
+    both-stand : (s : Side) (a : Act) → Made (hs s) a → (t : Side) → Stands (after hs (record { side = s; act = a }) t)
+    both-stand post a m post = stands-on (hs gateway) (hs post) (o post) a m
+    both-stand post a m gateway = o gateway
+    both-stand gateway a m post = o post
+    both-stand gateway a m gateway = stands-on (hs post) (hs gateway) (o gateway) a m
+
+    -- g′ what holds behind it
+    owed-on : (s : Side) (a : Act) → Made (hs s) a → Good masks (sightOf (after hs (record { side = s; act = a }))) → Owed (hs s) a
+    owed-on post a m g′ = owed-now (hs gateway) (hs post) (o post) (g .link post .sound) (fine masks (sightOf hs) g post) a m (fine masks (sightOf (after hs (record { side = post; act = a }))) g′ post)
+    owed-on gateway a m g′ = owed-now (hs post) (hs gateway) (o gateway) (g .link gateway .sound) (fine masks (sightOf hs) g gateway) a m (fine masks (sightOf (after hs (record { side = gateway; act = a }))) g′ gateway)
+
+  -- ---- a list of calls
+
+  record Seen (hs : Hosts) (cs : List CCall) : Type 0 where
+    honest : Honest masks (sightOf hs) (eventsOf cs)
+    agrees : sightOf (runs hs cs) ≡ run (sightOf hs) (eventsOf cs)
+    stands : (s : Side) → Stands (runs hs cs s)
+    answered : AllAnswered hs cs
+    owed : AllOwed hs cs
+
+  all-seen : (hs : Hosts) (cs : List CCall) → ((s : Side) → Stands (hs s)) → Good masks (sightOf hs) → AllMade hs cs → AllFair masks hs cs → Seen hs cs
+  all-seen hs [] o g m h = record { honest = tt; agrees = refl; stands = o; answered = tt; owed = tt }
+  all-seen hs (c ∷ cs) o g m h =
+      let s = c .side in
+      let us = at s (deedsOf (c .act)) in
+      let w = sightOf hs in
+      let one = honest-at s w (deedsOf (c .act)) (fair s (w (far s)) (w s) (c .act) (h .0)) in
+      let now : (t : Side) → after hs c t .seen ≡ run w us t = sight-on hs o g s (c .act) (m .0) (owes w g s (c .act) (h .0)) in
+      let seen : sightOf (after hs c) ≡ run w us = (λ i t. now t i) in
+      let good = subst (Good masks) (sym seen) (run-keeps masks w us g one) in
+      let rest = all-seen (after hs c) cs (both-stand hs o g s (c .act) (m .0)) good (m .1) (h .1) in
+      record {
+        honest = honest-both w us (eventsOf cs) one (subst (λ (v : World). Honest masks v (eventsOf cs)) seen (rest .honest));
+        agrees = rest .agrees ∙ ap (λ (v : World). run v (eventsOf cs)) seen ∙ sym (run-both w us (eventsOf cs));
+        stands = rest .stands;
+        answered = (answer (hs (far s)) (hs s) (o s) (c .act) (m .0), rest .answered);
+        owed = (owed-on hs o g s (c .act) (m .0) good, rest .owed);
+      }
+
+-- ---- the start
+
+-- the starting calls answered 0: settings in range
+startable : (s : Setting) (h : Host) → Started s h → Startable s
+startable s h t =
+    let r = sending-starts (s .mtu) (s .limit) .0 .0 (sym (t .sending .0)) in record {
+      low = r .low;
+      high = r .high;
+      some = r .some;
+      most = r .most;
+      min = receiving-starts (s .min) .0 .0 (sym (t .receiving .0));
+      room = t .room;
+    }
+
+fresh-state : (mtu limit : ℕ) → started mtu limit .state ≡ freshSending mtu limit
+unfolding started
+fresh-state mtu limit = refl
+
+fresh-notes : acks.notesOf (replicate 1 0) (replicate 32 0) (replicate 32 0) ≡ freshNotes
+unfolding freshNotes
+fresh-notes = refl
+
+-- a fresh state asks nothing
+fresh-lent : (mtu limit : ℕ) (q : List ℕ) → none ≡ world.lends (freshSending mtu limit) q none
+unfolding world.lends questionOf freshSending noWaiting
+fresh-lent mtu limit q =
+    by-test (λ (k : asked.Question). none ≡ lentBy (k .question) (k .nonce) (k .header) none q)
+    (λ s. by-test (λ (k : asked.Question). none ≡ lentBy (k .question) (k .nonce) (k .header) none q)
+    (λ t. ap (λ (k : asked.Question). lentBy (k .question) (k .nonce) (k .header) none q) (sym (if-false _ _ refl))) (λ t. refl))
+    (λ s. refl)
+
+starts : (s : Setting) (h : Host) → Started s h → Stands h
+starts s h t =
+    let e = sym (t .seen) in
+    let z = t .sending .1 ∙ fresh-state (s .mtu) (s .limit) in
+    let n : acks.notesOf (h .outgoing .count) (h .outgoing .epochs) (h .outgoing .noted) ≡ freshNotes =
+    (λ i. acks.notesOf (t .count i) (t .epochs i) (t .noted i)) ∙ fresh-notes in record {
+      incoming = record {
+        flat = t .receiving .2;
+        state = t .receiving .1 ∙ ap (λ (x : End). x .into .into .state) e;
+        datagram = t .datagram ∙ ap (λ (x : End). x .into .into .datagram) e;
+      };
+      outgoing = record {
+        flat = t .sending .2;
+        flat-flight = t .flight .1;
+        stores = (λ i. record { state = z i; queue = t .queue i; flight = t .flight .0 i; kept = t .kept i; notes = n i }) ∙ ap (λ (x : End). x .out .stores) e;
+        shown = (
+          none,
+          sym (ap (λ (x : End). x .out .lent) e) ∙ fresh-lent (s .mtu) (s .limit) (h .outgoing .queue)
+              ∙ ap (λ (x : Sending). world.lends x (h .outgoing .queue) none) (sym z) ∙ sym (shows-now (h .outgoing) (t .sending .2) none),
+        );
+      };
+    }
+
+-- ---- every list of calls
+
+pub every-list-of-calls : EveryListOfCalls
+every-list-of-calls settings hs st masks cs made fair =
+    let ok : (s : Side) → Startable (settings s) = λ s. startable (settings s) (hs s) (st s) in
+    let first : sightOf hs ≡ fresh-pair settings = (λ i s. st s .seen i) in
+    let k = all-seen masks hs cs (λ s. starts (settings s) (hs s) (st s)) (subst (Good masks) (sym first) (new-good masks settings ok)) made fair in
+    let honest = subst (λ (w : World). Honest masks w (eventsOf cs)) first (k .honest) in
+    let agrees = k .agrees ∙ ap (λ (w : World). run w (eventsOf cs)) first in
+    let holds = every-list settings ok masks (eventsOf cs) honest in record {
+      honest = honest;
+      agrees = λ s. ap (λ (w : World). w s) agrees;
+      stands = k .stands;
+      answered = k .answered;
+      owed = k .owed;
+      holds = holds;
+      saw = λ s e. subst (λ (w : World). Holds w s e) (sym agrees) (holds s e);
+    }

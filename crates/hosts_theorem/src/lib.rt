@@ -1,0 +1,1 @@
+// Two hosts that call the C library: every list of its calls is a list of events of the claim (crate ends_theorem), laws alone.
