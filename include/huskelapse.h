@@ -11,10 +11,13 @@
  * `refusal`, 0 where nothing is refused. A refused call leaves every buffer, and words that calls made, as they are, but for the _init
  * calls, which begin them; words that no call made it may write anew with the same meaning.
  *
- * What 12 covers: a setting outside its range; words that are no state (a flag above 1, a count or a place beyond its limit, a number
- * above 2^48 - 1, a waiting question or sealing that lies outside the datagram or the queue); a queue under limit times mtu bytes, a
- * flight's memory under 12 times mtu bytes. What 12 does not cover: whether words are those that the last call at this end left, whether
- * a buffer is the one lent before, and fields that a call does not use. */
+ * What 12 covers: a setting outside its range; words that are no state (a flag above 1; more epochs, datagrams, saved or noted records
+ * than there can be; a place or a length beyond the datagram or the slot; a window, an opening question or the oldest sealing with a
+ * number above 2^48 - 1); a queue under limit times mtu bytes, a flight's memory under 12 times mtu bytes. What 12 does not cover: whether
+ * words are those that the last call at this end left, whether a buffer is the one lent before, a next number to send that is too high
+ * (20), epochs and the message number (read modulo 65,536), and words that a call does not use.
+ *
+ * Refusals are listed with each call in the order in which they are tested; docs/SPECIFICATION.md has every test. */
 #ifndef HUSKELAPSE_H
 #define HUSKELAPSE_H
 
@@ -158,7 +161,7 @@ uint8_t husk_receiving_release_application_data(HuskReceiving *s);
  * call. d is not const where a call may write the number bytes of a record (mask does; read and begin_read will for epochs whose masks
  * the library makes itself). */
 
-/* Begins a datagram of n bytes; a question that waits is cancelled. Refused by 1, 12. */
+/* Begins a datagram of n bytes; a question that waits is cancelled. Refused by 12, 1. */
 uint8_t husk_receiving_begin(HuskReceiving *s, size_t n);
 /* The next record, or the question that waits again. Refused by 12, 15; ended by 2, 3; dropped by 4, 5, 6, 7. */
 HuskReading husk_receiving_read(HuskReceiving *s, uint8_t *d, size_t n);
@@ -240,7 +243,7 @@ uint8_t husk_sending_send(HuskSending *s, uint16_t epoch, uint8_t content_type, 
     uint8_t *queue, size_t queue_len);
 /* The oldest sealing that waits; the host seals it in place in the queue, then says so. Refused by 12. */
 HuskSealing husk_sending_sealing(const HuskSending *s);
-/* The front datagram, copied to the start of a buffer. Refused by 12, 16, 23. */
+/* The front datagram, copied to the start of a buffer. Refused by 12, 23, 16. */
 HuskTake husk_sending_take(HuskSending *s, uint8_t *buffer, size_t buffer_len, const uint8_t *queue, size_t queue_len);
 /* The front datagram taken without a copy: it is the length bytes of the queue from start on, and stays there until the next call that
  * is lent the queue to write to. Refused by 12, 23. */
@@ -306,14 +309,14 @@ static inline uint8_t husk_flight_send(HuskFlight *f, HuskSending *s, uint16_t e
 }
 
 /* A handshake message of a type, cut, sent and saved, wholly or not at all: ClientHello (1) and ServerHello (2) in epoch 0, others in
- * epoch 2. Refused by 12, 14, 17, 18, 19, 20, 21. */
+ * epoch 2. Refused by 12, 14, 17, 21, 18, 19, 20. */
 static inline uint8_t husk_flight_message(HuskFlight *f, HuskSending *s, uint8_t msg_type, const uint8_t *body, size_t body_len,
     uint8_t *queue, size_t queue_len, uint8_t *kept, size_t kept_len) {
     return husk_flight_message_words(s, f->word, f->numbers, msg_type, body, body_len, queue, queue_len, kept, kept_len);
 }
 
 /* The saved records that are not acknowledged, sent again under new numbers in new datagrams, wholly or not at all. told is how many:
- * with 0 a retransmission timer has nothing to do. Refused by 12, 13, 14, 17, 19, 20, 22. */
+ * with 0 a retransmission timer has nothing to do. Refused by 12, 13, 14, 17, 22, 19, 20. */
 static inline HuskTold husk_flight_resend(HuskFlight *f, HuskSending *s, const uint8_t *kept, size_t kept_len, uint8_t *queue,
     size_t queue_len) {
     return husk_flight_resend_words(s, f->word, f->numbers, kept, kept_len, queue, queue_len);
@@ -345,7 +348,7 @@ static inline HuskTold husk_notes_add(HuskNotes *n, uint64_t epoch, uint64_t num
 }
 
 /* The ACK of all that is noted, sent in the application epoch if keyed, else in 2; then nothing is noted. told is 1, or 0 where nothing
- * was noted and nothing is sent. Refused by 12, 13, 17, 19, 20. */
+ * was noted and nothing is sent. Refused by 12, 17, 19, 20 (and 13 from words that no call made). */
 static inline HuskTold husk_notes_send(HuskNotes *n, HuskSending *s, uint8_t *queue, size_t queue_len) {
     return husk_notes_send_words(s, n->count, n->epochs, n->numbers, queue, queue_len);
 }
