@@ -1,5 +1,5 @@
 -- Records noted for the outgoing ACK, and sending it (01, "Flights acknowledged or sent again"; RFC 9147, section 7). Assumes nothing.
-use mathlib.Core.Bool.{false}
+use mathlib.Core.Bool.{Bool, false}
 use mathlib.Core.List.{List, [], _++_}
 use mathlib.Core.Path.{_≡_, refl, sym, ap, _∙_}
 use Prim.Native.Nat.{ℕ, zero, suc, _+_, _-_, _*_, _≤_}
@@ -8,7 +8,7 @@ use native.Mathlib.Omega.{arith}
 use lib.Dec.{ltb, eqb}
 use lib.ListN.{length, getD, set, replicate, length-append, take-append-drop}
 use Rattle.base.specs.Bytes.{be}
-use Rattle.base.specs.Choose.{choose, by-test, if-false}
+use Rattle.base.specs.Choose.{choose, by-test, if-true, if-false}
 use Rattle.base.specs.Parts.{splice, splice-next, splice-whole}
 use Rattle.queue.specs.Queue.{isReady}
 use Rattle.send_keys.specs.declared.SendKeys.{SendKeys}
@@ -23,12 +23,6 @@ use Rattle.acks.specs.declared.NoteAnswer.{NoteAnswer}
 use Rattle.acks.specs.declared.NoteAnswer.the-variants.{Noted, Full, OutOfRange}
 use Rattle.acks.specs.declared.Noting.{Noting}
 use Rattle.acks.specs.declared.AckSent.{AckSent}
-
--- the paper's number of each answer; 0 where it is done
-abbrev pub refusal : NoteAnswer → ℕ
-refusal Noted = 0
-refusal Full = 0
-refusal OutOfRange = 12
 
 unfoldable pub freshNotes : Notes
 freshNotes = record { count = 0; epochs = replicate 32 0; numbers = replicate 32 0 }
@@ -138,3 +132,13 @@ unfolding sentAck ackSent
 refused-notes s n room =
     by-test (λ (x : AckSent). isDone (x .answer) ≡ false → x .notes ≡ n)
     (λ d. by-test (λ (x : AckSent). isDone (x .answer) ≡ false → x .notes ≡ n) (λ z h. refl) (λ z h. if-false _ _ h)) (λ d h. refl)
+
+-- a record is sent exactly where something was noted and nothing refused
+pub sent-exactly : (s : Sending) (n : Notes) (room : ℕ) → sentAck s n room .sent ≡ choose (eqb (n .count) 0) false (isDone (sentAck s n room .answer))
+unfolding sentAck ackSent
+sent-exactly s n room =
+    let no = nothingSent (ackAnswer s n room) s n in
+    let yes = ackSent (noticeState s n room) n in
+    by-test (λ (x : AckSent). x .sent ≡ choose (eqb (n .count) 0) false (isDone (x .answer))) {x = choose (eqb (n .count) 0) no yes} {y = no}
+    (λ d. by-test (λ (x : AckSent). x .sent ≡ choose (eqb (n .count) 0) false (isDone (x .answer))) {x = no} {y = yes} (λ z. sym (if-true _ _ z)) (λ z. sym (if-false _ _ z)))
+    (λ d. sym (by-test (λ (b : Bool). b ≡ false) (λ z. refl) (λ z. d)))

@@ -52,7 +52,8 @@ pub record Holds (w : World) (s : Side) (e : ℕ) : Type 0 where
   -- "Each sending of a saved record is a record of its own": no number is a sending of two saved records in an epoch
   pub own-sendings : Apart (w (far s) .ledger .saved)
   -- beside the demand, so that the above is not hollow:
-  -- each sending call, refused or not, was answered as the account says: by N exactly if N's condition holds and none before it in 01's order
+  -- each sending call, refused or not, was answered as the account says: by N exactly if N's condition holds and none before it in 01's order; and
+  -- told besides how many records it sent again or newly acknowledged, and whether one was noted or sent
   pub answers : (a : Said) → Mem a (w (far s) .said) → a .reply ≡ a .owed
   -- over memory that is too short nothing of it changes either
   pub overs-kept : (o : Over) → Mem o (w (far s) .overs) → (o .queue′ ≡ o .queue) × (o .kept′ ≡ o .kept)

@@ -228,6 +228,11 @@ abbrev pub anyWaits : List Item → Bool
 anyWaits [] = false
 anyWaits (i ∷ is) = either (i .waits) (anyWaits is)
 
+-- how many wait
+abbrev pub waiting : List Item → ℕ
+waiting [] = 0
+waiting (i ∷ is) = choose (i .waits) 1 0 + waiting is
+
 abbrev pub waitsUnder : ℕ → List Item → Bool
 waitsUnder e [] = false
 waitsUnder e (i ∷ is) = either (both (i .waits) (eqb (i .epoch) e)) (waitsUnder e is)
@@ -427,6 +432,15 @@ resendNumber l =
     13)
     12
 
+-- how many of them are not acknowledged
+abbrev pub unacked : List Kept → ℕ
+unacked [] = 0
+unacked (k ∷ ks) = choose (k .acked) 0 1 + unacked ks
+
+-- and so many are sent again, where that is done
+abbrev pub resendReply : Ledger → Reply
+resendReply l = record { number = resendNumber l; told = choose (eqb (resendNumber l) 0) (unacked (l .saved)) 0 }
+
 -- ---- an ACK acted on
 
 -- "2-byte length, then pairs of 8-byte epoch and number"; "under 2 bytes, a false length, or a length not a multiple of 16 marks nothing"
@@ -448,6 +462,11 @@ abbrev pub marked : List Name → List Kept → List Kept
 marked ns [] = []
 marked ns (k ∷ ks) =
     record { epoch = k .epoch; type = k .type; content = k .content; sendings = k .sendings; acked = either (k .acked) (isNamed ns k) } ∷ marked ns ks
+
+-- how many of the saved records these names newly acknowledge; a malformed ACK has none
+abbrev pub newlyAcked : List Name → List Kept → ℕ
+newlyAcked ns [] = 0
+newlyAcked ns (k ∷ ks) = choose (k .acked) 0 (choose (isNamed ns k) 1 0) + newlyAcked ns ks
 
 abbrev pub anyTwo : List Kept → Bool
 anyTwo [] = false
@@ -521,11 +540,11 @@ owed l (send· e t x) = only (sendNumber l e t (length x))
 owed l (save· e t x) = only (saveNumber l e t x)
 owed l (message· kind body) = only (messageNumber l kind body)
 owed l beginFlight· = only 0
-owed l resend· = only (resendNumber l)
+owed l resend· = resendReply l
 -- "up to 32; later ones are not noted"
 owed l (note· e n) = record { number = 0; told = choose (ltb (length (l .noted)) mostNoted) 1 0 }
 owed l sendAck· = ackReply l
-owed l (ack· d) = only 0
+owed l (ack· d) = record { number = 0; told = newlyAcked (namesIn d) (l .saved) }
 owed l (fill· v) = only 0
 owed l (sealed· n m) = only (sealReply (oldest (items (l .queue))) n)
 owed l (take· buffer) = takeReply (l .queue) (length buffer)

@@ -13,6 +13,7 @@ pub mod Sends
 pub mod Width
 pub mod Starting
 pub mod Matches
+pub mod Counting
 pub mod Matching
 pub mod Single
 pub mod Cuts
@@ -30,4 +31,5 @@ pub mod Claim
 pub mod Given
 pub mod Shown
 pub mod Proof
+pub mod Status
 pub mod Example

@@ -20,13 +20,15 @@ use Rattle.process_ack.specs.declared.Acked.{Acked}
 use Rattle.process_ack.specs.declared.Tally.{Tally}
 use Rattle.process_ack.specs.Ack as program
 use Rattle.process_ack.specs.Ack.{pairsIn, isPair, isRemembered, isAcked, withMark, markAt, marksAfter, tallyWith, tallyAfter, emptied, acked, marks-saved, later-same}
+use Rattle.process_ack.specs.Status.{newlyMarked}
 use Rattle.waiting_laws.specs.Calls.{Stores, beginFlight·, ack·, only}
 use Rattle.history_theorem.specs.Account.{isIn}
 use Rattle.history_theorem.specs.Lists.{by-both}
 use Rattle.send_keys.specs.Answer.{refusal}
+use Rattle.ends_theorem.specs.Counting.{unacked-is}
 use Rattle.ends_theorem.specs.Laws.{markedAs, or-is}
 use Rattle.ends_theorem.specs.Ledger as ledger
-use Rattle.ends_theorem.specs.Ledger.{Kept, Name, Ledger, known, isFormed, pairsOf, namesIn, isNamed, marked, anyTwo, allTwo, isOver, ackedBy, after, sentBy}
+use Rattle.ends_theorem.specs.Ledger.{Kept, Name, Ledger, known, unacked, isFormed, pairsOf, namesIn, isNamed, marked, newlyAcked, anyTwo, allTwo, isOver, ackedBy, after, sentBy}
 use Rattle.ends_theorem.specs.Matches.{older, EntryIs, Entries, FlightIs, Matches, Does}
 use Rattle.ends_theorem.specs.Matching.{beside}
 
@@ -180,6 +182,27 @@ marks-flight d n mtu f kept ks o =
       table = ap length (marks-numbers d n f (f .saved)) ∙ o .table;
     }
 
+-- ---- how many are newly marked
+
+newly-step : (a b : Bool) → choose (either a b) 0 1 + choose a 0 (choose b 1 0) ≡ choose a 0 1
+unfolding choose either
+newly-step true b = refl
+newly-step false true = refl
+newly-step false false = refl
+
+newly-left : (ns : List Name) (ks : List Kept) → unacked (marked ns ks) + newlyAcked ns ks ≡ unacked ks
+newly-left ns [] = refl
+newly-left ns (k ∷ ks) = omega (arith, newly-step (k .acked) (isNamed ns k), newly-left ns ks)
+
+none-step : (a : Bool) → _≡_ {A = ℕ} (choose a 0 (choose false 1 0)) 0
+unfolding choose
+none-step true = refl
+none-step false = refl
+
+newly-none : (ks : List Kept) → newlyAcked [] ks ≡ 0
+newly-none [] = refl
+newly-none (k ∷ ks) = omega (arith, none-step (k .acked), newly-none ks)
+
 -- ---- a flight that is over
 
 tally-step : (t : Tally) (b m : Bool)
@@ -280,10 +303,26 @@ module _ (w : Stores) (l : Ledger) (m : Matches w l) where
       (over-flight (l .mtu) _ (w .kept) _ (marks-flight d (pairsIn d) (l .mtu) (w .flight) (w .kept) (l .saved) (m .flight))) (m .noted)))
       (λ t. m))
 
+  -- told is how many the account newly acknowledges
+  newly-is : (d : List ℕ) → newlyMarked (w .flight) d ≡ newlyAcked (namesIn d) (l .saved)
+  unfolding newlyMarked namesIn
+  newly-is d =
+      if-false _ _ (le-ltb 12 (w .flight .saved) (m .flight .most))
+      ∙ by-both (λ (a : ℕ) (ns : List Name). a ≡ newlyAcked ns (l .saved)) (sym (formed-is d))
+      (λ t.
+      let o = m .flight in
+      omega (
+        arith,
+        unacked-is o,
+        unacked-is (marks-flight d (pairsIn d) (l .mtu) (w .flight) (w .kept) (l .saved) o),
+        newly-left (pairsOf d (pairsIn d)) (l .saved),
+      ))
+      (λ t. sym (newly-none (l .saved)))
+
   pub ack-does : (d : List ℕ) → Does w l (ack· d)
   unfolding after sentBy choose
   ack-does d = record {
-    reply = ap (λ (r : Acked). only (refusal (r .answer))) (acked-done d);
+    reply = λ j. record { number = refusal (acked-done d j .answer); told = newly-is d j };
     leaves = ack-leaves d;
     books = λ b. refl;
   }

@@ -508,6 +508,11 @@ module _ (masks : Side → Masks) where
 pub every-list : EveryList
 every-list settings ok masks vs honest s e = holds masks (run (fresh-pair settings) vs) (reached masks settings ok vs honest) s e
 
+-- behind every list of calls the state of each end is as its account
+pub always-matches : (settings : Side → Setting) → ((s : Side) → Startable (settings s)) → (masks : Side → Masks) (vs : List Event) → Honest masks (fresh-pair settings) vs
+    → (s : Side) → let e = run (fresh-pair settings) vs s in Matches (e .out .stores) (e .ledger)
+always-matches settings ok masks vs honest s = reached masks settings ok vs honest .matches s
+
 -- a host that keeps the rules can always send its stop order: with an application epoch keyed, a record that a datagram holds, a datagram free
 -- in the queue and a number left, the call is done, after every list of calls
 pub stop-order-sent : (settings : Side → Setting) → ((s : Side) → Startable (settings s)) → (masks : Side → Masks) (vs : List Event) → Honest masks (fresh-pair settings) vs

@@ -27,12 +27,14 @@ use Rattle.resend.specs.Tests.{remembers, hasRoom, passes, allPass, joined, tai
 use Rattle.resend_laws.specs.Plan.{Able, able}
 use Rattle.resend_laws.specs.Steps.{again-skips, again-lays, renewed-entries, renewed-numbers, renewed-saved, renewed-other, Tables, Reached, again-done, reaches}
 use Rattle.resend_laws.specs.Whole.{can-remember, renewed-own, renewed-cell, renewed-cells}
-use Rattle.waiting_laws.specs.Calls.{Stores, resend·, stored, only}
+use Rattle.waiting_laws.specs.Answers.{answered}
+use Rattle.waiting_laws.specs.Calls.{Stores, resend·, stored}
 use Rattle.waiting_laws.specs.Resends.{closed-holds}
 use Rattle.waiting_laws.specs.Sends as sends
 use Rattle.history_theorem.specs.Lists.{upd-by, by-both}
 use Rattle.send_keys.specs.Answer.{isDone, refusal, done-number}
 use Rattle.ends_theorem.specs.Books.{lays, againBooks, closing, resendBooks}
+use Rattle.ends_theorem.specs.Counting.{unacked-is}
 use Rattle.ends_theorem.specs.Laws.{enters-append, under, or-is}
 use Rattle.ends_theorem.specs.Ledger as ledger
 use Rattle.ends_theorem.specs.Ledger.{Kept, Going, Ledger, firstOf, known, withSaved, sendsAgain, again, all, resendNumber, closes}
@@ -511,6 +513,10 @@ module _ (w : Stores) (l : Ledger) (i : Matches w l) where
   accepted-is : eqb (resendNumber l) 0 ≡ isDone (answerOf w)
   accepted-is = ap (λ (n : ℕ). eqb n 0) (sym (answer-is w l i)) ∙ done-number (answerOf w)
 
+  -- as many as are not acknowledged
+  reply-is : answered w resend· ≡ ledger.resendReply l
+  reply-is = λ j. record { number = answer-is w l i j; told = choose (sym accepted-is j) (unacked-is (i .flight) j) 0 }
+
   -- an accepted resend
   module _ (d : isDone (answerOf w) ≡ true) where
     all-sent : Sofar w (w .flight .saved) (ledger.resent l) []
@@ -532,5 +538,5 @@ module _ (w : Stores) (l : Ledger) (i : Matches w l) where
 pub resend-does : (w : Stores) (l : Ledger) → Matches w l → Does w l resend·
 unfolding resendState resendQueue resendBooks choose
 resend-does w l i =
-    wholly w l i resend· (isDone (answerOf w)) (ap only (answer-is w l i)) (accepted-is w l i) (done-leaves w l i)
+    wholly w l i resend· (isDone (answerOf w)) (reply-is w l i) (accepted-is w l i) (done-leaves w l i)
     (λ d. rw d) (λ d b. rw d (all-sent w l i d .books b)) (λ d b. rw d)

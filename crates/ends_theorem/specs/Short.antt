@@ -22,6 +22,7 @@ use Rattle.taking.specs.declared.TakeAnswer.the-variants as took
 use Rattle.taking.specs.Take.{takeAnswer, isTaken, takeState}
 use Rattle.flight.specs.declared.Flight.{Flight}
 use Rattle.flight.specs.declared.Saved.{Saved}
+use Rattle.flight.specs.Status.{unacknowledged}
 use Rattle.flight.specs.Flight.{isKept, savedWith}
 use Rattle.flight.specs.Save.{saveAnswer, saveState, saveQueue, saveKept}
 use Rattle.messages.specs.Message.{messageAnswer, messageState, messageQueue, messageKept}
@@ -31,7 +32,7 @@ use Rattle.acks.specs.Acks.{ackAnswer, nothingSent, sentAck, ackMemory}
 use Rattle.resend.specs.declared.Resent.{Resent}
 use Rattle.resend.specs.Resend.{resendState, resendQueue}
 use Rattle.resend.specs.Tests.{resendAnswer}
-use Rattle.waiting_laws.specs.Answers.{ackReply, takeReply, answered}
+use Rattle.waiting_laws.specs.Answers.{ackReply, resendReply, takeReply, answered}
 use Rattle.waiting_laws.specs.Calls.{Stores, SendCall, keySend·, send·, save·, message·, beginFlight·, resend·, note·, sendAck·, ack·, fill·, sealed·, take·, stored, lending, Short, only}
 use Rattle.history_theorem.specs.Lists.{mem-by}
 use Rattle.send_keys.specs.Answer.{isDone, refusal}
@@ -99,7 +100,8 @@ short-answered w q k (send· e t x) h = ap (λ a. only (refusal a)) (send-short 
 short-answered w q k (save· e t x) h = ap (λ a. only (refusal a)) (save-short (w .state) (w .flight) q k h e t (length x))
 short-answered w q k (message· kind body) h = ap (λ a. only (refusal a)) (message-short (w .state) (w .flight) q k h kind (length body))
 short-answered w q k beginFlight· h = absurd h
-short-answered w q k resend· h = ap (λ a. only (refusal a)) (resend-short (w .state) (w .flight) q k h)
+short-answered w q k resend· h =
+    ap (λ a. resendReply a (unacknowledged (w .flight))) (resend-short (w .state) (w .flight) q k h) ∙ ap (λ (n : ℕ). record { number = 12; told = n }) (if-false _ _ refl)
 short-answered w q k (note· e n) h = absurd h
 short-answered w q k sendAck· h = ack-told (w .state) q h (w .notes)
 short-answered w q k (ack· d) h = absurd h

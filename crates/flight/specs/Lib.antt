@@ -1,2 +1,3 @@
 pub mod Flight
 pub mod Save
+pub mod Status

@@ -1,14 +1,19 @@
-// The link's C interface, one static library for hosts: each call of recv_calls, send_calls, flight_calls and ack_calls as a C
-// function with the same contract. The library keeps no state.
+// The link's C interface, one static library for hosts: each call of recv_calls, send_calls, flight_calls, ack_calls and status_calls as
+// a C function with the same contract. The library keeps no state.
 ghost use Rattle.recv_calls.specs.Calls as receive;
 ghost use Rattle.send_calls.specs.Calls as sends;
 ghost use Rattle.flight_calls.specs.Calls as flights;
 ghost use Rattle.ack_calls.specs.Calls as acks;
+ghost use Rattle.status_calls.specs.Calls as status;
+use ack_calls::LinkAcked;
+use answers::LinkTold;
 use recv_calls::LinkReading;
 use recv_words::WORDS;
 use send_calls::LinkPart;
 use send_calls::LinkSealing;
 use send_calls::LinkTake;
+use status_calls::LinkQueued;
+use status_calls::LinkSaved;
 
 // ---- receiving
 
@@ -27,7 +32,7 @@ pub extern "C" fn link_key_receive(w: &mut [u64; WORDS], epoch: u16, iv: &[u8; 1
 }
 
 #[no_mangle]
-pub extern "C" fn link_remove_receive(w: &mut [u64; WORDS], epoch: u16) -> u8
+pub extern "C" fn link_remove_receive(w: &mut [u64; WORDS], epoch: u16) -> LinkTold
     ensures { λ r. ⌜ receive.RemoveReceiveCall r (now (w .exit)) (now (w .entry)) epoch ⌝ }
 {
     recv_calls::remove_receive(w, epoch)
@@ -215,7 +220,7 @@ pub extern "C" fn link_resend(
     numbers: &mut [u64; 384],
     kept: &[u8],
     queue: &mut [u8],
-) -> u8
+) -> LinkTold
     ensures { λ r. ⌜ acks.ResendCall r (now (w .exit)) (now (w .entry)) (now (f .exit)) (now (f .entry)) (now (numbers .exit)) (now (numbers .entry)) (now (kept .entry)) (now (queue .exit)) (now (queue .entry)) ⌝ }
 {
     ack_calls::resend(w, f, numbers, kept, queue)
@@ -226,10 +231,17 @@ pub extern "C" fn link_process_ack(
     f: &mut [u64; flight_words::WORDS],
     numbers: &mut [u64; 384],
     content: &[u8],
-) -> u8
+) -> LinkAcked
     ensures { λ r. ⌜ acks.ProcessAckCall r (now (f .exit)) (now (f .entry)) (now (numbers .exit)) (now (numbers .entry)) (now (content .entry)) ⌝ }
 {
     ack_calls::process_ack(f, numbers, content)
+}
+
+#[no_mangle]
+pub extern "C" fn link_notes(count: &mut [u64; 1], epochs: &mut [u64; 32], numbers: &mut [u64; 32])
+    ensures { λ _. ⌜ acks.FreshNotesCall (acks.notesOf (now (count .exit)) (now (epochs .exit)) (now (numbers .exit))) ⌝ }
+{
+    ack_calls::fresh_notes(count, epochs, numbers)
 }
 
 #[no_mangle]
@@ -239,7 +251,7 @@ pub extern "C" fn link_note(
     numbers: &mut [u64; 32],
     epoch: u64,
     number: u64,
-) -> u8
+) -> LinkTold
     ensures { λ r. ⌜ acks.NoteCall r (acks.notesOf (now (count .exit)) (now (epochs .exit)) (now (numbers .exit))) (acks.notesOf (now (count .entry)) (now (epochs .entry)) (now (numbers .entry))) epoch number ⌝ }
 {
     ack_calls::note(count, epochs, numbers, epoch, number)
@@ -252,8 +264,24 @@ pub extern "C" fn link_send_ack(
     epochs: &mut [u64; 32],
     numbers: &mut [u64; 32],
     queue: &mut [u8],
-) -> u8
+) -> LinkTold
     ensures { λ r. ⌜ acks.SendAckCall r (now (w .exit)) (now (w .entry)) (acks.notesOf (now (count .exit)) (now (epochs .exit)) (now (numbers .exit))) (acks.notesOf (now (count .entry)) (now (epochs .entry)) (now (numbers .entry))) (now (queue .exit)) (now (queue .entry)) ⌝ }
 {
     ack_calls::send_ack(w, count, epochs, numbers, queue)
+}
+
+// ---- what is saved, not acknowledged, queued, and waits to be sealed
+
+#[no_mangle]
+pub extern "C" fn link_flight_status(f: &[u64; flight_words::WORDS]) -> LinkSaved
+    ensures { λ r. ⌜ status.FlightStatusCall r (now (f .entry)) ⌝ }
+{
+    status_calls::flight_status(f)
+}
+
+#[no_mangle]
+pub extern "C" fn link_sending_status(w: &[u64; send_words::WORDS]) -> LinkQueued
+    ensures { λ r. ⌜ status.SendingStatusCall r (now (w .entry)) ⌝ }
+{
+    status_calls::sending_status(w)
 }

@@ -1,3 +1,4 @@
 pub mod State
 pub mod Send
 pub mod Laws
+pub mod Status

@@ -6,6 +6,7 @@ use mathlib.Core.Path.{_≡_}
 use Prim.Native.Nat.{ℕ}
 use lib.Dec.{leb, eqb}
 use lib.ListN.{length}
+use Rattle.answers.specs.declared.LinkTold.{LinkTold}
 use Rattle.base.specs.Choose.{choose, both}
 use Rattle.datagram.specs.declared.Step.{Step}
 use Rattle.receiving.specs.Receiving.{freshOf, keyOf, removeOf, encryptOf, releaseOf, beginOf, readOf, maskOf, openedOf}
@@ -15,6 +16,7 @@ use Rattle.receiving.specs.declared.Receiving.{Receiving}
 use Rattle.recv_words.specs.Words.{keysOf, datagramOf, isFlat}
 use Rattle.recv_key_steps.specs.Kept.{stateOf}
 use Rattle.recv_calls.specs.Flat.{answerOf, bare, flatReading, openingOf}
+use Rattle.recv_calls.specs.Removed.{Removes}
 use Rattle.recv_calls.specs.declared.LinkReading.{LinkReading}
 
 -- ---- a call that reads nothing: w before it, v behind it, k what the definition makes of the state
@@ -62,8 +64,8 @@ FreshCall r v min = (r ≡ answerOf (freshOf min .answer)) × (stateOf v ≡ fre
 abbrev pub KeyReceiveCall : ℕ → List ℕ → List ℕ → ℕ → List ℕ → Type 0
 KeyReceiveCall r v w epoch iv = Does r v w (keyOf (stateOf w) epoch iv)
 
-abbrev pub RemoveReceiveCall : ℕ → List ℕ → List ℕ → ℕ → Type 0
-RemoveReceiveCall r v w epoch = Does r v w (removeOf (stateOf w) epoch)
+abbrev pub RemoveReceiveCall : LinkTold → List ℕ → List ℕ → ℕ → Type 0
+RemoveReceiveCall r v w epoch = Removes r v w (removeOf (stateOf w) epoch)
 
 abbrev pub EnablePeerEncryptionCall : ℕ → List ℕ → List ℕ → Type 0
 EnablePeerEncryptionCall r v w = Does r v w (encryptOf (stateOf w))

@@ -1,3 +1,4 @@
 pub mod Flat
+pub mod Removed
 pub mod Calls
 pub mod Laws

@@ -9,6 +9,7 @@ ghost use Rattle.records.specs.Records.{readStep};
 ghost use Rattle.recv_steps.specs.Goes.{Goes};
 ghost use Rattle.recv_steps.specs.Opens.{opens};
 ghost use Rattle.recv_calls.specs.Flat.{answerOf, reasonOf, bare, shown, asked, flatReading, openingOf};
+ghost use Rattle.recv_calls.specs.Removed.{removedTold};
 ghost use Rattle.recv_calls.specs.Calls.{
   Stepped,
   FreshCall,
@@ -22,6 +23,7 @@ ghost use Rattle.recv_calls.specs.Calls.{
   MaskCall,
   OpenedCall,
 };
+use answers::LinkTold;
 use datagram::Datagram;
 use datagram::Question;
 use datagram::Reading;
@@ -68,6 +70,20 @@ fn answer_of(a: Answer) -> u8
         Answer::TooLong => 1,
         Answer::Unusable => 13,
         Answer::Full => 23,
+    }
+}
+
+// What removing an epoch tells: 1 where a record is dropped with it, which is no refusal.
+fn removed_told(a: Answer) -> LinkTold
+    ensures { λ r. ⌜ r ≡ removedTold a ⌝ }
+{
+    match a {
+        Answer::Done => answers::told(0, 0),
+        Answer::Dropped => answers::told(0, 1),
+        Answer::Setting => answers::told(12, 0),
+        Answer::TooLong => answers::told(1, 0),
+        Answer::Unusable => answers::told(13, 0),
+        Answer::Full => answers::told(23, 0),
     }
 }
 
@@ -237,14 +253,14 @@ pub fn key_receive(w: &mut [u64; WORDS], epoch: u16, iv: &[u8; 12]) -> u8
     12
 }
 
-// Removes a receive epoch, and the question under it: 6 where a record is dropped with it.
-pub fn remove_receive(w: &mut [u64; WORDS], epoch: u16) -> u8
+// Removes a receive epoch, and the question under it. Told is 1 where a record is dropped with it.
+pub fn remove_receive(w: &mut [u64; WORDS], epoch: u16) -> LinkTold
     ensures { λ r. ⌜ RemoveReceiveCall r (now (w .exit)) (now (w .entry)) epoch ⌝ }
 {
     if recv_words::is_flat(w) {
-        return answer_of(recv_key_steps::remove(w, epoch));
+        return removed_told(recv_key_steps::remove(w, epoch));
     }
-    12
+    answers::told(12, 0)
 }
 
 // Peer encryption on, from the next record read.

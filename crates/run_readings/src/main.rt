@@ -151,12 +151,21 @@ fn keyed(w: &mut [u64; WORDS], input: &[u8]) -> u8 {
     recv_calls::key_receive(w, run_lines::get2(input, 0), &iv)
 }
 
+// A record dropped with its epoch is written as 6.
+fn removed(w: &mut [u64; WORDS], input: &[u8]) -> u8 {
+    let a = recv_calls::remove_receive(w, run_lines::get2(input, 0));
+    if a.told == 1 {
+        return 6;
+    }
+    a.refusal
+}
+
 // A step that takes no datagram. A letter that names no call changes nothing.
 fn host_step(w: &mut [u64; WORDS], letter: u8, input: &[u8]) -> u8 {
     match letter {
         b'f' => recv_calls::fresh(w, run_lines::get1(input, 0) as usize),
         b'k' => keyed(w, input),
-        b'x' => recv_calls::remove_receive(w, run_lines::get2(input, 0)),
+        b'x' => removed(w, input),
         b'e' => recv_calls::enable_peer_encryption(w),
         b'l' => recv_calls::release_application_data(w),
         b'w' => marked(w, input),

@@ -129,6 +129,11 @@ fn set_message(w: &mut [u64; WORDS], number: u16) -> u8 {
     0
 }
 
+fn acked(f: &mut [u64; flight_words::WORDS], numbers: &mut [u64; 384], input: &[u8]) -> u8 {
+    let a = ack_calls::process_ack(f, numbers, input);
+    a.refusal
+}
+
 // A letter that names no call changes nothing.
 fn host_step(
     w: &mut [u64; WORDS],
@@ -142,7 +147,7 @@ fn host_step(
         b'u' => set_number(w, run_lines::get2(input, 0), run_lines::get8(input, 2)),
         b'g' => set_message(w, run_lines::get2(input, 0)),
         b'b' => flight_calls::begin_flight(f),
-        b'a' => ack_calls::process_ack(f, numbers, input),
+        b'a' => acked(f, numbers, input),
         _ => 0,
     }
 }
@@ -177,6 +182,17 @@ fn save(
     flight_calls::send_saved(w, f, numbers, epoch, content_type, content, queue, kept)
 }
 
+fn resent(
+    w: &mut [u64; WORDS],
+    f: &mut [u64; flight_words::WORDS],
+    numbers: &mut [u64; 384],
+    queue: &mut [u8],
+    kept: &[u8],
+) -> u8 {
+    let a = ack_calls::resend(w, f, numbers, kept, queue);
+    a.refusal
+}
+
 fn call(
     w: &mut [u64; WORDS],
     f: &mut [u64; flight_words::WORDS],
@@ -193,7 +209,7 @@ fn call(
         b's' => reply(w, input, queue),
         b'p' => save(w, f, numbers, input, queue, kept),
         b'h' => flight_calls::create_handshake(w, f, numbers, kind, body, queue, kept),
-        b'r' => ack_calls::resend(w, f, numbers, kept, queue),
+        b'r' => resent(w, f, numbers, queue, kept),
         _ => host_step(w, f, numbers, letter, input),
     }
 }
@@ -207,10 +223,9 @@ fn note(
     noted: &mut [u64; 32],
     input: &[u8],
 ) -> LinkSealing {
-    let full = count[0] == 32;
     let epoch = run_lines::get8(input, 0);
     let a = ack_calls::note(count, epochs, noted, epoch, run_lines::get8(input, 8));
-    bare(a, full as u8, 0)
+    bare(a.refusal, (a.refusal == 0 && a.told == 0) as u8, 0)
 }
 
 // With none noted, nothing is sent.
@@ -221,9 +236,8 @@ fn send_ack(
     noted: &mut [u64; 32],
     queue: &mut [u8],
 ) -> LinkSealing {
-    let none = count[0] == 0;
     let a = ack_calls::send_ack(w, count, epochs, noted, queue);
-    bare(a, (none && a == 0) as u8, 0)
+    bare(a.refusal, (a.refusal == 0 && a.told == 0) as u8, 0)
 }
 
 // The first bytes of a buffer.

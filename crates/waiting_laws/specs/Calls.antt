@@ -49,7 +49,7 @@ pub data SendCall : Type 0 where
   take· : List ℕ → SendCall
 
 -- what the host sees of a call: 01's number of its refusal, 0 where it is done, and what is told besides: the length of the datagram taken
--- or the length needed for it, 1 where a record was noted or an ACK sent
+-- or the length needed for it, 1 where a record was noted or an ACK sent, how many records were sent again or newly acknowledged
 pub record Reply : Type 0 where
   pub number : ℕ
   pub told : ℕ

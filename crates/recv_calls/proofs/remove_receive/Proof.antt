@@ -1,8 +1,8 @@
 -- `recv_calls::remove_receive` meets its contract. Assumes nothing.
 use borrow.Author.Needs.{needs}
-use mathlib.Core.Path.{_≡_, refl, sym, ap, _∙_}
-use Rattle.base.specs.Choose.{if-true, if-false, both-true, both-false}
-use Rattle.recv_calls.specs.Laws.{does}
+use mathlib.Core.Path.{refl, sym, _∙_}
+use Rattle.base.specs.Choose.{if-false}
+use Rattle.recv_calls.specs.Removed.{removes}
 use Rattle.recv_calls.proofs.remove_receive.Statement.{statement}
 use Rattle.recv_calls.proofs.remove_receive.Tie as tie
 
@@ -12,15 +12,18 @@ is-flat-requires c κs = search needs
 remove-requires : tie.Need-remove-requires
 remove-requires c κs = (sym (c .before .before .is-flat .ensures) ∙ c .before .if1 .taken)
 
-answer-of-requires : tie.Need-answer-of-requires
-answer-of-requires c κs = search needs
+removed-told-requires : tie.Need-removed-told-requires
+removed-told-requires c κs = search needs
 
 returns : tie.Need-returns
-returns c = does _ _ _ _ _ (sym (c .before .before .before .before .is-flat .ensures) ∙ c .before .before .before .if1 .taken) (c .answer-of .ensures) (c .before .remove .ensures)
+returns c = removes _ _ _ _ _ (sym (c .before .before .before .before .is-flat .ensures) ∙ c .before .before .before .if1 .taken) (c .removed-told .ensures) (c .before .remove .ensures)
+
+told-requires : tie.Need-told-requires
+told-requires c κs = search needs
 
 returns-2 : tie.Need-returns-2
-returns-2 c = (sym (if-false _ _ (sym (c .before .is-flat .ensures) ∙ c .if1 .left)), sym (if-false _ _ (sym (c .before .is-flat .ensures) ∙ c .if1 .left)), refl)
+returns-2 c = let z = sym (c .before .before .is-flat .ensures) ∙ c .before .if1 .left in (c .told .ensures ∙ sym (if-false _ _ z), sym (if-false _ _ z), refl)
 
 pub remove-receive-spec : {M : Type 1} → statement M
 remove-receive-spec =
-    tie.close (tie.spec is-flat-requires remove-requires answer-of-requires returns returns-2)
+    tie.close (tie.spec is-flat-requires remove-requires removed-told-requires returns told-requires returns-2)
