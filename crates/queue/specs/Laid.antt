@@ -1,7 +1,7 @@
 -- The bytes of a record as it is laid in the queue (RFC 9147, section 4; 01, "Datagrams to send"). Assumes nothing.
 use mathlib.Core.List.{List, _∷_, _++_}
 use mathlib.Core.Path.{_≡_, refl, sym, ap, _∙_}
-use Prim.Native.Nat.{ℕ, _+_, _≤_}
+use Prim.Native.Nat.{ℕ, _+_, _*_, _/_, _%_, _≤_}
 use native.Mathlib.Omega.{arith}
 use borrow.Author.Tests.{eq-eqb, ne-eqb}
 use lib.Dec.{eqb}
@@ -33,6 +33,39 @@ length-unified e n len = refl
 pub length-trailer : (t e n : ℕ) → length (trailerOf t e n) ≡ sealedTail
 unfolding trailerOf
 length-trailer t e n = refl
+
+-- two bytes and six are those of one number
+module _ (e n : ℕ) where
+  abbrev mark : ℕ
+  mark = e * 0x1000000000000 + n % 0x1000000000000
+
+  byte-1 : mark / 0x100000000000000 % 256 ≡ e / 256 % 256
+  byte-1 = omega arith
+
+  byte-2 : mark / 0x1000000000000 % 256 ≡ e / 1 % 256
+  byte-2 = omega arith
+
+  byte-3 : mark / 0x10000000000 % 256 ≡ n / 0x10000000000 % 256
+  byte-3 = omega arith
+
+  byte-4 : mark / 0x100000000 % 256 ≡ n / 0x100000000 % 256
+  byte-4 = omega arith
+
+  byte-5 : mark / 0x1000000 % 256 ≡ n / 0x1000000 % 256
+  byte-5 = omega arith
+
+  byte-6 : mark / 0x10000 % 256 ≡ n / 0x10000 % 256
+  byte-6 = omega arith
+
+  byte-7 : mark / 0x100 % 256 ≡ n / 0x100 % 256
+  byte-7 = omega arith
+
+  byte-8 : mark / 1 % 256 ≡ n / 1 % 256
+  byte-8 = omega arith
+
+  pub trailer-marked : (t : ℕ) → t ∷ (be 8 mark ++ be 8 0) ≡ trailerOf t e n
+  unfolding trailerOf
+  trailer-marked t = rw (byte-1, byte-2, byte-3, byte-4, byte-5, byte-6, byte-7, byte-8)
 
 pub length-record : (e t n : ℕ) (x : List ℕ) → length (recordBytes e t n x) ≡ recordLen e (length x)
 unfolding recordBytes recordLen

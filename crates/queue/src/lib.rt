@@ -1,8 +1,9 @@
 // The queue of datagrams to send, after `queue_tx` of engine.rs: a ring of slots of MTU bytes in one lent buffer.
 ghost use mathlib.Core.Path.{_≡_};
-ghost use mathlib.Core.List.{_++_};
+ghost use mathlib.Core.List.{_∷_, _++_};
 ghost use Prim.Native.Nat.{_+_, _-_, _≤_, _<_};
 ghost use lib.ListN.{length, take};
+ghost use Rattle.base.specs.Bytes.{be};
 ghost use Rattle.base.specs.Parts.{splice};
 ghost use Rattle.record.specs.Record.{plaintextHeader, unifiedHeader};
 ghost use Rattle.queue.specs.Queue.{isSetting, slotOf, placeOf, Tailed};
@@ -147,29 +148,40 @@ pub fn copy_short(src: &[u8], dst: &mut [u8])
     from_array(&b, dst);
 }
 
+// Eight bytes of a number, the highest first.
+pub fn eight(x: u64) -> [u8; 8]
+    ensures { λ r. ⌜ r ≡ be 8 x ⌝ }
+{
+    [
+        (x / 0x100_0000_0000_0000 % 256) as u8,
+        (x / 0x1_0000_0000_0000 % 256) as u8,
+        (x / 0x100_0000_0000 % 256) as u8,
+        (x / 0x1_0000_0000 % 256) as u8,
+        (x / 0x100_0000 % 256) as u8,
+        (x / 0x1_0000 % 256) as u8,
+        (x / 0x100 % 256) as u8,
+        (x % 256) as u8,
+    ]
+}
+
+// A content type and a tag that begins with a mark. The mark is copied in whole: the compiler then stores it as one word.
+fn marked(content_type: u8, mark: [u8; 8]) -> [u8; SEALED_TAIL_LEN]
+    ensures { λ r. ⌜ r ≡ «content_type» ∷ (mark ++ be 8 0) ⌝ }
+{
+    let mut t = [0u8; SEALED_TAIL_LEN];
+    let from = 1;
+    let to = from + 8;
+    t[0] = content_type;
+    copy(&mark, &mut t[from..to]);
+    t
+}
+
 // What follows the content of a record that waits for its sealing: its type, and in the tag's place its epoch and number.
 fn trailer(content_type: u8, epoch: u16, number: u64) -> [u8; SEALED_TAIL_LEN]
     ensures { λ r. ⌜ r ≡ trailerOf «content_type» epoch number ⌝ }
 {
-    [
-        content_type,
-        (epoch / 256 % 256) as u8,
-        (epoch % 256) as u8,
-        (number / 0x100_0000_0000 % 256) as u8,
-        (number / 0x1_0000_0000 % 256) as u8,
-        (number / 0x100_0000 % 256) as u8,
-        (number / 0x1_0000 % 256) as u8,
-        (number / 0x100 % 256) as u8,
-        (number % 256) as u8,
-        0,
-        0,
-        0,
-        0,
-        0,
-        0,
-        0,
-        0,
-    ]
+    let mark = epoch as u64 * 0x1_0000_0000_0000 + number % 0x1_0000_0000_0000;
+    marked(content_type, eight(mark))
 }
 
 // A plaintext record written from a place on.
@@ -185,7 +197,8 @@ fn lay_plaintext(d: &mut [u8], at: usize, content_type: u8, number: u64, content
     copy_short(content, &mut d[inner..end]);
 }
 
-// A record to be sealed, its number not yet masked, written from a place on.
+// A record to be sealed, its number not yet masked, written from a place on. Its content comes last, so that nothing is kept across
+// that call.
 fn lay_ciphertext(
     d: &mut [u8],
     at: usize,
@@ -204,8 +217,8 @@ fn lay_ciphertext(
     let header = headers::unified_header(epoch, number, (n + SEALED_TAIL_LEN) as u16);
     let behind = trailer(content_type, epoch, number);
     copy(&header, &mut d[at..inner]);
-    copy_short(content, &mut d[inner..end]);
     copy(&behind, &mut d[end..after]);
+    copy_short(content, &mut d[inner..end]);
 }
 
 // Bytes of a record whose content has n.

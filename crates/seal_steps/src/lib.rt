@@ -1,9 +1,14 @@
 // A sealing asked for and the reply to it, over the words that hold the sending side's state: of a datagram searched only its length is
 // read, and only the sealing that waits and its epoch's sealed number are written.
+ghost use mathlib.Core.Bool.{false};
+ghost use mathlib.Core.List.{_++_};
 ghost use mathlib.Core.Path.{_≡_};
 ghost use Prim.Native.Nat.{_-_, _*_, _≤_, _<_};
 ghost use lib.ListN.{length};
+ghost use Rattle.base.specs.Bytes.{be};
 ghost use Rattle.base.specs.Parts.{splice};
+ghost use Rattle.words.specs.Packed as packed;
+ghost use Rattle.dtls_aead.specs.Nonce.{nonceOf};
 ghost use Rattle.queue.specs.Queue.{InRange};
 ghost use Rattle.send_keys.specs.Keys.{ivOf};
 ghost use Rattle.sealing.specs.Seek.{seekStep, seek};
@@ -11,6 +16,7 @@ ghost use Rattle.sealing.specs.Sealing.{isHeld, isAsked, partStart, partOf, isP
 ghost use Rattle.send_words.specs.Words.{queueOf, stateOf};
 ghost use Rattle.send_words.specs.Partly.{Partly};
 ghost use Rattle.seal_steps.specs.Settles.{settled};
+ghost use Rattle.seal_steps.specs.Last.{isLast};
 use outgoing::Waiting;
 use record::SEALED_HEADER_LEN;
 use sealing::Question;
@@ -120,14 +126,46 @@ pub fn put(w: &[u64; WORDS], bytes: &[u8], memory: &mut [u8]) -> bool
 
 // ---- the question
 
-// The IV of epoch 2, or of the application epoch.
-fn iv_of(w: &[u64; WORDS], epoch: u16) -> [u8; 12]
-    ensures { λ r. ⌜ r ≡ ivOf (stateOf (now (w .entry)) .keys) epoch ⌝ }
+// Four bytes of a number, the highest first.
+fn four(x: u64) -> [u8; 4]
+    ensures { λ r. ⌜ r ≡ be 4 x ⌝ }
+{
+    [
+        (x / 0x100_0000 % 256) as u8,
+        (x / 0x1_0000 % 256) as u8,
+        (x / 0x100 % 256) as u8,
+        (x % 256) as u8,
+    ]
+}
+
+// Four bytes and eight behind them. Each is copied in whole: the compiler then stores it as one word.
+fn joined(front: [u8; 4], back: [u8; 8]) -> [u8; 12]
+    ensures { λ r. ⌜ r ≡ front ++ back ⌝ }
+{
+    let mut nonce = [0u8; 12];
+    let start = 0;
+    let middle = 4;
+    let end = 12;
+    queue::copy(&front, &mut nonce[start..middle]);
+    queue::copy(&back, &mut nonce[middle..end]);
+    nonce
+}
+
+// The nonce of a number under the IV that two words hold: the number goes onto the second of them, before it is cut into bytes.
+fn nonce_of(front: u64, back: u64, number: u64) -> [u8; 12]
+    ensures { λ r. ⌜ r ≡ nonceOf (packed.ivOf front back) number ⌝ }
+{
+    joined(four(front), queue::eight(back ^ number))
+}
+
+// The nonce of a number under the IV of epoch 2, or of the application epoch.
+fn nonce_in(w: &[u64; WORDS], epoch: u16, number: u64) -> [u8; 12]
+    ensures { λ r. ⌜ r ≡ nonceOf (ivOf (stateOf (now (w .entry)) .keys) epoch) number ⌝ }
 {
     if epoch == 2 {
-        return words::iv_of(w[HANDSHAKE_IV], w[HANDSHAKE_IV_BACK]);
+        return nonce_of(w[HANDSHAKE_IV], w[HANDSHAKE_IV_BACK], number);
     }
-    words::iv_of(w[APPLICATION_IV], w[APPLICATION_IV_BACK])
+    nonce_of(w[APPLICATION_IV], w[APPLICATION_IV_BACK], number)
 }
 
 // The sealing that waits: full epoch and number, nonce, header with its number not masked, and the place of what is to be sealed.
@@ -137,8 +175,7 @@ fn oldest(w: &[u64; WORDS]) -> Question
 {
     let x = send_words::waiting_of(w);
     let start = part_start(w);
-    let iv = iv_of(w, x.epoch);
-    let nonce = dtls_aead::nonce_xor(iv, x.number);
+    let nonce = nonce_in(w, x.epoch, x.number);
     let header = headers::unified_header(x.epoch, x.number, x.length as u16);
     Question {
         question: SealQuestion::Seal {
@@ -194,19 +231,20 @@ fn seek_step(w: &[u64; WORDS], d: &[u8], c: Search) -> Search
     sealing::step_of(x, slot, c)
 }
 
-// The first record that waits from where the search is on. 2,000 steps pass every record that 16 datagrams can hold.
+// The first record that waits from where the search is on. 2,000 steps pass every record that 16 datagrams can hold; of the last only
+// the end could be told, so it is not made.
 fn seek_from(w: &[u64; WORDS], d: &[u8], from: Search) -> Waiting
-    requires { ⌜ InRange (queueOf (now w)) ⌝ }
+    requires { ⌜ InRange (queueOf (now w)) × (from .done ≡ false) ⌝ }
     ensures { λ r. ⌜ r ≡ seek 2000 (queueOf (now (w .entry))) (now (d .entry)) from ⌝ }
 {
     let mut c = from;
     let mut n: usize = 0;
-    while n < 2000 {
+    while n < 1999 {
+        c = seek_step(w, d, c);
         if c.done {
             let x = c.found;
             return x;
         }
-        c = seek_step(w, d, c);
         n += 1;
     }
     outgoing::no_waiting()
@@ -231,6 +269,17 @@ fn behind_oldest(w: &[u64; WORDS]) -> Search
     }
 }
 
+// Whether nothing is queued behind the oldest: it ends its datagram, and no datagram follows.
+fn is_last(w: &[u64; WORDS], from: Search) -> bool
+    requires { ⌜ Held (stateOf (now w)) × (from ≡ behindOldest (stateOf (now w))) ⌝ }
+    ensures { λ r. ⌜ r ≡ isLast (stateOf (now (w .entry))) ⌝ }
+{
+    if w[COUNT] as usize <= from.datagram + 1 {
+        return send_steps::length_at(w, w[SEALING_SLOT] as usize) <= from.offset;
+    }
+    false
+}
+
 // ---- the reply
 
 // A number of an epoch is sealed, and this sealing waits next.
@@ -248,18 +297,31 @@ fn settle(w: &mut [u64; WORDS], epoch: u16, number: u64, next: Waiting)
     w[APPLICATION_SEALED] = above;
 }
 
-// The header with the mask on its number, and what waits next.
-fn reply(w: &mut [u64; WORDS], mask: [u8; 2], memory: &mut [u8])
+// The oldest is sealed: its header gets the mask on its number, and this sealing waits next.
+fn mask_oldest(w: &mut [u64; WORDS], mask: [u8; 2], memory: &mut [u8], next: Waiting)
     requires { ⌜ Held (stateOf (now w)) × (stateOf (now w) .queue .limit * stateOf (now w) .queue .mtu ≤ length (now memory)) ⌝ }
-    ensures { λ _. ⌜ Partly (afterSealing (stateOf (now (w .entry))) (now (memory .entry))) (now (w .entry)) (now (w .exit)) × (now (memory .exit) ≡ splice (partStart (stateOf (now (w .entry))) - 5) (maskedHeader (stateOf (now (w .entry)) .waiting .epoch) (stateOf (now (w .entry)) .waiting .number) (stateOf (now (w .entry)) .waiting .length) mask) (now (memory .entry))) ⌝ }
+    ensures { λ _. ⌜ Partly (settled (stateOf (now (w .entry))) (stateOf (now (w .entry)) .waiting .epoch) (stateOf (now (w .entry)) .waiting .number) next) (now (w .entry)) (now (w .exit)) × (now (memory .exit) ≡ splice (partStart (stateOf (now (w .entry))) - 5) (maskedHeader (stateOf (now (w .entry)) .waiting .epoch) (stateOf (now (w .entry)) .waiting .number) (stateOf (now (w .entry)) .waiting .length) mask) (now (memory .entry))) ⌝ }
 {
     let x = send_words::waiting_of(w);
     let inner = part_start(w);
     let from = inner - SEALED_HEADER_LEN;
-    let next = seek_from(w, memory, behind_oldest(w));
     let header = sealing::masked_header(x.epoch, x.number, x.length as u16, mask);
     queue::copy(&header, &mut memory[from..inner]);
     settle(w, x.epoch, x.number, next);
+}
+
+// The header with the mask on its number, and what waits next. Most often nothing is queued behind: then nothing is searched.
+fn reply(w: &mut [u64; WORDS], mask: [u8; 2], memory: &mut [u8])
+    requires { ⌜ Held (stateOf (now w)) × (stateOf (now w) .queue .limit * stateOf (now w) .queue .mtu ≤ length (now memory)) ⌝ }
+    ensures { λ _. ⌜ Partly (afterSealing (stateOf (now (w .entry))) (now (memory .entry))) (now (w .entry)) (now (w .exit)) × (now (memory .exit) ≡ splice (partStart (stateOf (now (w .entry))) - 5) (maskedHeader (stateOf (now (w .entry)) .waiting .epoch) (stateOf (now (w .entry)) .waiting .number) (stateOf (now (w .entry)) .waiting .length) mask) (now (memory .entry))) ⌝ }
+{
+    let from = behind_oldest(w);
+    if is_last(w, from) {
+        mask_oldest(w, mask, memory, outgoing::no_waiting());
+        return;
+    }
+    let next = seek_from(w, memory, from);
+    mask_oldest(w, mask, memory, next);
 }
 
 // The host has sealed so many bytes in place, and this is the mask of the two number bytes.

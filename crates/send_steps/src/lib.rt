@@ -274,8 +274,8 @@ pub fn lay(w: &mut [u64; WORDS], p: Place, epoch: u16, t: u8, content: &[u8], d:
     let number = next_of(w, epoch);
     let slot = queue::slot_of(w[FIRST] as usize, w[LIMIT] as usize, p.datagram);
     let at = slot * (w[MTU] as usize) + p.offset;
-    queue::lay_record(d, at, epoch, t, number, content);
     put_laid(w, p, slot, epoch, n, number);
+    queue::lay_record(d, at, epoch, t, number, content);
 }
 
 // A record sent, if no refusal applies.

@@ -1,12 +1,12 @@
--- `queue::lay_ciphertext` meets its contract: header, content, type and tag one behind the other. Assumes nothing.
+-- `queue::lay_ciphertext` meets its contract: header, type and tag, and the content between them. Assumes nothing.
 use Prim.Native.Nat.{_+_}
-use borrow.Author.Needs.{needs}
 use lib.ListN.{length}
 use mathlib.Core.Path.{refl, _∙_}
 use native.Mathlib.Omega.{arith}
 use Rattle.queue.specs.Laid.{trailerOf, length-unified, length-trailer}
 use Rattle.record.specs.Record.{unifiedHeader}
 use Rattle.queue.proofs.Writing.{three-parts}
+use borrow.Author.Needs.{needs}
 use Rattle.queue.proofs.lay_ciphertext.Statement.{statement}
 use Rattle.queue.proofs.lay_ciphertext.Tie as tie
 
@@ -46,18 +46,6 @@ part-copy-end c = search needs
 copy-requires : tie.Need-copy-requires
 copy-requires c κs = search needs
 
-sub-copy-short : tie.Need-sub-copy-short
-sub-copy-short c = search needs
-
-part-copy-short-start : tie.Need-part-copy-short-start
-part-copy-short-start c = search needs
-
-part-copy-short-end : tie.Need-part-copy-short-end
-part-copy-short-end c = search needs
-
-copy-short-requires : tie.Need-copy-short-requires
-copy-short-requires c κs = search needs
-
 slice-aggregate-copy-2 : tie.Need-slice-aggregate-copy-2
 slice-aggregate-copy-2 c = search needs
 
@@ -73,13 +61,25 @@ part-copy-end-2 c = search needs
 copy-requires-2 : tie.Need-copy-requires-2
 copy-requires-2 c κs = search needs
 
+sub-copy-short : tie.Need-sub-copy-short
+sub-copy-short c = search needs
+
+part-copy-short-start : tie.Need-part-copy-short-start
+part-copy-short-start c = search needs
+
+part-copy-short-end : tie.Need-part-copy-short-end
+part-copy-short-end c = search needs
+
+copy-short-requires : tie.Need-copy-short-requires
+copy-short-requires c κs = search needs
+
 same-length : tie.Need-same-length
 same-length c = search needs
 
 returns : tie.Need-returns
 returns c = let a = c .before .before .before .before .before .before .before .before .before .before .before .before .before .before .before .before .before .before .args in let n = length (a .content .now) in
-    three-parts (a .at) 5 n (unifiedHeader (a .epoch) (a .number) (n + 17)) (a .content .now) _ _ (a .d .now) (c .before .before .before .before .before .before .before .before .before .before .before .copy .ensures ∙ c .before .before .before .before .before .before .before .before .before .before .before .before .before .before .before .unified-header .ensures) (c .before .before .before .before .before .before .before .copy-short .ensures) (length-unified (a .epoch) (a .number) (n + 17)) refl
-    17 (trailerOf (a .content-type) (a .epoch) (a .number)) _ (c .before .before .copy2 .ensures ∙ c .before .before .before .before .before .before .before .before .before .before .before .before .before .before .trailer .ensures) (length-trailer (a .content-type) (a .epoch) (a .number)) (omega (arith, c .before .before .before .before .before .before .before .before .before .before .before .before .before .before .before .before .before .before .pre .0))
+    three-parts (a .at) 5 n (unifiedHeader (a .epoch) (a .number) (n + 17)) (a .content .now) _ _ (a .d .now) (c .before .before .before .before .before .before .before .before .before .before .before .copy .ensures ∙ c .before .before .before .before .before .before .before .before .before .before .before .before .before .before .before .unified-header .ensures) (c .before .before .copy-short .ensures) (length-unified (a .epoch) (a .number) (n + 17)) refl
+    17 (trailerOf (a .content-type) (a .epoch) (a .number)) _ (c .before .before .before .before .before .before .copy2 .ensures ∙ c .before .before .before .before .before .before .before .before .before .before .before .before .before .before .trailer .ensures) (length-trailer (a .content-type) (a .epoch) (a .number)) (omega (arith, c .before .before .before .before .before .before .before .before .before .before .before .before .before .before .before .before .before .before .pre .0))
 
 pub lay-ciphertext-spec : {M : Type 1} → statement M
 lay-ciphertext-spec =
@@ -97,14 +97,14 @@ lay-ciphertext-spec =
     part-copy-start
     part-copy-end
     copy-requires
-    sub-copy-short
-    part-copy-short-start
-    part-copy-short-end
-    copy-short-requires
     slice-aggregate-copy-2
     sub-copy-2
     part-copy-start-2
     part-copy-end-2
     copy-requires-2
+    sub-copy-short
+    part-copy-short-start
+    part-copy-short-end
+    copy-short-requires
     same-length
     returns)

@@ -1,6 +1,6 @@
 -- `seal_steps::oldest` meets its contract. Assumes nothing.
-use borrow.Author.Needs.{needs}
 use native.Mathlib.Omega.{arith}
+use borrow.Author.Needs.{needs}
 use Rattle.seal_steps.proofs.oldest.Statement.{statement}
 use Rattle.seal_steps.proofs.oldest.Tie as tie
 
@@ -10,20 +10,17 @@ waiting-of-requires c κs = search needs
 part-start-requires : tie.Need-part-start-requires
 part-start-requires c κs = search needs
 
-iv-of-requires : tie.Need-iv-of-requires
-iv-of-requires c κs = search needs
-
-nonce-xor-requires : tie.Need-nonce-xor-requires
-nonce-xor-requires c κs = search needs
+nonce-in-requires : tie.Need-nonce-in-requires
+nonce-in-requires c κs = search needs
 
 cast-unified-header : tie.Need-cast-unified-header
-cast-unified-header c = rw (c .before .before .before .before .waiting-of .ensures) (omega (arith, c .before .before .before .before .before .pre .inside, c .before .before .before .before .before .pre .range .high))
+cast-unified-header c = rw (c .before .before .before .waiting-of .ensures) (omega (arith, c .before .before .before .before .pre .inside, c .before .before .before .before .pre .range .high))
 
 unified-header-requires : tie.Need-unified-header-requires
 unified-header-requires c κs = search needs
 
 returns : tie.Need-returns
-returns c = rw (c .unified-header .ensures, c .before .before .nonce-xor .ensures, c .before .before .before .iv-of .ensures, c .before .before .before .before .part-start .ensures, c .before .before .before .before .before .waiting-of .ensures)
+returns c = rw (c .unified-header .ensures, c .before .before .nonce-in .ensures, c .before .before .before .part-start .ensures, c .before .before .before .before .waiting-of .ensures)
 
 pub oldest-spec : {M : Type 1} → statement M
 oldest-spec =
@@ -31,8 +28,7 @@ oldest-spec =
     (tie.spec
     waiting-of-requires
     part-start-requires
-    iv-of-requires
-    nonce-xor-requires
+    nonce-in-requires
     cast-unified-header
     unified-header-requires
     returns)

@@ -1,78 +1,54 @@
--- `seal_steps::reply` meets its contract: the next sealing is found, the mask goes onto the number bytes. Assumes nothing.
-use borrow.Author.Needs.{needs}
-use lib.ListN.{length, length-take, length-drop}
-use mathlib.Core.Path.{_∙_}
-use native.Mathlib.Omega.{arith}
-use Rattle.sealing.specs.Sealing.{partStart, part-fits, masked-laid}
+-- `seal_steps::reply` meets its contract: where nothing is queued behind, the search would find none. Assumes nothing.
+use mathlib.Core.Path.{sym, _∙_}
+use Rattle.sealing.specs.Sealing.{behindOldest}
 use Rattle.send_words.specs.Words.{stateOf}
+use Rattle.seal_steps.specs.Last.{last-none}
+use borrow.Author.Needs.{needs}
 use Rattle.seal_steps.proofs.reply.Statement.{statement}
 use Rattle.seal_steps.proofs.reply.Tie as tie
-
-waiting-of-requires : tie.Need-waiting-of-requires
-waiting-of-requires c κs = search needs
-
-part-start-requires : tie.Need-part-start-requires
-part-start-requires c κs = search needs
-
-sub-from : tie.Need-sub-from
-unfolding partStart
-sub-from c = omega arith
 
 behind-oldest-requires : tie.Need-behind-oldest-requires
 behind-oldest-requires c κs = search needs
 
-seek-from-requires : tie.Need-seek-from-requires
-seek-from-requires c κs = search needs
+is-last-requires : tie.Need-is-last-requires
+is-last-requires c κs = search needs
 
-cast-masked-header : tie.Need-cast-masked-header
-cast-masked-header c = rw (c .before .before .before .before .before .before .before .waiting-of .ensures) (omega (arith, c .before .before .before .before .before .before .before .before .before .before .pre .0 .inside, c .before .before .before .before .before .before .before .before .before .before .pre .0 .range .high))
+no-waiting-requires : tie.Need-no-waiting-requires
+no-waiting-requires c κs = search needs
 
-masked-header-requires : tie.Need-masked-header-requires
-masked-header-requires c κs = search needs
-
-slice-aggregate-copy : tie.Need-slice-aggregate-copy
-slice-aggregate-copy c = search needs
-
-sub-copy : tie.Need-sub-copy
-sub-copy c = search needs
-
-part-copy-start : tie.Need-part-copy-start
-part-copy-start c = search needs
-
-part-copy-end : tie.Need-part-copy-end
-unfolding partStart
-part-copy-end c = let f = part-fits {s = stateOf (c .before .before .before .before .before .before .before .before .before .before .before .before .args .w .now)} {room = length (c .before .before .before .before .before .before .before .before .before .before .before .before .args .memory .now)} (c .before .before .before .before .before .before .before .before .before .before .before .before .pre .0) (c .before .before .before .before .before .before .before .before .before .before .before .before .pre .1) in omega (arith, f, c .before .before .before .before .before .before .before .part-start .ensures)
-
-copy-requires : tie.Need-copy-requires
-unfolding partStart
-copy-requires c κs = let f = part-fits {s = stateOf (c .before .before .before .before .before .before .before .before .before .before .before .before .before .args .w .now)} {room = length (c .before .before .before .before .before .before .before .before .before .before .before .before .before .args .memory .now)} (c .before .before .before .before .before .before .before .before .before .before .before .before .before .pre .0) (c .before .before .before .before .before .before .before .before .before .before .before .before .before .pre .1) in simp (length-take, length-drop) (omega (arith, f, c .before .before .before .before .before .before .before .before .part-start .ensures))
-
-settle-requires : tie.Need-settle-requires
-settle-requires c κs = rw (c .before .before .before .before .before .before .before .before .before .before .before .before .before .before .waiting-of .ensures) (c .before .before .before .before .before .before .before .before .before .before .before .before .before .before .before .before .before .pre .0 .number)
+mask-oldest-requires : tie.Need-mask-oldest-requires
+mask-oldest-requires c κs = search needs
 
 same-length : tie.Need-same-length
 same-length c = search needs
 
 returns : tie.Need-returns
-unfolding partStart
-returns c = let a = c .before .before .before .before .before .before .before .before .before .before .before .before .before .before .before .before .before .before .args in (rw (c .before .before .before .before .before .before .before .before .before .before .before .before .before .before .before .waiting-of .ensures, c .before .before .before .before .before .before .before .before .before .seek-from .ensures, c .before .before .before .before .before .before .before .before .before .before .behind-oldest .ensures) at (c .settle .ensures), masked-laid (stateOf (a .w .now)) (a .mask) (a .memory .now) (c .before .before .before .before .before .before .before .before .before .before .before .before .before .part-start .ensures) (c .before .before .before .before .copy .ensures ∙ rw (c .before .before .before .before .before .before .before .before .before .before .before .before .before .before .before .waiting-of .ensures) at (c .before .before .before .before .before .before .before .masked-header .ensures)))
+returns c = let a = c .before .before .before .before .before .before .before .before .before .before .before .before .args in let e = c .before .before .before .no-waiting .ensures ∙ sym (last-none (stateOf (a .w .now)) (a .memory .now) (c .before .before .before .before .before .before .before .before .before .before .before .before .pre .0) (sym (c .before .before .before .before .before .before .before .is-last .ensures) ∙ c .before .before .before .before .before .before .if1 .taken)) in (rw e at (c .before .before .mask-oldest .ensures .0), c .before .before .mask-oldest .ensures .1)
+
+seek-from-requires : tie.Need-seek-from-requires
+unfolding behindOldest
+seek-from-requires c κs = (c .before .before .before .before .before .before .before .before .pre .0 .range, rw (c .before .before .before .before .before .behind-oldest .ensures))
+
+mask-oldest-requires-2 : tie.Need-mask-oldest-requires-2
+mask-oldest-requires-2 c κs = search needs
+
+same-length-2 : tie.Need-same-length-2
+same-length-2 c = search needs
+
+returns-2 : tie.Need-returns-2
+returns-2 c = (rw (c .before .before .before .before .before .seek-from .ensures, c .before .before .before .before .before .before .before .before .before .before .before .behind-oldest .ensures) at (c .before .before .mask-oldest2 .ensures .0), c .before .before .mask-oldest2 .ensures .1)
 
 pub reply-spec : {M : Type 1} → statement M
 reply-spec =
     tie.close
     (tie.spec
-    waiting-of-requires
-    part-start-requires
-    sub-from
     behind-oldest-requires
-    seek-from-requires
-    cast-masked-header
-    masked-header-requires
-    slice-aggregate-copy
-    sub-copy
-    part-copy-start
-    part-copy-end
-    copy-requires
-    settle-requires
+    is-last-requires
+    no-waiting-requires
+    mask-oldest-requires
     same-length
-    returns)
+    returns
+    seek-from-requires
+    mask-oldest-requires-2
+    same-length-2
+    returns-2)

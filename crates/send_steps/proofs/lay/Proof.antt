@@ -1,10 +1,9 @@
 -- `send_steps::lay` meets its contract. Assumes nothing.
-use borrow.Author.Needs.{needs}
-use mathlib.Core.Path.{_∙_}
 use native.Mathlib.Omega.{arith}
 use Rattle.queue.specs.Queue.{startOf}
 use Rattle.outgoing.specs.Send.{laidMemory, clear-short}
 use Rattle.send_steps.specs.Steps.{lays, at-slot}
+use borrow.Author.Needs.{needs}
 use Rattle.send_steps.proofs.lay.Statement.{statement}
 use Rattle.send_steps.proofs.lay.Tie as tie
 
@@ -29,18 +28,18 @@ mul-at c = let t = at-slot (c .before .before .before .before .before .before .b
 add-at : tie.Need-add-at
 add-at c = let t = at-slot (c .before .before .before .before .before .before .before .before .before .pre .0) (c .before .before .before .before .before .before .before .before .before .pre .1) (c .before .before .slot-of .ensures .0) in omega arith
 
-lay-record-requires : tie.Need-lay-record-requires
-lay-record-requires c κs = let t = at-slot (c .before .before .before .before .before .before .before .before .before .before .pre .0) (c .before .before .before .before .before .before .before .before .before .before .pre .1) (c .before .before .before .slot-of .ensures .0) in (omega arith, clear-short (c .before .before .before .before .before .before .before .before .before .before .pre .0), omega arith)
-
 put-laid-requires : tie.Need-put-laid-requires
-put-laid-requires c κs = lays (c .before .before .before .before .before .before .before .before .before .before .before .before .before .before .pre .0) (c .before .before .before .before .before .before .before .before .before .before .before .before .before .before .pre .1) (c .before .before .before .before .before .before .before .slot-of .ensures .0) (c .before .before .before .before .before .before .before .before .before .before .next-of .ensures)
+put-laid-requires c κs = lays (c .before .before .before .before .before .before .before .before .before .before .pre .0) (c .before .before .before .before .before .before .before .before .before .before .pre .1) (c .before .before .before .slot-of .ensures .0) (c .before .before .before .before .before .before .next-of .ensures)
+
+lay-record-requires : tie.Need-lay-record-requires
+lay-record-requires c κs = let t = at-slot (c .before .before .before .before .before .before .before .before .before .before .before .before .pre .0) (c .before .before .before .before .before .before .before .before .before .before .before .before .pre .1) (c .before .before .before .before .before .slot-of .ensures .0) in (omega arith, clear-short (c .before .before .before .before .before .before .before .before .before .before .before .before .pre .0), omega arith)
 
 same-length : tie.Need-same-length
 same-length c = search needs
 
 returns : tie.Need-returns
 unfolding laidMemory startOf
-returns c = (c .put-laid .ensures, rw (c .before .before .before .before .before .before .before .before .before .before .before .next-of .ensures, c .before .before .before .before .before .before .before .before .slot-of .ensures .0, c .before .before .before .before .before .before .before .before .before .before .before .before .before .before .before .pre .1) at (c .before .before .before .before .lay-record .ensures))
+returns c = (c .before .before .before .before .put-laid .ensures, rw (c .before .before .before .before .before .before .before .before .before .before .before .next-of .ensures, c .before .before .before .before .before .before .before .before .slot-of .ensures .0, c .before .before .before .before .before .before .before .before .before .before .before .before .before .before .before .pre .1) at (c .before .before .lay-record .ensures))
 
 pub lay-spec : {M : Type 1} → statement M
 lay-spec =
@@ -53,7 +52,7 @@ lay-spec =
     element-copy-out-at
     mul-at
     add-at
-    lay-record-requires
     put-laid-requires
+    lay-record-requires
     same-length
     returns)
