@@ -18,7 +18,7 @@ ghost use Rattle.ack_calls.specs.Calls.{
   FreshNotesCall,
 };
 use acks::NoteAnswer;
-use answers::LinkTold;
+use answers::HuskTold;
 use flight_words::SAVED;
 use send_keys::SendAnswer;
 
@@ -28,7 +28,7 @@ const NOTED: usize = 0;
 // What an ACK did: how many saved records it marked that were not marked before, those of a flight that it emptied among them; and what
 // is left behind it, not acknowledged and saved. With 0 saved the flight is empty.
 #[repr(C)]
-pub struct LinkAcked {
+pub struct HuskAcked {
     pub refusal: u8,
     pub marked: u8,
     pub unacknowledged: u8,
@@ -37,7 +37,7 @@ pub struct LinkAcked {
 
 // ---- answers
 
-fn note_told(a: NoteAnswer) -> LinkTold
+fn note_told(a: NoteAnswer) -> HuskTold
     ensures { λ r. ⌜ r ≡ noteTold a ⌝ }
 {
     match a {
@@ -48,7 +48,7 @@ fn note_told(a: NoteAnswer) -> LinkTold
 }
 
 // An ACK of so many noted records is sent where some are and nothing is refused.
-fn sent_told(a: SendAnswer, noted: u64) -> LinkTold
+fn sent_told(a: SendAnswer, noted: u64) -> HuskTold
     ensures { λ r. ⌜ r ≡ sentTold a noted ⌝ }
 {
     if noted == 0 {
@@ -60,10 +60,10 @@ fn sent_told(a: SendAnswer, noted: u64) -> LinkTold
     answers::told(send_keys::refusal(a), 0)
 }
 
-fn no_acked() -> LinkAcked
+fn no_acked() -> HuskAcked
     ensures { λ r. ⌜ r ≡ noAcked 12 ⌝ }
 {
-    LinkAcked {
+    HuskAcked {
         refusal: 12,
         marked: 0,
         unacknowledged: 0,
@@ -72,12 +72,12 @@ fn no_acked() -> LinkAcked
 }
 
 // What is left of the flight behind an ACK that marked so many.
-fn left_behind(f: &[u64; flight_words::WORDS], marked: usize) -> LinkAcked
+fn left_behind(f: &[u64; flight_words::WORDS], marked: usize) -> HuskAcked
     requires { ⌜ (getD (now f) saved-at 0 ≤ 12) × (marked ≤ 12) ⌝ }
     ensures { λ r. ⌜ ((n : List ℕ) → r ≡ leftBehind marked (flightOf (now (f .entry)) n)) ⌝ }
 {
     let saved = f[SAVED] as usize;
-    LinkAcked {
+    HuskAcked {
         refusal: 0,
         marked: marked as u8,
         unacknowledged: status_calls::unmarked(f, saved) as u8,
@@ -94,7 +94,7 @@ pub fn resend(
     numbers: &mut [u64; 384],
     kept: &[u8],
     queue: &mut [u8],
-) -> LinkTold
+) -> HuskTold
     ensures { λ r. ⌜ ResendCall r (now (w .exit)) (now (w .entry)) (now (f .exit)) (now (f .entry)) (now (numbers .exit)) (now (numbers .entry)) (now (kept .entry)) (now (queue .exit)) (now (queue .entry)) ⌝ }
 {
     if send_words::is_flat(w) {
@@ -119,7 +119,7 @@ pub fn process_ack(
     f: &mut [u64; flight_words::WORDS],
     numbers: &mut [u64; 384],
     content: &[u8],
-) -> LinkAcked
+) -> HuskAcked
     ensures { λ r. ⌜ ProcessAckCall r (now (f .exit)) (now (f .entry)) (now (numbers .exit)) (now (numbers .entry)) (now (content .entry)) ⌝ }
 {
     if flight_words::is_flat(f) {
@@ -151,7 +151,7 @@ pub fn note(
     numbers: &mut [u64; 32],
     epoch: u64,
     number: u64,
-) -> LinkTold
+) -> HuskTold
     ensures { λ r. ⌜ NoteCall r (notesOf (now (count .exit)) (now (epochs .exit)) (now (numbers .exit))) (notesOf (now (count .entry)) (now (epochs .entry)) (now (numbers .entry))) epoch number ⌝ }
 {
     note_told(ack_steps::note(count, epochs, numbers, epoch, number))
@@ -165,7 +165,7 @@ pub fn send_ack(
     epochs: &mut [u64; 32],
     numbers: &mut [u64; 32],
     queue: &mut [u8],
-) -> LinkTold
+) -> HuskTold
     ensures { λ r. ⌜ SendAckCall r (now (w .exit)) (now (w .entry)) (notesOf (now (count .exit)) (now (epochs .exit)) (now (numbers .exit))) (notesOf (now (count .entry)) (now (epochs .entry)) (now (numbers .entry))) (now (queue .exit)) (now (queue .entry)) ⌝ }
 {
     if send_words::is_flat(w) {

@@ -1,6 +1,6 @@
 -- What a call tells beside its refusal. Assumes nothing.
 use Prim.Native.Nat.{ℕ}
-use Rattle.answers.specs.declared.LinkTold.{LinkTold}
+use Rattle.answers.specs.declared.HuskTold.{HuskTold}
 
-abbrev pub tells : ℕ → ℕ → LinkTold
+abbrev pub tells : ℕ → ℕ → HuskTold
 tells n told = record { refusal = n; told = told }

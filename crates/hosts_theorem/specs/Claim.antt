@@ -28,7 +28,7 @@ use Rattle.flight_words.specs.Words.{flatTo}
 use Rattle.recv_calls.specs.Flat.{answerOf, bare, openingOf}
 use Rattle.recv_calls.specs.Calls as receive
 use Rattle.send_calls.specs.Calls as sends
-use Rattle.send_calls.specs.declared.LinkSealing.{LinkSealing}
+use Rattle.send_calls.specs.declared.HuskSealing.{HuskSealing}
 use Rattle.flight_calls.specs.Calls as flights
 use Rattle.waiting_laws.specs.Calls.{Stores, fill·}
 use Rattle.history_theorem.specs.Account.{sealedHead, nothing, keyOwed}
@@ -181,7 +181,7 @@ AnsweredOut w («husk_notes_add» r x y z epoch number) = r ≡ noting.refusal (
 AnsweredOut w («husk_notes_send» r v x y z p) = r ≡ refusal (noting.sentAck (w .state) (w .notes) (length (w .queue)) .answer)
 
 -- the question that husk_sending_sealing shows is the one that the world lends: kind 2 and its fields; no other kind shows one
-abbrev pub Shows : Option Lent → LinkSealing → Type 0
+abbrev pub Shows : Option Lent → HuskSealing → Type 0
 Shows none r = r .kind ≡ 2 → ⊥
 Shows (some l) r =
     r ≡ record { kind = 2; refusal = 0; epoch = l .epoch; number = l .num; start = l .place; length = l .size; nonce = l .nonce; header = l .header }
@@ -219,7 +219,7 @@ OwedIn i («husk_receiving_opened_over» r v o len d) = (o ≤ 1 → readingOf r
 OwedIn i («host_writes» r p) = Unit {0}
 
 -- a sealing is asked exactly while a record waits, for the oldest
-abbrev pub OwedSealing : Option Item → LinkSealing → Type 0
+abbrev pub OwedSealing : Option Item → HuskSealing → Type 0
 OwedSealing none r = r .kind ≡ 2 → ⊥
 OwedSealing (some i) r = (r .kind ≡ 2) × (r .epoch ≡ i .epoch) × (r .number ≡ i .num) × (r .length + sealedHead ≡ i .size)
 

@@ -10,7 +10,7 @@ use mathlib.Core.Path.{_≡_, refl, sym, subst, _∙_}
 use Rattle.base.specs.Choose.{by-test, if-false}
 use Rattle.datagram.specs.declared.Reading.the-variants as says
 use Rattle.recv_calls.specs.Flat.{openingOf}
-use Rattle.send_calls.specs.declared.LinkSealing.{LinkSealing}
+use Rattle.send_calls.specs.declared.HuskSealing.{HuskSealing}
 use Rattle.history_theorem.specs.Account.{nothing}
 use Rattle.history_theorem.specs.Claim.{Masks, Proper, Turned}
 use Rattle.history_theorem.specs.Receiver.{Sealed, Spoken, Stray, Told, aRead, anOpenReply, beginOwed, Inbound}
@@ -86,7 +86,7 @@ module _ (h : Incoming) (i : Inbound) (a : StandsIn h i) (z : Sound (i .into)) (
 
 -- ---- a sealing
 
-sealing-owed : (o : Option Lent) (k : Option Item) (r : LinkSealing) → AskedFor o k → Shows o r → OwedSealing k r
+sealing-owed : (o : Option Lent) (k : Option Item) (r : HuskSealing) → AskedFor o k → Shows o r → OwedSealing k r
 sealing-owed none none r q s = s
 sealing-owed none (some i) r q s = absurd q
 sealing-owed (some l) none r q s = absurd q

@@ -15,33 +15,33 @@ use Rattle.flight.specs.Status.{unmarkedAfter, unacknowledged, unmarked-next}
 use Rattle.send_words.specs.Words.{stateOf, isFlat}
 use Rattle.flight_words.specs.Words.{entryAt as rowAt, flightOf, flatTo}
 use Rattle.flight_words.specs.Entries.{entry-at}
-use Rattle.status_calls.specs.declared.LinkSaved.{LinkSaved}
-use Rattle.status_calls.specs.declared.LinkQueued.{LinkQueued}
+use Rattle.status_calls.specs.declared.HuskSaved.{HuskSaved}
+use Rattle.status_calls.specs.declared.HuskQueued.{HuskQueued}
 
 -- all that a word can say: words that no call made may tell of more
 abbrev pub most : ℕ
 most = 18446744073709551615
 
-abbrev pub noSaved : LinkSaved
+abbrev pub noSaved : HuskSaved
 noSaved = record { refusal = 12; saved = 0; unacknowledged = 0 }
 
-abbrev pub noQueued : LinkQueued
+abbrev pub noQueued : HuskQueued
 noQueued = record { refusal = 12; queued = 0; waiting = 0 }
 
 -- of a flight in its range
-abbrev pub savedOf : Flight → LinkSaved
+abbrev pub savedOf : Flight → HuskSaved
 savedOf f = record { refusal = 0; saved = f .saved; unacknowledged = unacknowledged f }
 
 -- of a state whose ring is in its range
-abbrev pub queuedOf : Sending → LinkQueued
+abbrev pub queuedOf : Sending → HuskQueued
 queuedOf s = record { refusal = 0; queued = s .queue .count; waiting = min (toSeal s) most }
 
 -- ---- the contracts of the calls, here and over C: r answered of the words
 
-abbrev pub FlightStatusCall : LinkSaved → List ℕ → Type 0
+abbrev pub FlightStatusCall : HuskSaved → List ℕ → Type 0
 FlightStatusCall r f = (n : List ℕ) → r ≡ choose (both (flatTo f 12) (leb (flightOf f n .saved) 12)) (savedOf (flightOf f n)) noSaved
 
-abbrev pub SendingStatusCall : LinkQueued → List ℕ → Type 0
+abbrev pub SendingStatusCall : HuskQueued → List ℕ → Type 0
 SendingStatusCall r w = r ≡ choose (both (isFlat w) (isSound (stateOf w .queue))) (queuedOf (stateOf w)) noQueued
 
 -- ---- from the parts to the whole

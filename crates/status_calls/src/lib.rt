@@ -20,7 +20,7 @@ const MOST: u64 = 0xffff_ffff_ffff_ffff;
 
 // How many records are saved, and how many of them no ACK has named.
 #[repr(C)]
-pub struct LinkSaved {
+pub struct HuskSaved {
     pub refusal: u8,
     pub saved: u8,
     pub unacknowledged: u8,
@@ -28,7 +28,7 @@ pub struct LinkSaved {
 
 // How many datagrams are queued, and how many records wait to be sealed.
 #[repr(C)]
-pub struct LinkQueued {
+pub struct HuskQueued {
     pub refusal: u8,
     pub queued: u8,
     pub waiting: usize,
@@ -36,20 +36,20 @@ pub struct LinkQueued {
 
 // ---- answers
 
-fn no_saved() -> LinkSaved
+fn no_saved() -> HuskSaved
     ensures { λ r. ⌜ r ≡ noSaved ⌝ }
 {
-    LinkSaved {
+    HuskSaved {
         refusal: 12,
         saved: 0,
         unacknowledged: 0,
     }
 }
 
-fn no_queued() -> LinkQueued
+fn no_queued() -> HuskQueued
     ensures { λ r. ⌜ r ≡ noQueued ⌝ }
 {
-    LinkQueued {
+    HuskQueued {
         refusal: 12,
         queued: 0,
         waiting: 0,
@@ -105,13 +105,13 @@ fn sum(a: u64, b: u64) -> u64
 // ---- the calls
 
 // How many records are saved, and how many of them are not acknowledged: with none left, nothing is to be sent again.
-pub fn flight_status(f: &[u64; flight_words::WORDS]) -> LinkSaved
+pub fn flight_status(f: &[u64; flight_words::WORDS]) -> HuskSaved
     ensures { λ r. ⌜ FlightStatusCall r (now (f .entry)) ⌝ }
 {
     if flight_words::is_flat(f) {
         let saved = f[SAVED] as usize;
         if saved <= 12 {
-            return LinkSaved {
+            return HuskSaved {
                 refusal: 0,
                 saved: saved as u8,
                 unacknowledged: unmarked(f, saved) as u8,
@@ -123,14 +123,14 @@ pub fn flight_status(f: &[u64; flight_words::WORDS]) -> LinkSaved
 }
 
 // How many datagrams are queued, and how many records wait to be sealed.
-pub fn sending_status(w: &[u64; send_words::WORDS]) -> LinkQueued
+pub fn sending_status(w: &[u64; send_words::WORDS]) -> HuskQueued
     ensures { λ r. ⌜ SendingStatusCall r (now (w .entry)) ⌝ }
 {
     if send_words::is_flat(w) {
         if send_steps::is_sound(w) {
             let handshake = between(w[HANDSHAKE_SEALED], w[HANDSHAKE_NEXT]);
             let application = between(w[APPLICATION_SEALED], w[APPLICATION_NEXT]);
-            return LinkQueued {
+            return HuskQueued {
                 refusal: 0,
                 queued: w[COUNT] as u8,
                 waiting: sum(handshake, application) as usize,
