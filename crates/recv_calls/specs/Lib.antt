@@ -1,3 +1,4 @@
 pub mod Flat
 pub mod Calls
 pub mod Laws
+pub mod Replies

@@ -5,7 +5,7 @@ ghost use Prim.Native.Nat.{_≤_, _<_};
 ghost use lib.Dec.{leb};
 ghost use lib.ListN.{length, getD};
 ghost use Rattle.recv_keys.specs.Keys.{noEntry, lastFit, find, two, resolve, isKeyed, apps, windowsSound, keysSound, installed, leftAt, left};
-ghost use Rattle.datagram.specs.Datagram.{askKeyed, questionSound, isSound};
+ghost use Rattle.datagram.specs.Datagram.{askKeyed, questionSound, isSound, moved, endAsked};
 ghost use Rattle.recv_words.specs.Words.{
   words,
   ivAt,
@@ -18,7 +18,7 @@ ghost use Rattle.recv_words.specs.Words.{
   putAsk,
   putWindow,
 };
-ghost use Rattle.recv_words.specs.Laws.{Put};
+ghost use Rattle.recv_words.specs.Laws.{Put, Marks, Lies, skipped, opening};
 ghost use Rattle.recv_words.specs.Entries.{Written, Beside, freshWords};
 use datagram::Ask;
 use datagram::Datagram;
@@ -45,27 +45,27 @@ pub const RELEASED: usize = 18;
 
 pub const LEAST: usize = 19;
 // The begun datagram, and the question that waits.
-const SIZE: usize = 20;
+pub const SIZE: usize = 20;
 
-const CURSOR: usize = 21;
+pub const CURSOR: usize = 21;
 
-const READINGS: usize = 22;
+pub const READINGS: usize = 22;
 
-const QUESTION: usize = 23;
+pub const QUESTION: usize = 23;
 
-const ASK_EPOCH: usize = 24;
+pub const ASK_EPOCH: usize = 24;
 
-const ASK_FLAG: usize = 25;
+pub const ASK_FLAG: usize = 25;
 
 const ASK_HEADER: usize = 26;
 
 const ASK_LENGTH: usize = 27;
 
-const ASK_NUMBER: usize = 28;
+pub const ASK_NUMBER: usize = 28;
 // Five words with the first four bytes of the IVs, five with the other eight.
-const IV_FRONT: usize = 29;
+pub const IV_FRONT: usize = 29;
 
-const IV_BACK: usize = 34;
+pub const IV_BACK: usize = 34;
 
 fn count_of(w: &[u64]) -> usize
     ensures { λ r. ⌜ r ≡ length (now (w .entry)) ⌝ }
@@ -401,6 +401,36 @@ pub fn put_datagram(w: &mut [u64; WORDS], b: Datagram)
     }
 }
 
+// The cursor moved, no question left; the words of the question stay.
+pub fn move_to(w: &mut [u64; WORDS], at: usize, readings: usize)
+    ensures { λ _. ⌜ Lies (moved (datagramOf (now (w .entry))) at readings) (now (w .entry)) (now (w .exit)) ⌝ }
+{
+    sized(w);
+    w[CURSOR] = at as u64;
+    w[READINGS] = readings as u64;
+    w[QUESTION] = 0;
+}
+
+// The cursor behind the record of the question.
+pub fn skip(w: &mut [u64; WORDS])
+    requires { ⌜ endAsked (datagramOf (now w)) (askOf (now w)) ≤ 16384 ⌝ }
+    ensures { λ _. ⌜ Lies (skipped (now (w .entry))) (now (w .entry)) (now (w .exit)) ⌝ }
+{
+    let start = w[CURSOR] as usize + w[ASK_HEADER] as usize;
+    let next = start + w[ASK_LENGTH] as usize;
+    let readings = w[READINGS] as usize;
+    move_to(w, next, readings);
+}
+
+// The opening asked for, under a number, of the record whose mask was asked for.
+pub fn ask_opening(w: &mut [u64; WORDS], number: u64)
+    ensures { λ _. ⌜ Lies (opening (now (w .entry)) number) (now (w .entry)) (now (w .exit)) ⌝ }
+{
+    sized(w);
+    w[QUESTION] = 2;
+    w[ASK_NUMBER] = number;
+}
+
 // The window of the entry at i written.
 pub fn put_window(w: &mut [u64; WORDS], i: usize, v: ReplayWindow)
     requires { ⌜ i < 5 ⌝ }
@@ -410,6 +440,16 @@ pub fn put_window(w: &mut [u64; WORDS], i: usize, v: ReplayWindow)
     let n = MARKS + i;
     w[m] = v.max_seq;
     w[n] = v.window;
+}
+
+// A number marked in the window of the entry at i.
+pub fn mark(w: &mut [u64; WORDS], i: usize, number: u64)
+    requires { ⌜ i < 5 ⌝ }
+    ensures { λ _. ⌜ Marks i number (now (w .entry)) (now (w .exit)) ⌝ }
+{
+    sized(w);
+    let v = window_at(w, i);
+    put_window(w, i, v.update(number));
 }
 
 // ---- entries written
