@@ -39,7 +39,7 @@ use Rattle.words.specs.Packed.{ivOf}
 use Rattle.recv_calls.specs.Calls.{Stepped, masks, MaskCall, OpenedCall}
 use Rattle.recv_calls.specs.Flat.{bare, shown, asked, flatReading, openingOf}
 use Rattle.recv_calls.specs.Laws.{state-by}
-use Rattle.recv_calls.specs.declared.LinkReading.{LinkReading}
+use Rattle.recv_calls.specs.declared.HuskReading.{HuskReading}
 use Rattle.recv_calls.specs.declared.Reply.{Reply}
 
 -- ---- the state in which a reply is met
@@ -105,7 +105,7 @@ module _ {w : List ℕ} (q : OpeningWaits w) where
 
 -- ---- the reply to a mask question
 
-abbrev pub laid : Reply → LinkReading
+abbrev pub laid : Reply → HuskReading
 laid r = record {
   kind = r .kind;
   refusal = r .refusal;
@@ -119,7 +119,7 @@ laid r = record {
 }
 
 -- the opening question of the record at the cursor, under the entry at i
-abbrev pub askedAt : List ℕ → ℕ → ℕ → LinkReading
+abbrev pub askedAt : List ℕ → ℕ → ℕ → HuskReading
 askedAt w i n =
     asked (askOf w .epoch) n (datagramOf w .at) (askOf w .«header_len») (askOf w .length) (nonceOf (ivAt w i) n)
 
@@ -131,20 +131,20 @@ asked-entry w i n l =
 
 -- ---- what a reply leaves: the reading, flat, and the words behind it
 
-abbrev pub Marked-as : LinkReading → List ℕ → Marked → Type 0
+abbrev pub Marked-as : HuskReading → List ℕ → Marked → Type 0
 Marked-as r v m =
     (r ≡ flatReading (m .step .reading) (m .step .nonce)) × (keysOf v ≡ m .keys) × (datagramOf v ≡ m .step .datagram) × (isFlat v ≡ true)
 
 -- what a call ensures
 
-pub masks-as : (r : LinkReading) (v w : List ℕ) (m n : ℕ) (e d : List ℕ) → isFlat w ≡ true
+pub masks-as : (r : HuskReading) (v w : List ℕ) (m n : ℕ) (e d : List ℕ) → isFlat w ≡ true
     → Stepped r v w (maskStep (keysOf w) (datagramOf w) (masks m n) d .0) × (e ≡ maskStep (keysOf w) (datagramOf w) (masks m n) d .1) → MaskCall r v w m n e d
 masks-as r v w m n e d f h = (
   (h .0 .0 ∙ sym (if-true _ _ f), state-by v (h .0 .1) (h .0 .2) ∙ sym (if-true _ _ f), h .0 .3 ∙ sym f),
   h .1 ∙ sym (if-true _ _ f),
 )
 
-pub opens-as : (r : LinkReading) (v w : List ℕ) (o len : ℕ) (d : List ℕ) → leb o 1 ≡ true → isFlat w ≡ true
+pub opens-as : (r : HuskReading) (v w : List ℕ) (o len : ℕ) (d : List ℕ) → leb o 1 ≡ true → isFlat w ≡ true
     → Marked-as r v (openedStep (keysOf w) (datagramOf w) (openingOf o len) d) → OpenedCall r v w o len d
 opens-as r v w o len d l f h = (
   h .0 ∙ sym (if-true _ _ (both-true l ∙ f)),
@@ -154,7 +154,7 @@ opens-as r v w o len d l f h = (
 
 -- ---- the number judged
 
-module _ (w v : List ℕ) (r : LinkReading) (i n : ℕ) (l : i < 5) (f : isFlat w ≡ true) where
+module _ (w v : List ℕ) (r : HuskReading) (i n : ℕ) (l : i < 5) (f : isFlat w ≡ true) where
   -- 8
   pub judged-high : 0xFFFF_FFFF_FFFF < n → r ≡ bare 2 8 → Lies (skipped w) w v → Stepped r v w (judged (entryAt (keysOf w) i) (datagramOf w) (askOf w) n)
   unfolding judged
@@ -175,18 +175,18 @@ module _ (w v : List ℕ) (r : LinkReading) (i n : ℕ) (l : i < 5) (f : isFlat 
       subst (Stepped r v w) (sym (if-false _ _ (le-ltb _ _ h) ∙ if-true _ _ t)) (e ∙ asked-entry w i n l, s .keys, s .datagram, s .flat f)
 
 -- refused: the words and the bytes as they were
-pub mask-refused : (r : LinkReading) (w m d : List ℕ) (g : Reading) → isFlat w ≡ true → r ≡ flatReading g zeros
+pub mask-refused : (r : HuskReading) (w m d : List ℕ) (g : Reading) → isFlat w ≡ true → r ≡ flatReading g zeros
     → maskStep (keysOf w) (datagramOf w) m d ≡ (told (datagramOf w) g, d)
     → Stepped r w w (maskStep (keysOf w) (datagramOf w) m d .0) × (d ≡ maskStep (keysOf w) (datagramOf w) m d .1)
 mask-refused r w m d g f e q = subst (λ (p : Step × List ℕ). Stepped r w w (p .0) × (d ≡ p .1)) (sym q) ((e, refl, refl, f), refl)
 
-pub mask-leads : (r : LinkReading) (w v m d e : List ℕ) (p : Step × List ℕ) → maskStep (keysOf w) (datagramOf w) m d ≡ p → Stepped r v w (p .0) × (e ≡ p .1)
+pub mask-leads : (r : HuskReading) (w v m d e : List ℕ) (p : Step × List ℕ) → maskStep (keysOf w) (datagramOf w) m d ≡ p → Stepped r v w (p .0) × (e ≡ p .1)
     → Stepped r v w (maskStep (keysOf w) (datagramOf w) m d .0) × (e ≡ maskStep (keysOf w) (datagramOf w) m d .1)
 mask-leads r w v m d e p q h = subst (λ (x : Step × List ℕ). Stepped r v w (x .0) × (e ≡ x .1)) (sym q) h
 
 -- ---- the record opened
 
-module _ (w v : List ℕ) (r : LinkReading) (t l : ℕ) (f : isFlat w ≡ true) where
+module _ (w v : List ℕ) (r : HuskReading) (t l : ℕ) (f : isFlat w ≡ true) where
   abbrev Read : Type 0
   Read = Stepped r v w (typed (datagramOf w) (askOf w) (askNumber w) (inner.Found t l))
 
@@ -206,7 +206,7 @@ module _ {i n : ℕ} {w u : List ℕ} (m : Marks i n w u) where
       omega (arith, h, ap (λ (b : Datagram). b .at) (m .datagram), ap (λ (a : Ask). a .«header_len») (m .ask), ap (λ (a : Ask). a .length) (m .ask))
 
 -- a yes of the right length: the number is marked, and the record told
-pub yes-opens : (w u v : List ℕ) (r : LinkReading) (i len : ℕ) (x : Inner) (d : List ℕ) → len ≡ askOf w .length - tagSize → Marks i (askNumber w) w u
+pub yes-opens : (w u v : List ℕ) (r : HuskReading) (i len : ℕ) (x : Inner) (d : List ℕ) → len ≡ askOf w .length - tagSize → Marks i (askNumber w) w u
     → x ≡ innerOf (part (datagramOf w .at + askOf w .«header_len») len d) → Stepped r v u (typed (datagramOf u) (askOf u) (askNumber u) x)
     → Marked-as r v (openedAt i (reply.Yes len) (keysOf w) (datagramOf w) (askOf w) (askNumber w) d)
 unfolding openedAt
@@ -219,7 +219,7 @@ yes-opens w u v r i len x d e m q s =
     subst (Marked-as r v) (sym (if-true _ _ (eq-eqb _ _ e))) (t .0, t .1 ∙ m .keys, t .2, t .3)
 
 -- another length: 15
-pub yes-refused : (w : List ℕ) (r : LinkReading) (i len : ℕ) (d : List ℕ) → isFlat w ≡ true → (len ≡ askOf w .length - tagSize → ⊥) → r ≡ bare 0 15
+pub yes-refused : (w : List ℕ) (r : HuskReading) (i len : ℕ) (d : List ℕ) → isFlat w ≡ true → (len ≡ askOf w .length - tagSize → ⊥) → r ≡ bare 0 15
     → Marked-as r w (openedAt i (reply.Yes len) (keysOf w) (datagramOf w) (askOf w) (askNumber w) d)
 unfolding openedAt
 yes-refused w r i len d f e q = subst (Marked-as r w) (sym (if-false _ _ (ne-eqb _ _ e))) (q, refl, refl, f)
@@ -232,6 +232,6 @@ pub opening-no : (o len : ℕ) → (o ≡ 1 → ⊥) → openingOf o len ≡ rep
 unfolding openingOf
 opening-no o len e = if-false _ _ (ne-eqb _ _ e)
 
-pub opened-refused : (r : LinkReading) (w : List ℕ) (m : Marked) (g : Reading) → isFlat w ≡ true → r ≡ flatReading g zeros → m ≡ still (keysOf w) (told (datagramOf w) g)
+pub opened-refused : (r : HuskReading) (w : List ℕ) (m : Marked) (g : Reading) → isFlat w ≡ true → r ≡ flatReading g zeros → m ≡ still (keysOf w) (told (datagramOf w) g)
     → Marked-as r w m
 opened-refused r w m g f e q = subst (Marked-as r w) (sym q) (e, refl, refl, f)

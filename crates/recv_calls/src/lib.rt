@@ -59,7 +59,7 @@ use recv_words::WORDS;
 //   7 the opening is asked for: epoch, number, nonce, where the record starts, how long its header and its protected part are.
 // Fields that a kind does not use are zeros.
 #[repr(C)]
-pub struct LinkReading {
+pub struct HuskReading {
     pub kind: u8,
     pub refusal: u8,
     pub content_type: u8,
@@ -102,10 +102,10 @@ fn reason_of(r: Reason) -> u8
     }
 }
 
-fn told(kind: u8, refusal: u8) -> LinkReading
+fn told(kind: u8, refusal: u8) -> HuskReading
     ensures { λ r. ⌜ r ≡ bare kind refusal ⌝ }
 {
-    LinkReading {
+    HuskReading {
         kind: kind,
         refusal: refusal,
         content_type: 0,
@@ -126,10 +126,10 @@ fn shown(
     number: u64,
     start: usize,
     length: usize,
-) -> LinkReading
+) -> HuskReading
     ensures { λ r. ⌜ r ≡ shown kind «content_type» epoch number start length ⌝ }
 {
-    LinkReading {
+    HuskReading {
         kind: kind,
         refusal: 0,
         content_type: content_type,
@@ -150,10 +150,10 @@ fn asked(
     header_len: usize,
     length: usize,
     nonce: [u8; 12],
-) -> LinkReading
+) -> HuskReading
     ensures { λ r. ⌜ r ≡ asked epoch number start «header_len» length nonce ⌝ }
 {
-    LinkReading {
+    HuskReading {
         kind: 7,
         refusal: 0,
         content_type: 0,
@@ -166,7 +166,7 @@ fn asked(
     }
 }
 
-fn flat_reading(r: Reading, nonce: [u8; 12]) -> LinkReading
+fn flat_reading(r: Reading, nonce: [u8; 12]) -> HuskReading
     ensures { λ t. ⌜ t ≡ flatReading r nonce ⌝ }
 {
     match r {
@@ -207,7 +207,7 @@ fn flat_reading(r: Reading, nonce: [u8; 12]) -> LinkReading
 }
 
 // A step written, and what it says.
-fn settle(w: &mut [u64; WORDS], t: Step) -> LinkReading
+fn settle(w: &mut [u64; WORDS], t: Step) -> HuskReading
     requires { ⌜ isFlat (now w) ≡ true ⌝ }
     ensures { λ r. ⌜ Stepped r (now (w .exit)) (now (w .entry)) t ⌝ }
 {
@@ -285,7 +285,7 @@ pub fn begin(w: &mut [u64; WORDS], n: usize) -> u8
 }
 
 // The record at the cursor of a datagram, where no question waits.
-fn read_on(w: &mut [u64; WORDS], b: Datagram, d: &[u8]) -> LinkReading
+fn read_on(w: &mut [u64; WORDS], b: Datagram, d: &[u8]) -> HuskReading
     requires { ⌜ (isFlat (now w) ≡ true) × Goes (keysOf (now w)) b (length (now d)) ⌝ }
     ensures { λ r. ⌜ Stepped r (now (w .exit)) (now (w .entry)) (readStep (keysOf (now (w .entry))) b (now (d .entry))) ⌝ }
 {
@@ -294,7 +294,7 @@ fn read_on(w: &mut [u64; WORDS], b: Datagram, d: &[u8]) -> LinkReading
 }
 
 // Begins a datagram and reads its first record, in one call. A refused beginning is told by its number, 1 or 12.
-pub fn begin_read(w: &mut [u64; WORDS], d: &[u8]) -> LinkReading
+pub fn begin_read(w: &mut [u64; WORDS], d: &[u8]) -> HuskReading
     ensures { λ r. ⌜ BeginReadCall r (now (w .exit)) (now (w .entry)) (now (d .entry)) ⌝ }
 {
     if recv_words::is_flat(w) {
@@ -317,7 +317,7 @@ pub fn begin_read(w: &mut [u64; WORDS], d: &[u8]) -> LinkReading
 }
 
 // One record of the datagram begun, or the question that waits again.
-pub fn read(w: &mut [u64; WORDS], d: &[u8]) -> LinkReading
+pub fn read(w: &mut [u64; WORDS], d: &[u8]) -> HuskReading
     ensures { λ r. ⌜ ReadCall r (now (w .exit)) (now (w .entry)) (now (d .entry)) ⌝ }
 {
     if recv_words::is_flat(w) {
@@ -384,11 +384,11 @@ fn open_question(w: &[u64; WORDS], i: usize, number: u64) -> Reply
 }
 
 // The nonce is made here alone, whatever the reply says: made on one way among others, the compiler would carry each of its bytes.
-fn lay(r: Reply) -> LinkReading
+fn lay(r: Reply) -> HuskReading
     ensures { λ t. ⌜ t ≡ laid r ⌝ }
 {
     let iv = words::iv_of(r.front, r.back);
-    LinkReading {
+    HuskReading {
         kind: r.kind,
         refusal: r.refusal,
         content_type: 0,
@@ -471,7 +471,7 @@ fn reply_mask(w: &mut [u64; WORDS], mask_0: u8, mask_1: u8, d: &mut [u8]) -> Rep
 }
 
 // The mask that was asked for; the number bytes are unmasked in the datagram.
-pub fn mask(w: &mut [u64; WORDS], mask_0: u8, mask_1: u8, d: &mut [u8]) -> LinkReading
+pub fn mask(w: &mut [u64; WORDS], mask_0: u8, mask_1: u8, d: &mut [u8]) -> HuskReading
     ensures { λ r. ⌜ MaskCall r (now (w .exit)) (now (w .entry)) «mask_0» «mask_1» (now (d .exit)) (now (d .entry)) ⌝ }
 {
     lay(reply_mask(w, mask_0, mask_1, d))
@@ -480,7 +480,7 @@ pub fn mask(w: &mut [u64; WORDS], mask_0: u8, mask_1: u8, d: &mut [u8]) -> LinkR
 // ---- the reply to an opening question
 
 // An opened record is a reading, or one too many.
-fn count(w: &mut [u64; WORDS], content_type: u8, length: usize) -> LinkReading
+fn count(w: &mut [u64; WORDS], content_type: u8, length: usize) -> HuskReading
     requires { ⌜ (isFlat (now w) ≡ true) × Fits (now w) ⌝ }
     ensures { λ r. ⌜ Stepped r (now (w .exit)) (now (w .entry)) (typed (datagramOf (now (w .entry))) (askOf (now (w .entry))) (askNumber (now (w .entry))) (Inner.Found «content_type» length)) ⌝ }
 {
@@ -498,7 +498,7 @@ fn count(w: &mut [u64; WORDS], content_type: u8, length: usize) -> LinkReading
 }
 
 // What an opened record holds.
-fn type_step(w: &mut [u64; WORDS], inner: Inner) -> LinkReading
+fn type_step(w: &mut [u64; WORDS], inner: Inner) -> HuskReading
     requires { ⌜ (isFlat (now w) ≡ true) × Fits (now w) ⌝ }
     ensures { λ r. ⌜ Stepped r (now (w .exit)) (now (w .entry)) (typed (datagramOf (now (w .entry))) (askOf (now (w .entry))) (askNumber (now (w .entry))) inner) ⌝ }
 {
@@ -515,7 +515,7 @@ fn type_step(w: &mut [u64; WORDS], inner: Inner) -> LinkReading
 }
 
 // Yes: the number is marked.
-fn open_yes(w: &mut [u64; WORDS], i: usize, length: usize, d: &[u8]) -> LinkReading
+fn open_yes(w: &mut [u64; WORDS], i: usize, length: usize, d: &[u8]) -> HuskReading
     requires { ⌜ OpeningWaits (now w) × (i < 5) ⌝ }
     ensures { λ r. ⌜ Marked-as r (now (w .exit)) (openedAt i (Opening.Yes length) (keysOf (now (w .entry))) (datagramOf (now (w .entry))) (askOf (now (w .entry))) (askNumber (now (w .entry))) (now (d .entry))) ⌝ }
 {
@@ -530,7 +530,7 @@ fn open_yes(w: &mut [u64; WORDS], i: usize, length: usize, d: &[u8]) -> LinkRead
     told(0, 15)
 }
 
-fn open_at(w: &mut [u64; WORDS], i: usize, opened: u8, length: usize, d: &[u8]) -> LinkReading
+fn open_at(w: &mut [u64; WORDS], i: usize, opened: u8, length: usize, d: &[u8]) -> HuskReading
     requires { ⌜ OpeningWaits (now w) × (i < 5) ⌝ }
     ensures { λ r. ⌜ Marked-as r (now (w .exit)) (openedAt i (openingOf opened length) (keysOf (now (w .entry))) (datagramOf (now (w .entry))) (askOf (now (w .entry))) (askNumber (now (w .entry))) (now (d .entry))) ⌝ }
 {
@@ -541,7 +541,7 @@ fn open_at(w: &mut [u64; WORDS], i: usize, opened: u8, length: usize, d: &[u8]) 
     told(2, 10)
 }
 
-fn open_by(w: &mut [u64; WORDS], opened: u8, length: usize, d: &[u8]) -> LinkReading
+fn open_by(w: &mut [u64; WORDS], opened: u8, length: usize, d: &[u8]) -> HuskReading
     requires { ⌜ OpeningWaits (now w) ⌝ }
     ensures { λ r. ⌜ Marked-as r (now (w .exit)) (openedBy (find (entriesOf (now (w .entry))) (askOf (now (w .entry)) .epoch) (keysOf (now (w .entry)) .count)) (openingOf opened length) (keysOf (now (w .entry))) (datagramOf (now (w .entry))) (askOf (now (w .entry))) (askNumber (now (w .entry))) (now (d .entry))) ⌝ }
 {
@@ -554,7 +554,7 @@ fn open_by(w: &mut [u64; WORDS], opened: u8, length: usize, d: &[u8]) -> LinkRea
     }
 }
 
-fn opened_step(w: &mut [u64; WORDS], opened: u8, length: usize, d: &[u8]) -> LinkReading
+fn opened_step(w: &mut [u64; WORDS], opened: u8, length: usize, d: &[u8]) -> HuskReading
     requires { ⌜ isFlat (now w) ≡ true ⌝ }
     ensures { λ r. ⌜ Marked-as r (now (w .exit)) (openedStep (keysOf (now (w .entry))) (datagramOf (now (w .entry))) (openingOf opened length) (now (d .entry))) ⌝ }
 {
@@ -571,7 +571,7 @@ fn opened_step(w: &mut [u64; WORDS], opened: u8, length: usize, d: &[u8]) -> Lin
 }
 
 // Whether the record was opened, 0 or 1; its plaintext, of so many bytes, then stands at the start of the protected part.
-pub fn opened(w: &mut [u64; WORDS], opened: u8, length: usize, d: &[u8]) -> LinkReading
+pub fn opened(w: &mut [u64; WORDS], opened: u8, length: usize, d: &[u8]) -> HuskReading
     ensures { λ r. ⌜ OpenedCall r (now (w .exit)) (now (w .entry)) opened length (now (d .entry)) ⌝ }
 {
     if 1 < opened {
