@@ -1,13 +1,9 @@
-// The reply to a mask question, after `Record::parse_buffer` of incoming.rs: the number unmasked, rebuilt and tested.
+// The number of a record whose mask is known, after `Record::parse_buffer` of incoming.rs: unmasked and rebuilt.
 ghost use mathlib.Core.Path.{_≡_};
 ghost use Prim.Native.Nat.{_+_, _≤_, _<_};
-ghost use lib.ListN.{length};
-ghost use Rattle.mask_reply.specs.Mask.{unmasked, rebuilt, judged, maskedAt};
-use datagram::Ask;
-use datagram::Datagram;
-use datagram::Reason;
-use datagram::Step;
-use recv_keys::RecvEpochEntry;
+ghost use lib.ListN.{length, drop};
+ghost use Rattle.record.specs.Record.{partialOf};
+ghost use Rattle.mask_reply.specs.Mask.{unmasked, rebuilt};
 use window::ReplayWindow;
 
 // The number bytes of the record at a place, unmasked in place.
@@ -34,30 +30,12 @@ fn rebuild(w: ReplayWindow, partial: u64, s_flag: bool) -> u64
     sequence::reconstruct_sequence(partial, recv_keys::expected_recv_seq(w), s_flag)
 }
 
-// The number, tested between mask and opening.
-fn judge(e: RecvEpochEntry, b: Datagram, a: Ask, number: u64) -> Step
-    requires { ⌜ b .at + a .«header_len» + a .length ≤ 16384 ⌝ }
-    ensures { λ r. ⌜ r ≡ judged e b a number ⌝ }
+// The number of the record at a place, once its number bytes are unmasked.
+pub fn number_at(w: ReplayWindow, at: usize, s_flag: bool, mask: [u8; 2], d: &mut [u8]) -> u64
+    requires { ⌜ (w .«max_seq» ≤ 281474976710655) × (at + 2 < length (now d)) × (at ≤ 16384) ⌝ }
+    ensures { λ r. ⌜ (r ≡ rebuilt w (partialOf (drop at (unmasked (now (d .entry)) at «s_flag» mask)) «s_flag») «s_flag») × (now (d .exit) ≡ unmasked (now (d .entry)) at «s_flag» mask) ⌝ }
 {
-    let next = b.at + a.header_len + a.length;
-    if 0xFFFF_FFFF_FFFF < number {
-        return datagram::pass(b, next, Reason::TooHigh);
-    }
-    let w = e.replay;
-    if w.check(number) {
-        return records::ask_opening(e, b, a, number);
-    }
-    datagram::pass(b, next, Reason::Replayed)
-}
-
-// The mask of a record of an epoch's entry.
-pub fn mask_at(e: RecvEpochEntry, b: Datagram, a: Ask, mask: [u8; 2], d: &mut [u8]) -> Step
-    requires { ⌜ (e .replay .«max_seq» ≤ 281474976710655) × (b .at + a .«header_len» + a .length ≤ length (now d)) × (length (now d) ≤ 16384) × (16 ≤ a .length) ⌝ }
-    ensures { λ r. ⌜ (r ≡ maskedAt e b a mask (now (d .entry)) .0) × (now (d .exit) ≡ maskedAt e b a mask (now (d .entry)) .1) ⌝ }
-{
-    let at = b.at;
-    let w = e.replay;
-    unmask(d, at, a.s_flag, mask);
-    let p = record::partial(base::behind(d, at), a.s_flag);
-    judge(e, b, a, rebuild(w, p, a.s_flag))
+    unmask(d, at, s_flag, mask);
+    let p = record::partial(base::behind(d, at), s_flag);
+    rebuild(w, p, s_flag)
 }

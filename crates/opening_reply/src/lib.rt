@@ -1,14 +1,11 @@
-// The reply to an opening question, after `Record::parse_buffer` of incoming.rs; what removing an epoch does to its question.
+// What a reply to an opening question may say; what removing an epoch does to its question.
 ghost use mathlib.Core.Path.{_≡_};
 ghost use Prim.Native.Nat.{_+_, _≤_};
-ghost use Rattle.opening_reply.specs.Opening.{typed, cancelledAsk};
+ghost use Rattle.opening_reply.specs.Opening.{cancelledAsk};
 use datagram::Ask;
 use datagram::Datagram;
 use datagram::Question;
-use datagram::Reading;
-use datagram::Reason;
 use datagram::Step;
-use incoming::Inner;
 use recv_keys::RecvKeys;
 
 // The reply to an opening question: no, or yes with so many bytes of plaintext at the start of the protected part.
@@ -29,34 +26,7 @@ pub struct Cancelled {
     pub datagram: Datagram,
 }
 
-// What an opened record holds.
-pub fn type_step(b: Datagram, a: Ask, number: u64, inner: Inner) -> Step
-    requires { ⌜ b .at + a .«header_len» + a .length ≤ 16384 ⌝ }
-    ensures { λ r. ⌜ r ≡ typed b a number inner ⌝ }
-{
-    let start = b.at + a.header_len;
-    let next = start + a.length;
-    match inner {
-        Inner::Nothing => datagram::pass(b, next, Reason::NoContentType),
-        Inner::Found {
-            content_type,
-            length,
-        } => datagram::count(
-            b,
-            next,
-            Reading::Opened {
-                epoch: a.epoch,
-                number: number,
-                content_type: content_type,
-                start: start,
-                length: length,
-            },
-        ),
-    }
-}
-
-// ---- the epoch of a question removed
-
+// The epoch of a question removed.
 pub fn cancel_ask(a: Ask, b: Datagram, epoch: u16) -> Cancelled
     requires { ⌜ b .at + a .«header_len» + a .length ≤ 16384 ⌝ }
     ensures { λ r. ⌜ r ≡ cancelledAsk a b epoch ⌝ }

@@ -1,23 +1,22 @@
 -- From what a call's parts ensure to what the call ensures. Assumes nothing.
-use mathlib.Core.Bool.{Bool, true, false}
+use mathlib.Core.Bool.{true, false}
 use mathlib.Core.List.{List}
 use mathlib.Core.Path.{_≡_, refl, sym, ap, subst, _∙_}
-use Prim.Native.Nat.{ℕ, _≤_, _<_}
+use Prim.Native.Nat.{ℕ, _≤_}
 use native.Mathlib.Omega.{arith}
-use lib.Dec.{leb, eqb}
-use lib.ListN.{length, getD}
-use Rattle.base.specs.Choose.{choose, both, if-true, if-false, both-true, both-false}
+use lib.Dec.{eqb}
+use lib.ListN.{length}
+use Rattle.base.specs.Choose.{choose, if-true, if-false}
 use Rattle.datagram.specs.declared.Datagram.{Datagram}
 use Rattle.base.specs.Parts.{part}
 use Rattle.datagram.specs.declared.Reading.the-variants as says
 use Rattle.datagram.specs.declared.Reading.{Reading}
 use Rattle.datagram.specs.declared.Step.{Step}
 use Rattle.opening_reply.specs.Opening.{shownBy}
-use Rattle.recv_keys.specs.Keys.{noEntry, marked, fresh}
+use Rattle.recv_keys.specs.Keys.{fresh}
 use Rattle.datagram.specs.Datagram.{begun, questionSound, isSound}
 use Rattle.datagram.specs.Sound.{ready, is-ready}
 use Rattle.recv_words.specs.Entries.{freshWords, starts}
-use Rattle.recv_keys.specs.declared.RecvEpochEntry.{RecvEpochEntry}
 use Rattle.recv_keys.specs.declared.RecvKeys.{RecvKeys}
 use Rattle.receiving.specs.Laws.{begin-cancels}
 use Rattle.receiving.specs.Receiving.{sound, kept, made, stepped, beginOf}
@@ -25,14 +24,10 @@ use Rattle.receiving.specs.declared.Answer.the-variants as answers
 use Rattle.records.specs.Records.{readStep}
 use Rattle.receiving.specs.declared.Answer.{Answer}
 use Rattle.receiving.specs.declared.Kept.{Kept}
-use Rattle.receiving.specs.declared.Receiving.{Receiving}
-use Rattle.window.specs.Window.{marking}
-use Rattle.window.specs.declared.ReplayWindow.{ReplayWindow}
-use Rattle.recv_words.specs.Words.{words, windowAt, entriesOf, keysOf, datagramOf, isFlat, putWindow}
-use Rattle.recv_words.specs.Laws.{entry-at, mark-put}
+use Rattle.recv_words.specs.Words.{keysOf, datagramOf, isFlat}
 use Rattle.recv_calls.specs.Flat.{answerOf, bare, flatReading}
 use Rattle.recv_key_steps.specs.Kept.{stateOf, Kept-as}
-use Rattle.recv_calls.specs.Calls.{Does, Reads, firstReading, firstState, BeginReadCall, Stepped, OpenedAs}
+use Rattle.recv_calls.specs.Calls.{Does, Reads, firstReading, firstState, BeginReadCall, Stepped}
 use Rattle.recv_calls.specs.declared.HuskReading.{HuskReading}
 
 -- ---- calls that read nothing
@@ -42,7 +37,7 @@ does r a v w k f e h = (e ∙ ap answerOf (h .0) ∙ sym (if-true _ _ f), h .1 �
 
 -- ---- calls that read
 
-state-by : (v : List ℕ) {keys : RecvKeys} {b : Datagram} → keysOf v ≡ keys → datagramOf v ≡ b → stateOf v ≡ record { keys = keys; datagram = b }
+pub state-by : (v : List ℕ) {keys : RecvKeys} {b : Datagram} → keysOf v ≡ keys → datagramOf v ≡ b → stateOf v ≡ record { keys = keys; datagram = b }
 state-by v {keys} p q =
     ap (λ (x : RecvKeys). record { keys = x; datagram = datagramOf v }) p ∙ ap (λ (x : Datagram). record { keys = keys; datagram = x }) q
 
@@ -51,13 +46,6 @@ pub reads : (r : HuskReading) (v u w : List ℕ) (keys : RecvKeys) (t s : Step) 
 reads r v u w keys t s f h p e = (
   h .0 ∙ ap (λ (x : Step). flatReading (x .reading) (x .nonce)) e ∙ sym (if-true _ _ f),
   state-by v (h .1 ∙ p) (h .2 ∙ ap (λ (x : Step). x .datagram) e) ∙ sym (if-true _ _ f),
-  h .3 ∙ sym f,
-)
-
-pub opened : (r : HuskReading) (v u w : List ℕ) (o : ℕ) (keys : RecvKeys) (t s : Step) → leb o 1 ≡ true → isFlat w ≡ true → Stepped r v u t → keysOf u ≡ keys → t ≡ s → OpenedAs r v w o (stepped keys s)
-opened r v u w o keys t s l f h p e = (
-  h .0 ∙ ap (λ (x : Step). flatReading (x .reading) (x .nonce)) e ∙ sym (if-true _ _ (both-true l ∙ f)),
-  state-by v (h .1 ∙ p) (h .2 ∙ ap (λ (x : Step). x .datagram) e) ∙ sym (if-true _ _ (both-true l ∙ f)),
   h .3 ∙ sym f,
 )
 
@@ -88,13 +76,6 @@ first-read r v w d t l f h =
       state-by v (h .1) (h .2) ∙ sym (if-true _ _ f ∙ ap (λ (x : Kept). firstState x d) k ∙ if-true _ _ refl),
       h .3 ∙ sym f,
     )
-
--- a window that is marked
-pub marks-at : (i n : ℕ) (w : List ℕ) (u v : ReplayWindow) → i < 5 → length w ≡ words → u ≡ getD (entriesOf w) i noEntry .replay → v ≡ marking u n
-    → (keysOf (putWindow i v w) ≡ marked (keysOf w) i n) × (isFlat (putWindow i v w) ≡ isFlat w)
-marks-at i n w u v l h p q =
-    subst (λ (x : ReplayWindow). (keysOf (putWindow i x w) ≡ marked (keysOf w) i n) × (isFlat (putWindow i x w) ≡ isFlat w))
-    (sym (q ∙ ap (λ (y : ReplayWindow). marking y n) (p ∙ ap (λ (e : RecvEpochEntry). e .replay) (entry-at w i l)))) (mark-put i n w l h)
 
 -- ---- the start
 

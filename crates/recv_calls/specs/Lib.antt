@@ -2,3 +2,4 @@ pub mod Flat
 pub mod Removed
 pub mod Calls
 pub mod Laws
+pub mod Replies

@@ -4,10 +4,15 @@ ghost use mathlib.Core.Path.{_≡_};
 ghost use Prim.Native.Nat.{_<_};
 ghost use lib.ListN.{length};
 ghost use mathlib.Core.Bool.{true};
-ghost use Rattle.recv_words.specs.Words.{keysOf, isFlat};
+ghost use Rattle.incoming.specs.declared.Inner.the-variants as Inner;
+ghost use Rattle.mask_reply.specs.Mask.{judged, maskedAt, maskedBy, maskStep};
+ghost use Rattle.opening_reply.specs.Opening.{typed, openedAt, openedBy, openedStep};
+ghost use Rattle.opening_reply.specs.declared.Opening.the-variants as Opening;
+ghost use Rattle.recv_keys.specs.Keys.{entryAt, find};
+ghost use Rattle.recv_words.specs.Words.{entriesOf, keysOf, askOf, askNumber, datagramOf, isFlat};
 ghost use Rattle.records.specs.Records.{readStep};
 ghost use Rattle.recv_steps.specs.Goes.{Goes};
-ghost use Rattle.recv_steps.specs.Opens.{opens};
+ghost use Rattle.recv_calls.specs.Replies.{MaskWaits, OpeningWaits, Fits, laid, askedAt, Marked-as};
 ghost use Rattle.recv_calls.specs.Flat.{answerOf, reasonOf, bare, shown, asked, flatReading, openingOf};
 ghost use Rattle.recv_calls.specs.Removed.{removedTold};
 ghost use Rattle.recv_calls.specs.Calls.{
@@ -29,9 +34,20 @@ use datagram::Question;
 use datagram::Reading;
 use datagram::Reason;
 use datagram::Step;
-use opening_reply::Opening;
+use incoming::Inner;
 use receiving::Answer;
-use recv_steps::Opened;
+use record::TAG_LEN;
+use recv_keys::Found;
+use recv_words::ASK_EPOCH;
+use recv_words::ASK_FLAG;
+use recv_words::ASK_NUMBER;
+use recv_words::COUNT;
+use recv_words::CURSOR;
+use recv_words::IV_BACK;
+use recv_words::IV_FRONT;
+use recv_words::QUESTION;
+use recv_words::READINGS;
+use recv_words::SIZE;
 use recv_words::WORDS;
 
 // What a call says of the record at the cursor, by kind:
@@ -206,15 +222,6 @@ fn flat_reading(r: Reading, nonce: [u8; 12]) -> HuskReading
     }
 }
 
-fn opening_of(opened: u8, length: usize) -> Opening
-    ensures { λ r. ⌜ r ≡ openingOf opened length ⌝ }
-{
-    if opened == 1 {
-        return Opening::Yes(length);
-    }
-    Opening::No
-}
-
 // A step written, and what it says.
 fn settle(w: &mut [u64; WORDS], t: Step) -> HuskReading
     requires { ⌜ isFlat (now w) ≡ true ⌝ }
@@ -340,29 +347,243 @@ pub fn read(w: &mut [u64; WORDS], d: &[u8]) -> HuskReading
     told(0, 12)
 }
 
+// ---- the reply to a mask question
+
+// What the reply to a mask question says: the nonce in two words, the number still to be XORed onto the second.
+pub struct Reply {
+    pub kind: u8,
+    pub refusal: u8,
+    pub epoch: u16,
+    pub number: u64,
+    pub start: usize,
+    pub header_len: usize,
+    pub length: usize,
+    pub front: u64,
+    pub back: u64,
+}
+
+fn no_reply(kind: u8, refusal: u8) -> Reply
+    ensures { λ r. ⌜ laid r ≡ bare kind refusal ⌝ }
+{
+    Reply {
+        kind: kind,
+        refusal: refusal,
+        epoch: 0,
+        number: 0,
+        start: 0,
+        header_len: 0,
+        length: 0,
+        front: 0,
+        back: 0,
+    }
+}
+
+// The opening of the record at the cursor is asked for, under the entry at i.
+fn open_question(w: &[u64; WORDS], i: usize, number: u64) -> Reply
+    requires { ⌜ i < 5 ⌝ }
+    ensures { λ r. ⌜ laid r ≡ askedAt (now (w .entry)) i number ⌝ }
+{
+    let front = IV_FRONT + i;
+    let back = IV_BACK + i;
+    let a = recv_words::ask_of(w);
+    Reply {
+        kind: 7,
+        refusal: 0,
+        epoch: a.epoch,
+        number: number,
+        start: w[CURSOR] as usize,
+        header_len: a.header_len,
+        length: a.length,
+        front: w[front],
+        back: w[back],
+    }
+}
+
+// The nonce is made here alone, whatever the reply says: made on one way among others, the compiler would carry each of its bytes.
+fn lay(r: Reply) -> HuskReading
+    ensures { λ t. ⌜ t ≡ laid r ⌝ }
+{
+    let iv = words::iv_of(r.front, r.back);
+    HuskReading {
+        kind: r.kind,
+        refusal: r.refusal,
+        content_type: 0,
+        epoch: r.epoch,
+        number: r.number,
+        start: r.start,
+        header_len: r.header_len,
+        length: r.length,
+        nonce: dtls_aead::nonce_xor(iv, r.number),
+    }
+}
+
+// The number, tested between mask and opening.
+fn judge(w: &mut [u64; WORDS], i: usize, number: u64) -> Reply
+    requires { ⌜ (i < 5) × (isFlat (now w) ≡ true) × Fits (now w) ⌝ }
+    ensures { λ r. ⌜ Stepped (laid r) (now (w .exit)) (now (w .entry)) (judged (entryAt (keysOf (now (w .entry))) i) (datagramOf (now (w .entry))) (askOf (now (w .entry))) number) ⌝ }
+{
+    if 0xFFFF_FFFF_FFFF < number {
+        recv_words::skip(w);
+        return no_reply(2, 8);
+    }
+    let v = recv_words::window_at(w, i);
+    if v.check(number) {
+        let r = open_question(w, i, number);
+        recv_words::ask_opening(w, number);
+        return r;
+    }
+    recv_words::skip(w);
+    no_reply(2, 9)
+}
+
+// The mask of a record of the entry at i.
+fn mask_at(w: &mut [u64; WORDS], i: usize, mask: [u8; 2], d: &mut [u8]) -> Reply
+    requires { ⌜ MaskWaits (now w) × (i < keysOf (now w) .count) × (length (now d) ≡ datagramOf (now w) .size) ⌝ }
+    ensures { λ r. ⌜ Stepped (laid r) (now (w .exit)) (now (w .entry)) (maskedAt (entryAt (keysOf (now (w .entry))) i) (datagramOf (now (w .entry))) (askOf (now (w .entry))) mask (now (d .entry)) .0) × (now (d .exit) ≡ maskedAt (entryAt (keysOf (now (w .entry))) i) (datagramOf (now (w .entry))) (askOf (now (w .entry))) mask (now (d .entry)) .1) ⌝ }
+{
+    let at = w[CURSOR] as usize;
+    let s_flag = w[ASK_FLAG] == 1;
+    let v = recv_words::window_at(w, i);
+    let number = mask_reply::number_at(v, at, s_flag, mask, d);
+    judge(w, i, number)
+}
+
+fn mask_by(w: &mut [u64; WORDS], mask: [u8; 2], d: &mut [u8]) -> Reply
+    requires { ⌜ MaskWaits (now w) × (length (now d) ≡ datagramOf (now w) .size) ⌝ }
+    ensures { λ r. ⌜ Stepped (laid r) (now (w .exit)) (now (w .entry)) (maskedBy (find (entriesOf (now (w .entry))) (askOf (now (w .entry)) .epoch) (keysOf (now (w .entry)) .count)) (keysOf (now (w .entry))) (datagramOf (now (w .entry))) (askOf (now (w .entry))) mask (now (d .entry)) .0) × (now (d .exit) ≡ maskedBy (find (entriesOf (now (w .entry))) (askOf (now (w .entry)) .epoch) (keysOf (now (w .entry)) .count)) (keysOf (now (w .entry))) (datagramOf (now (w .entry))) (askOf (now (w .entry))) mask (now (d .entry)) .1) ⌝ }
+{
+    let count = w[COUNT] as usize;
+    let epoch = words::low(w[ASK_EPOCH]);
+    let f = recv_words::find_epoch(w, count, epoch);
+    match f {
+        Found::Nothing => no_reply(0, 12),
+        Found::At(i) => mask_at(w, i, mask, d),
+    }
+}
+
+fn mask_step(w: &mut [u64; WORDS], mask: [u8; 2], d: &mut [u8]) -> Reply
+    requires { ⌜ isFlat (now w) ≡ true ⌝ }
+    ensures { λ r. ⌜ Stepped (laid r) (now (w .exit)) (now (w .entry)) (maskStep (keysOf (now (w .entry))) (datagramOf (now (w .entry))) mask (now (d .entry)) .0) × (now (d .exit) ≡ maskStep (keysOf (now (w .entry))) (datagramOf (now (w .entry))) mask (now (d .entry)) .1) ⌝ }
+{
+    if recv_words::words_sound(w) {
+        if d.len() == w[SIZE] as usize {
+            if w[QUESTION] == 1 {
+                return mask_by(w, mask, d);
+            }
+            return no_reply(0, 15);
+        }
+        return no_reply(0, 15);
+    }
+    no_reply(0, 12)
+}
+
+fn reply_mask(w: &mut [u64; WORDS], mask_0: u8, mask_1: u8, d: &mut [u8]) -> Reply
+    ensures { λ r. ⌜ MaskCall (laid r) (now (w .exit)) (now (w .entry)) «mask_0» «mask_1» (now (d .exit)) (now (d .entry)) ⌝ }
+{
+    if recv_words::is_flat(w) {
+        return mask_step(w, [mask_0, mask_1], d);
+    }
+    no_reply(0, 12)
+}
+
 // The mask that was asked for; the number bytes are unmasked in the datagram.
 pub fn mask(w: &mut [u64; WORDS], mask_0: u8, mask_1: u8, d: &mut [u8]) -> HuskReading
     ensures { λ r. ⌜ MaskCall r (now (w .exit)) (now (w .entry)) «mask_0» «mask_1» (now (d .exit)) (now (d .entry)) ⌝ }
 {
-    if recv_words::is_flat(w) {
-        let b = recv_words::datagram_of(w);
-        let t = recv_steps::mask_step(w, b, [mask_0, mask_1], d);
-        return settle(w, t);
-    }
-    told(0, 12)
+    lay(reply_mask(w, mask_0, mask_1, d))
 }
 
-// A number marked where the reply to an opening question says so.
-fn mark(w: &mut [u64; WORDS], o: Opened)
-    requires { ⌜ (o .place < 5) × (isFlat (now w) ≡ true) ⌝ }
-    ensures { λ _. ⌜ (keysOf (now (w .exit)) ≡ opens o (keysOf (now (w .entry))) .keys) × (isFlat (now (w .exit)) ≡ true) ⌝ }
+// ---- the reply to an opening question
+
+// An opened record is a reading, or one too many.
+fn count(w: &mut [u64; WORDS], content_type: u8, length: usize) -> HuskReading
+    requires { ⌜ (isFlat (now w) ≡ true) × Fits (now w) ⌝ }
+    ensures { λ r. ⌜ Stepped r (now (w .exit)) (now (w .entry)) (typed (datagramOf (now (w .entry))) (askOf (now (w .entry))) (askNumber (now (w .entry))) (Inner.Found «content_type» length)) ⌝ }
 {
-    let i = o.place;
-    recv_words::sized(w);
-    if o.marks {
-        let v = recv_words::window_at(w, i);
-        recv_words::put_window(w, i, v.update(o.number));
+    let n = w[READINGS] as usize;
+    if 16 <= n {
+        let size = w[SIZE] as usize;
+        recv_words::move_to(w, size, n);
+        return told(1, 3);
     }
+    let a = recv_words::ask_of(w);
+    let number = w[ASK_NUMBER];
+    let start = w[CURSOR] as usize + a.header_len;
+    recv_words::move_to(w, start + a.length, n + 1);
+    shown(5, content_type, a.epoch, number, start, length)
+}
+
+// What an opened record holds.
+fn type_step(w: &mut [u64; WORDS], inner: Inner) -> HuskReading
+    requires { ⌜ (isFlat (now w) ≡ true) × Fits (now w) ⌝ }
+    ensures { λ r. ⌜ Stepped r (now (w .exit)) (now (w .entry)) (typed (datagramOf (now (w .entry))) (askOf (now (w .entry))) (askNumber (now (w .entry))) inner) ⌝ }
+{
+    match inner {
+        Inner::Nothing => {
+            recv_words::skip(w);
+            told(2, 11)
+        }
+        Inner::Found {
+            content_type,
+            length,
+        } => count(w, content_type, length),
+    }
+}
+
+// Yes: the number is marked.
+fn open_yes(w: &mut [u64; WORDS], i: usize, length: usize, d: &[u8]) -> HuskReading
+    requires { ⌜ OpeningWaits (now w) × (i < 5) ⌝ }
+    ensures { λ r. ⌜ Marked-as r (now (w .exit)) (openedAt i (Opening.Yes length) (keysOf (now (w .entry))) (datagramOf (now (w .entry))) (askOf (now (w .entry))) (askNumber (now (w .entry))) (now (d .entry))) ⌝ }
+{
+    let a = recv_words::ask_of(w);
+    if length == a.length - TAG_LEN {
+        let start = w[CURSOR] as usize + a.header_len;
+        let number = w[ASK_NUMBER];
+        recv_words::mark(w, i, number);
+        let inner = incoming::find_inner_content_type(base::fragment(d, start, length));
+        return type_step(w, inner);
+    }
+    told(0, 15)
+}
+
+fn open_at(w: &mut [u64; WORDS], i: usize, opened: u8, length: usize, d: &[u8]) -> HuskReading
+    requires { ⌜ OpeningWaits (now w) × (i < 5) ⌝ }
+    ensures { λ r. ⌜ Marked-as r (now (w .exit)) (openedAt i (openingOf opened length) (keysOf (now (w .entry))) (datagramOf (now (w .entry))) (askOf (now (w .entry))) (askNumber (now (w .entry))) (now (d .entry))) ⌝ }
+{
+    if opened == 1 {
+        return open_yes(w, i, length, d);
+    }
+    recv_words::skip(w);
+    told(2, 10)
+}
+
+fn open_by(w: &mut [u64; WORDS], opened: u8, length: usize, d: &[u8]) -> HuskReading
+    requires { ⌜ OpeningWaits (now w) ⌝ }
+    ensures { λ r. ⌜ Marked-as r (now (w .exit)) (openedBy (find (entriesOf (now (w .entry))) (askOf (now (w .entry)) .epoch) (keysOf (now (w .entry)) .count)) (openingOf opened length) (keysOf (now (w .entry))) (datagramOf (now (w .entry))) (askOf (now (w .entry))) (askNumber (now (w .entry))) (now (d .entry))) ⌝ }
+{
+    let count = w[COUNT] as usize;
+    let epoch = words::low(w[ASK_EPOCH]);
+    let f = recv_words::find_epoch(w, count, epoch);
+    match f {
+        Found::Nothing => told(0, 12),
+        Found::At(i) => open_at(w, i, opened, length, d),
+    }
+}
+
+fn opened_step(w: &mut [u64; WORDS], opened: u8, length: usize, d: &[u8]) -> HuskReading
+    requires { ⌜ isFlat (now w) ≡ true ⌝ }
+    ensures { λ r. ⌜ Marked-as r (now (w .exit)) (openedStep (keysOf (now (w .entry))) (datagramOf (now (w .entry))) (openingOf opened length) (now (d .entry))) ⌝ }
+{
+    if recv_words::words_sound(w) {
+        if d.len() == w[SIZE] as usize {
+            if w[QUESTION] == 2 {
+                return open_by(w, opened, length, d);
+            }
+            return told(0, 15);
+        }
+        return told(0, 15);
+    }
+    told(0, 12)
 }
 
 // Whether the record was opened, 0 or 1; its plaintext, of so many bytes, then stands at the start of the protected part.
@@ -373,11 +594,7 @@ pub fn opened(w: &mut [u64; WORDS], opened: u8, length: usize, d: &[u8]) -> Husk
         return told(0, 12);
     }
     if recv_words::is_flat(w) {
-        let b = recv_words::datagram_of(w);
-        let o = recv_steps::opened_step(w, b, opening_of(opened, length), d);
-        mark(w, o);
-        let t = o.step;
-        return settle(w, t);
+        return opened_step(w, opened, length, d);
     }
     told(0, 12)
 }

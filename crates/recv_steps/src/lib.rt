@@ -1,18 +1,15 @@
-// The cut of a datagram and the replies to its questions, over the words that hold the receive side's state.
+// The cut of a datagram, over the words that hold the receive side's state.
 ghost use mathlib.Core.Path.{_≡_};
 ghost use Prim.Native.Nat.{_+_, _≤_, _<_};
 ghost use lib.ListN.{length};
 ghost use mathlib.Core.Bool.{true};
 ghost use Rattle.datagram.specs.Datagram.{isSound};
-ghost use Rattle.mask_reply.specs.Mask.{maskedBy, maskStep};
-ghost use Rattle.opening_reply.specs.Opening.{openedBy, openedStep, openedAt, cancelled};
+ghost use Rattle.opening_reply.specs.Opening.{cancelled};
 ghost use Rattle.record.specs.Record.{parsed};
 ghost use Rattle.records.specs.Records.{lockedStep, sealedStep, stepOf, askedAgain, asking, readStep};
 ghost use Rattle.recv_keys.specs.Keys.{find, resolve, isFull};
-ghost use Rattle.recv_keys.specs.declared.RecvKeys.{RecvKeys};
 ghost use Rattle.recv_words.specs.Words.{keysOf, datagramOf};
 ghost use Rattle.recv_steps.specs.Goes.{goesOn, Goes};
-ghost use Rattle.recv_steps.specs.Opens.{opens};
 use datagram::Ask;
 use datagram::Datagram;
 use datagram::Question;
@@ -20,24 +17,14 @@ use datagram::Reading;
 use datagram::Reason;
 use datagram::Step;
 use opening_reply::Cancelled;
-use opening_reply::Opening;
 use record::Ciphertext;
 use record::PLAINTEXT_HEADER_LEN;
 use record::Parsed;
-use record::TAG_LEN;
 use recv_keys::Found;
 use recv_words::COUNT;
 use recv_words::ENCRYPTED;
 use recv_words::LEAST;
 use recv_words::WORDS;
-
-// What a reply to an opening question leads to: a step, and whether a number is marked, at which entry.
-pub struct Opened {
-    pub step: Step,
-    pub marks: bool,
-    pub place: usize,
-    pub number: u64,
-}
 
 // ---- the cut, over the words
 
@@ -177,111 +164,6 @@ pub fn wait_step(w: &[u64; WORDS], b: Datagram, d: &[u8]) -> Step
         return datagram::tell(b, Reading::Reply);
     }
     datagram::tell(b, Reading::Setting)
-}
-
-// ---- the replies
-
-fn mask_by(w: &[u64; WORDS], b: Datagram, a: Ask, mask: [u8; 2], d: &mut [u8]) -> Step
-    requires { ⌜ (isSound (keysOf (now w)) b ≡ true) × (b .question ≡ Question.Mask a) × (length (now d) ≡ b .size) ⌝ }
-    ensures { λ r. ⌜ (r ≡ maskedBy (find (keysOf (now (w .entry)) .entries) (a .epoch) (keysOf (now (w .entry)) .count)) (keysOf (now (w .entry))) b a mask (now (d .entry)) .0) × (now (d .exit) ≡ maskedBy (find (keysOf (now (w .entry)) .entries) (a .epoch) (keysOf (now (w .entry)) .count)) (keysOf (now (w .entry))) b a mask (now (d .entry)) .1) ⌝ }
-{
-    let f = recv_words::find_epoch(w, w[COUNT] as usize, a.epoch);
-    match f {
-        Found::Nothing => datagram::tell(b, Reading::Setting),
-        Found::At(i) => mask_reply::mask_at(recv_words::entry_at(w, i), b, a, mask, d),
-    }
-}
-
-// The reply to a mask question.
-pub fn mask_step(w: &[u64; WORDS], b: Datagram, mask: [u8; 2], d: &mut [u8]) -> Step
-    requires { ⌜ b ≡ datagramOf (now w) ⌝ }
-    ensures { λ r. ⌜ (r ≡ maskStep (keysOf (now (w .entry))) b mask (now (d .entry)) .0) × (now (d .exit) ≡ maskStep (keysOf (now (w .entry))) b mask (now (d .entry)) .1) ⌝ }
-{
-    if recv_words::is_sound(w, b) {
-        let size = b.size;
-        if d.len() == size {
-            let q = b.question;
-            return match q {
-                Question::Nothing => datagram::tell(b, Reading::Reply),
-                Question::Mask(a) => mask_by(w, b, a, mask, d),
-                Question::Opening(_, _) => datagram::tell(b, Reading::Reply),
-            };
-        }
-        return datagram::tell(b, Reading::Reply);
-    }
-    datagram::tell(b, Reading::Setting)
-}
-
-// Nothing is marked.
-fn unmarked(t: Step) -> Opened
-    ensures { λ r. ⌜ (r .step ≡ t) × (r .marks ≡ mathlib.Core.Bool.false) × (r .place < 5) ⌝ }
-{
-    Opened {
-        step: t,
-        marks: false,
-        place: 0,
-        number: 0,
-    }
-}
-
-// Yes: the number is to be marked.
-fn open_yes(b: Datagram, a: Ask, number: u64, i: usize, len: usize, d: &[u8]) -> Opened
-    requires { ⌜ (i < 5) × (16 ≤ a .length) × (b .at + a .«header_len» + a .length ≤ 16384) ⌝ }
-    ensures { λ r. ⌜ ((k : RecvKeys) → opens r k ≡ openedAt i (Opening.Yes len) k b a number (now (d .entry))) × (r .place < 5) ⌝ }
-{
-    if len == a.length - TAG_LEN {
-        let start = b.at + a.header_len;
-        let inner = incoming::find_inner_content_type(base::fragment(d, start, len));
-        return Opened {
-            step: opening_reply::type_step(b, a, number, inner),
-            marks: true,
-            place: i,
-            number: number,
-        };
-    }
-    unmarked(datagram::tell(b, Reading::Reply))
-}
-
-fn open_at(b: Datagram, a: Ask, number: u64, i: usize, o: Opening, d: &[u8]) -> Opened
-    requires { ⌜ (i < 5) × (16 ≤ a .length) × (b .at + a .«header_len» + a .length ≤ 16384) ⌝ }
-    ensures { λ r. ⌜ ((k : RecvKeys) → opens r k ≡ openedAt i o k b a number (now (d .entry))) × (r .place < 5) ⌝ }
-{
-    let next = b.at + a.header_len + a.length;
-    match o {
-        Opening::No => unmarked(datagram::pass(b, next, Reason::NotOpened)),
-        Opening::Yes(len) => open_yes(b, a, number, i, len, d),
-    }
-}
-
-fn open_by(w: &[u64; WORDS], b: Datagram, a: Ask, number: u64, o: Opening, d: &[u8]) -> Opened
-    requires { ⌜ (isSound (keysOf (now w)) b ≡ true) × (b .question ≡ Question.Opening a number) ⌝ }
-    ensures { λ r. ⌜ (opens r (keysOf (now (w .entry))) ≡ openedBy (find (keysOf (now (w .entry)) .entries) (a .epoch) (keysOf (now (w .entry)) .count)) o (keysOf (now (w .entry))) b a number (now (d .entry))) × (r .place < 5) ⌝ }
-{
-    let f = recv_words::find_epoch(w, w[COUNT] as usize, a.epoch);
-    match f {
-        Found::Nothing => unmarked(datagram::tell(b, Reading::Setting)),
-        Found::At(i) => open_at(b, a, number, i, o, d),
-    }
-}
-
-// The reply to an opening question.
-pub fn opened_step(w: &[u64; WORDS], b: Datagram, o: Opening, d: &[u8]) -> Opened
-    requires { ⌜ b ≡ datagramOf (now w) ⌝ }
-    ensures { λ r. ⌜ (opens r (keysOf (now (w .entry))) ≡ openedStep (keysOf (now (w .entry))) b o (now (d .entry))) × (r .place < 5) ⌝ }
-{
-    if recv_words::is_sound(w, b) {
-        let size = b.size;
-        if d.len() == size {
-            let q = b.question;
-            return match q {
-                Question::Nothing => unmarked(datagram::tell(b, Reading::Reply)),
-                Question::Mask(_) => unmarked(datagram::tell(b, Reading::Reply)),
-                Question::Opening(a, n) => open_by(w, b, a, n, o, d),
-            };
-        }
-        return unmarked(datagram::tell(b, Reading::Reply));
-    }
-    unmarked(datagram::tell(b, Reading::Setting))
 }
 
 // ---- an epoch more, an epoch less

@@ -1,21 +1,23 @@
 -- What is written reads back, and leaves the rest of the state. Assumes nothing.
 use mathlib.Core.Bool.{Bool, true}
 use mathlib.Core.List.{List}
-use mathlib.Core.Path.{_≡_, refl, ap, _∙_}
+use mathlib.Core.Path.{_≡_, refl, sym, ap, subst, _∙_}
 use Prim.Native.Nat.{ℕ, zero, suc, _≤_, _<_, _%_}
 use native.Mathlib.Omega.{arith}
 use lib.Dec.{leb, eqb}
 use lib.ListN.{length, getD, set, length-set}
 use Rattle.base.specs.Choose.{choose, both, both-left, both-right, both-true}
+use Rattle.datagram.specs.Datagram.{moved, questioned, endAsked}
 use Rattle.datagram.specs.declared.Ask.{Ask}
 use Rattle.datagram.specs.declared.Datagram.{Datagram}
 use Rattle.datagram.specs.declared.Question.the-variants as question
 use Rattle.datagram.specs.declared.Question.{Question}
 use Rattle.recv_keys.specs.Keys.{noEntry, marked}
+use Rattle.recv_keys.specs.declared.RecvEpochEntry.{RecvEpochEntry}
 use Rattle.window.specs.Window.{marking}
 use Rattle.window.specs.declared.ReplayWindow.{ReplayWindow}
 use Rattle.words.specs.Fields.{firstOf, by-words, bitOf, bit-back, low-bit}
-use Rattle.recv_words.specs.Words.{words, encrypted-at, released-at, ask-flag-at, size-at, cursor-at, readings-at, windowAt, entryAt, entriesOf, keysOf, questionOf, datagramOf, isFlat, putQuestion, putDatagram, putWindow}
+use Rattle.recv_words.specs.Words.{words, encrypted-at, released-at, ask-flag-at, ask-number-at, size-at, cursor-at, readings-at, question-at, windowAt, entryAt, entriesOf, keysOf, askOf, askNumber, questionOf, datagramOf, isFlat, putQuestion, putDatagram, putWindow}
 
 -- the entry at i
 pub entry-at : (w : List ℕ) (i : ℕ) → i < 5 → getD (entriesOf w) i noEntry ≡ entryAt w i
@@ -109,19 +111,73 @@ flat-put b w h f = flat-of (b .question) (b .size) (b .at) (b .readings) w h f
 pub length-window : (i : ℕ) (v : ReplayWindow) (w : List ℕ) → length (putWindow i v w) ≡ length w
 length-window i v w = simp length-set
 
-abbrev Marks : ℕ → ℕ → List ℕ → Type 0
-Marks i n w =
-    (keysOf (putWindow i (marking (windowAt w i) n) w) ≡ marked (keysOf w) i n)
-    × (isFlat (putWindow i (marking (windowAt w i) n) w) ≡ isFlat w)
+-- a number marked in the window of the entry at i, and nothing else written
+pub record Marks (i n : ℕ) (w v : List ℕ) : Type 0 where
+  pub keys : keysOf v ≡ marked (keysOf w) i n
+  pub datagram : datagramOf v ≡ datagramOf w
+  pub ask : askOf v ≡ askOf w
+  pub number : askNumber v ≡ askNumber w
+  pub flat : isFlat v ≡ isFlat w
 
-pub mark-put : (i n : ℕ) (w : List ℕ) → i < 5 → length w ≡ words → Marks i n w
-unfolding firstOf entriesOf marked isFlat
-mark-put zero n w l h = by-words words (Marks 0 n) w h (refl, refl)
-mark-put (suc zero) n w l h = by-words words (Marks 1 n) w h (refl, refl)
-mark-put (suc (suc zero)) n w l h = by-words words (Marks 2 n) w h (refl, refl)
-mark-put (suc (suc (suc zero))) n w l h = by-words words (Marks 3 n) w h (refl, refl)
-mark-put (suc (suc (suc (suc zero)))) n w l h = by-words words (Marks 4 n) w h (refl, refl)
+abbrev MarksPut : ℕ → ℕ → List ℕ → Type 0
+MarksPut i n w = Marks i n w (putWindow i (marking (windowAt w i) n) w)
+
+mark-put : (i n : ℕ) (w : List ℕ) → i < 5 → length w ≡ words → MarksPut i n w
+unfolding firstOf entriesOf marked questionOf isFlat
+mark-put zero n w l h = by-words words (MarksPut 0 n) w h (record { keys = refl; datagram = refl; ask = refl; number = refl; flat = refl })
+mark-put (suc zero) n w l h = by-words words (MarksPut 1 n) w h (record { keys = refl; datagram = refl; ask = refl; number = refl; flat = refl })
+mark-put (suc (suc zero)) n w l h = by-words words (MarksPut 2 n) w h (record { keys = refl; datagram = refl; ask = refl; number = refl; flat = refl })
+mark-put (suc (suc (suc zero))) n w l h = by-words words (MarksPut 3 n) w h (record { keys = refl; datagram = refl; ask = refl; number = refl; flat = refl })
+mark-put (suc (suc (suc (suc zero)))) n w l h = by-words words (MarksPut 4 n) w h (record { keys = refl; datagram = refl; ask = refl; number = refl; flat = refl })
 mark-put (suc (suc (suc (suc (suc i))))) n w l h = absurd (omega arith)
+
+pub marks-at : (i n : ℕ) (w : List ℕ) (u v : ReplayWindow) → i < 5 → length w ≡ words → u ≡ getD (entriesOf w) i noEntry .replay → v ≡ marking u n
+    → Marks i n w (putWindow i v w)
+marks-at i n w u v l h p q =
+    subst (λ (x : ReplayWindow). Marks i n w (putWindow i x w))
+    (sym (q ∙ ap (λ (y : ReplayWindow). marking y n) (p ∙ ap (λ (e : RecvEpochEntry). e .replay) (entry-at w i l)))) (mark-put i n w l h)
+
+-- ---- of the datagram only the words that change are written
+
+-- the datagram b in place of w's, and the rest of the state
+pub record Lies (b : Datagram) (w v : List ℕ) : Type 0 where
+  pub keys : keysOf v ≡ keysOf w
+  pub datagram : datagramOf v ≡ b
+  pub flat : isFlat w ≡ true → isFlat v ≡ true
+
+abbrev MovedPut : ℕ → ℕ → List ℕ → Type 0
+MovedPut at r w = Lies (moved (datagramOf w) at r) w (set (set (set w cursor-at at) readings-at r) question-at 0)
+
+pub move-put : (at r : ℕ) (w : List ℕ) → length w ≡ words → MovedPut at r w
+unfolding firstOf entriesOf questionOf choose isFlat
+move-put at r w h =
+    by-words words (MovedPut at r) w h
+    (record {
+      keys = refl;
+      datagram = refl;
+      flat = λ f. let t = flat-rest (firstOf words w) f in flat-by (t .0) (t .1) refl (t .2);
+    })
+
+-- the cursor behind the record of the question
+abbrev pub skipped : List ℕ → Datagram
+skipped w = moved (datagramOf w) (endAsked (datagramOf w) (askOf w)) (datagramOf w .readings)
+
+-- the opening asked for, of the record of the question
+abbrev pub opening : List ℕ → ℕ → Datagram
+opening w n = questioned (datagramOf w) (question.Opening (askOf w) n)
+
+abbrev OpeningPut : ℕ → List ℕ → Type 0
+OpeningPut n w = Lies (opening w n) w (set (set w question-at 2) ask-number-at n)
+
+pub opening-put : (n : ℕ) (w : List ℕ) → length w ≡ words → OpeningPut n w
+unfolding firstOf entriesOf questionOf choose isFlat
+opening-put n w h =
+    by-words words (OpeningPut n) w h
+    (record {
+      keys = refl;
+      datagram = refl;
+      flat = λ f. let t = flat-rest (firstOf words w) f in flat-by (t .0) (t .1) refl (t .2);
+    })
 
 -- ---- the datagram written, all told
 

@@ -119,10 +119,14 @@ keysOf w = record {
 abbrev pub askOf : List ℕ → Ask
 askOf w = record { epoch = getD w ask-epoch-at 0 % 65536; «s_flag» = eqb (getD w ask-flag-at 0) 1; «header_len» = getD w ask-header-at 0; length = getD w ask-length-at 0 }
 
+-- the number of an opening question
+abbrev pub askNumber : List ℕ → ℕ
+askNumber w = getD w ask-number-at 0
+
 unfoldable pub questionOf : List ℕ → Question
 questionOf w =
     choose (eqb (getD w question-at 0) 1) (question.Mask (askOf w))
-    (choose (eqb (getD w question-at 0) 2) (question.Opening (askOf w) (getD w ask-number-at 0)) question.Nothing)
+    (choose (eqb (getD w question-at 0) 2) (question.Opening (askOf w) (askNumber w)) question.Nothing)
 
 abbrev pub datagramOf : List ℕ → Datagram
 datagramOf w = record { size = getD w size-at 0; at = getD w cursor-at 0; readings = getD w readings-at 0; question = questionOf w }

@@ -5,19 +5,20 @@ ghost use Prim.Native.Nat.{_≤_, _<_};
 ghost use lib.Dec.{leb};
 ghost use lib.ListN.{length, getD};
 ghost use Rattle.recv_keys.specs.Keys.{noEntry, lastFit, find, two, resolve, isKeyed, apps, windowsSound, keysSound, installed, leftAt, left};
-ghost use Rattle.datagram.specs.Datagram.{askKeyed, openingSound, questionSound, isSound};
+ghost use Rattle.datagram.specs.Datagram.{askKeyed, questionSound, isSound, moved, endAsked};
 ghost use Rattle.recv_words.specs.Words.{
   words,
   ivAt,
   entriesOf,
   keysOf,
+  askOf,
   questionOf,
   datagramOf,
   isFlat,
   putAsk,
   putWindow,
 };
-ghost use Rattle.recv_words.specs.Laws.{Put};
+ghost use Rattle.recv_words.specs.Laws.{Put, Marks, Lies, skipped, opening};
 ghost use Rattle.recv_words.specs.Entries.{Written, Beside, freshWords};
 use datagram::Ask;
 use datagram::Datagram;
@@ -44,27 +45,27 @@ pub const RELEASED: usize = 18;
 
 pub const LEAST: usize = 19;
 // The begun datagram, and the question that waits.
-const SIZE: usize = 20;
+pub const SIZE: usize = 20;
 
-const CURSOR: usize = 21;
+pub const CURSOR: usize = 21;
 
-const READINGS: usize = 22;
+pub const READINGS: usize = 22;
 
-const QUESTION: usize = 23;
+pub const QUESTION: usize = 23;
 
-const ASK_EPOCH: usize = 24;
+pub const ASK_EPOCH: usize = 24;
 
-const ASK_FLAG: usize = 25;
+pub const ASK_FLAG: usize = 25;
 
 const ASK_HEADER: usize = 26;
 
 const ASK_LENGTH: usize = 27;
 
-const ASK_NUMBER: usize = 28;
+pub const ASK_NUMBER: usize = 28;
 // Five words with the first four bytes of the IVs, five with the other eight.
-const IV_FRONT: usize = 29;
+pub const IV_FRONT: usize = 29;
 
-const IV_BACK: usize = 34;
+pub const IV_BACK: usize = 34;
 
 fn count_of(w: &[u64]) -> usize
     ensures { λ r. ⌜ r ≡ length (now (w .entry)) ⌝ }
@@ -253,71 +254,75 @@ fn keys_sound(w: &[u64; WORDS]) -> bool
     false
 }
 
-fn ask_keyed(w: &[u64; WORDS], a: Ask, room: usize) -> bool
+// Whether the record that a question is about has its place in a room, under an epoch that is keyed.
+fn ask_keyed(w: &[u64; WORDS], room: usize) -> bool
     requires { ⌜ keysOf (now w) .count ≤ 5 ⌝ }
-    ensures { λ r. ⌜ r ≡ askKeyed (keysOf (now (w .entry))) a room ⌝ }
+    ensures { λ r. ⌜ r ≡ askKeyed (keysOf (now (w .entry))) (askOf (now (w .entry))) room ⌝ }
 {
+    let a = ask_of(w);
     if datagram::ask_sound(a, room) {
         return is_keyed(w, a.epoch);
     }
     false
 }
 
-fn opening_sound(w: &[u64; WORDS], a: Ask, number: u64, room: usize) -> bool
+fn question_sound(w: &[u64; WORDS], room: usize) -> bool
     requires { ⌜ keysOf (now w) .count ≤ 5 ⌝ }
-    ensures { λ r. ⌜ r ≡ openingSound (keysOf (now (w .entry))) a number room ⌝ }
+    ensures { λ r. ⌜ r ≡ questionSound (keysOf (now (w .entry))) (questionOf (now (w .entry))) room ⌝ }
 {
-    if 0xFFFF_FFFF_FFFF < number {
-        return false;
+    let kind = w[QUESTION];
+    if kind == 1 {
+        return ask_keyed(w, room);
     }
-    ask_keyed(w, a, room)
+    if kind == 2 {
+        if 0xFFFF_FFFF_FFFF < w[ASK_NUMBER] {
+            return false;
+        }
+        return ask_keyed(w, room);
+    }
+    true
 }
 
-fn question_sound(w: &[u64; WORDS], q: Question, room: usize) -> bool
-    requires { ⌜ keysOf (now w) .count ≤ 5 ⌝ }
-    ensures { λ r. ⌜ r ≡ questionSound (keysOf (now (w .entry))) q room ⌝ }
+// The fields that a call indexes or adds with are in range, as the words have them: each is read where it is tested, so that none is
+// kept over the tests before it.
+pub fn words_sound(w: &[u64; WORDS]) -> bool
+    ensures { λ r. ⌜ r ≡ isSound (keysOf (now (w .entry))) (datagramOf (now (w .entry))) ⌝ }
 {
-    match q {
-        Question::Nothing => true,
-        Question::Mask(a) => ask_keyed(w, a, room),
-        Question::Opening(a, n) => opening_sound(w, a, n, room),
-    }
-}
-
-// The same of keys and a begun datagram.
-fn in_range(w: &[u64; WORDS], b: Datagram) -> bool
-    ensures { λ r. ⌜ r ≡ isSound (keysOf (now (w .entry))) b ⌝ }
-{
-    let size = b.size;
-    let at = b.at;
     if keys_sound(w) {
+        let size = w[SIZE] as usize;
+        let at = w[CURSOR] as usize;
         if 16384 < size {
             return false;
         }
         if size < at {
             return false;
         }
-        if 16 < b.readings {
+        if 16 < w[READINGS] {
             return false;
         }
-        let q = b.question;
-        return question_sound(w, q, size - at);
+        return question_sound(w, size - at);
     }
     false
 }
 
 // ---- the begun datagram
 
-fn question_of(w: &[u64; WORDS]) -> Question
-    ensures { λ r. ⌜ r ≡ questionOf (now (w .entry)) ⌝ }
+pub fn ask_of(w: &[u64; WORDS]) -> Ask
+    ensures { λ r. ⌜ r ≡ askOf (now (w .entry)) ⌝ }
 {
-    let kind = w[QUESTION];
-    let a = Ask {
+    Ask {
         epoch: words::low(w[ASK_EPOCH]),
         s_flag: w[ASK_FLAG] == 1,
         header_len: w[ASK_HEADER] as usize,
         length: w[ASK_LENGTH] as usize,
-    };
+    }
+}
+
+fn question_of(w: &[u64; WORDS]) -> Question
+    ensures { λ r. ⌜ r ≡ questionOf (now (w .entry)) ⌝ }
+{
+    let kind = w[QUESTION];
+    let a = ask_of(w);
     if kind == 1 {
         return Question::Mask(a);
     }
@@ -337,14 +342,6 @@ pub fn datagram_of(w: &[u64; WORDS]) -> Datagram
         readings: w[READINGS] as usize,
         question: q,
     }
-}
-
-// The fields that a call indexes or adds with are in range, as the words have them.
-fn words_sound(w: &[u64; WORDS]) -> bool
-    ensures { λ r. ⌜ r ≡ isSound (keysOf (now (w .entry))) (datagramOf (now (w .entry))) ⌝ }
-{
-    let b = datagram_of(w);
-    in_range(w, b)
 }
 
 // The same of the datagram read off the words; else a call answers 12. The words are tested, so that no caller lends a copy.
@@ -404,6 +401,36 @@ pub fn put_datagram(w: &mut [u64; WORDS], b: Datagram)
     }
 }
 
+// The cursor moved, no question left; the words of the question stay.
+pub fn move_to(w: &mut [u64; WORDS], at: usize, readings: usize)
+    ensures { λ _. ⌜ Lies (moved (datagramOf (now (w .entry))) at readings) (now (w .entry)) (now (w .exit)) ⌝ }
+{
+    sized(w);
+    w[CURSOR] = at as u64;
+    w[READINGS] = readings as u64;
+    w[QUESTION] = 0;
+}
+
+// The cursor behind the record of the question.
+pub fn skip(w: &mut [u64; WORDS])
+    requires { ⌜ endAsked (datagramOf (now w)) (askOf (now w)) ≤ 16384 ⌝ }
+    ensures { λ _. ⌜ Lies (skipped (now (w .entry))) (now (w .entry)) (now (w .exit)) ⌝ }
+{
+    let start = w[CURSOR] as usize + w[ASK_HEADER] as usize;
+    let next = start + w[ASK_LENGTH] as usize;
+    let readings = w[READINGS] as usize;
+    move_to(w, next, readings);
+}
+
+// The opening asked for, under a number, of the record whose mask was asked for.
+pub fn ask_opening(w: &mut [u64; WORDS], number: u64)
+    ensures { λ _. ⌜ Lies (opening (now (w .entry)) number) (now (w .entry)) (now (w .exit)) ⌝ }
+{
+    sized(w);
+    w[QUESTION] = 2;
+    w[ASK_NUMBER] = number;
+}
+
 // The window of the entry at i written.
 pub fn put_window(w: &mut [u64; WORDS], i: usize, v: ReplayWindow)
     requires { ⌜ i < 5 ⌝ }
@@ -413,6 +440,16 @@ pub fn put_window(w: &mut [u64; WORDS], i: usize, v: ReplayWindow)
     let n = MARKS + i;
     w[m] = v.max_seq;
     w[n] = v.window;
+}
+
+// A number marked in the window of the entry at i.
+pub fn mark(w: &mut [u64; WORDS], i: usize, number: u64)
+    requires { ⌜ i < 5 ⌝ }
+    ensures { λ _. ⌜ Marks i number (now (w .entry)) (now (w .exit)) ⌝ }
+{
+    sized(w);
+    let v = window_at(w, i);
+    put_window(w, i, v.update(number));
 }
 
 // ---- entries written

@@ -1,46 +1,51 @@
--- `recv_words::question_sound` meets its contract, by cases on the question. Assumes nothing.
+-- `recv_words::question_sound` meets its contract, by the kind of the question. Assumes nothing.
 use borrow.Author.Needs.{needs}
 use mathlib.Core.Path.{_≡_, refl, sym, ap, _∙_}
-use Rattle.datagram.specs.Datagram.{questionSound}
+use Rattle.base.specs.Choose.{if-true, if-false, both-true, both-false}
+use borrow.Author.Tests.{eq-eqb, ne-eqb, lt-leb, le-leb}
+use Rattle.datagram.specs.Datagram.{openingSound, questionSound}
+use Rattle.datagram.specs.declared.Question.{Question}
+use Rattle.recv_words.specs.Words.{keysOf, questionOf}
 use Rattle.recv_words.proofs.question_sound.Statement.{statement}
 use Rattle.recv_words.proofs.question_sound.Tie as tie
 
-enum-told : tie.Need-enum-told
-enum-told c = search needs
-
-enum-known-q : tie.Need-enum-known-q
-enum-known-q c = search needs
+element-copy-out-kind : tie.Need-element-copy-out-kind
+element-copy-out-kind c = search needs
 
 ask-keyed-requires : tie.Need-ask-keyed-requires
 ask-keyed-requires c κs = search needs
 
-enum-known-q-2 : tie.Need-enum-known-q-2
-enum-known-q-2 c = search needs
-
-opening-sound-requires : tie.Need-opening-sound-requires
-opening-sound-requires c κs = search needs
-
 returns : tie.Need-returns
-unfolding questionSound
-returns c = rw (c .enum-told .given .1)
+unfolding questionSound questionOf
+returns c = c .ask-keyed .ensures ∙ sym (ap (λ (q : Question). questionSound (keysOf (c .before .before .before .args .w .now)) q (c .before .before .before .args .room)) (if-true _ _ (eq-eqb _ _ (c .before .if1 .taken))))
+
+element-copy-out-if3 : tie.Need-element-copy-out-if3
+element-copy-out-if3 c = search needs
 
 returns-2 : tie.Need-returns-2
-unfolding questionSound
-returns-2 c = rw (c .before .before .q .given .1) (c .ask-keyed .ensures)
+unfolding questionSound openingSound questionOf
+returns-2 c = sym (both-false _ (lt-leb _ _ (c .if3 .taken))) ∙ sym (ap (λ (q : Question). questionSound (keysOf (c .before .before .before .before .before .args .w .now)) q (c .before .before .before .before .before .args .room)) (if-false _ _ (ne-eqb _ _ (c .before .before .before .if1 .left)) ∙ if-true _ _ (eq-eqb _ _ (c .before .before .if2 .taken))))
+
+ask-keyed-requires-2 : tie.Need-ask-keyed-requires-2
+ask-keyed-requires-2 c κs = search needs
 
 returns-3 : tie.Need-returns-3
-unfolding questionSound
-returns-3 c = rw (c .before .before .q2 .given .1) (c .opening-sound .ensures)
+unfolding questionSound openingSound questionOf
+returns-3 c = c .ask-keyed2 .ensures ∙ sym (both-true (le-leb _ _ (c .before .if3 .left))) ∙ sym (ap (λ (q : Question). questionSound (keysOf (c .before .before .before .before .before .before .args .w .now)) q (c .before .before .before .before .before .before .args .room)) (if-false _ _ (ne-eqb _ _ (c .before .before .before .before .if1 .left)) ∙ if-true _ _ (eq-eqb _ _ (c .before .before .before .if2 .taken))))
+
+returns-4 : tie.Need-returns-4
+unfolding questionSound questionOf
+returns-4 c = sym (ap (λ (q : Question). questionSound (keysOf (c .before .before .before .args .w .now)) q (c .before .before .before .args .room)) (if-false _ _ (ne-eqb _ _ (c .before .if1 .left)) ∙ if-false _ _ (ne-eqb _ _ (c .if2 .left))))
 
 pub question-sound-spec : {M : Type 1} → statement M
 question-sound-spec =
     tie.close
     (tie.spec
-    enum-told
-    enum-known-q
+    element-copy-out-kind
     ask-keyed-requires
-    enum-known-q-2
-    opening-sound-requires
     returns
+    element-copy-out-if3
     returns-2
-    returns-3)
+    ask-keyed-requires-2
+    returns-3
+    returns-4)
