@@ -43,22 +43,27 @@ use Rattle.hosts_theorem.specs.Log.{flatRead, readingOf, replyOf, Host, 
 
 -- ---- two hosts and a list of calls
 
+-- a host on either side
 abbrev pub Hosts : Type 0
 Hosts = Side → Host
 
+-- a call, and at which of the two
 pub record CCall : Type 0 where
   pub side : Side
   pub act : Act
 
+-- one host in the place of that side
 abbrev pub put : Side → Host → Hosts → Hosts
 put post h hs post = h
 put post h hs gateway = hs gateway
 put gateway h hs post = hs post
 put gateway h hs gateway = h
 
+-- both hosts behind one call
 abbrev pub after : Hosts → CCall → Hosts
 after hs a = put (a .side) (behind (hs (far (a .side))) (hs (a .side)) (a .act)) hs
 
+-- and behind a list of calls
 abbrev pub runs : Hosts → List CCall → Hosts
 runs hs [] = hs
 runs hs (a ∷ cs) = runs (after hs a) cs
@@ -70,6 +75,7 @@ AllMade hs (a ∷ cs) = Made (hs (a .side)) (a .act) × AllMade (after hs a) cs
 
 -- ---- the words stand for the log's state
 
+-- of receiving, and the begun datagram is the log's
 pub record StandsIn (h : Incoming) (i : Inbound) : Type 0 where
   pub flat : isFlat (h .words) ≡ true
   pub state : stateOf (h .words) ≡ i .into .state
@@ -82,13 +88,15 @@ pub record StandsOut (h : Outgoing) (e : End) : Type 0 where
   pub stores : storesOf h ≡ e .out .stores
   pub shown : (old : Option Lent) × (e .out .lent ≡ showsNow (sealingOf (h .words)) (h .queue) old)
 
+-- of both
 pub record Stands (h : Host) : Type 0 where
   pub incoming : StandsIn (h .incoming) (h .seen .into)
   pub outgoing : StandsOut (h .outgoing) (h .seen)
 
--- ---- the start: words made by husk_receiving_init and husk_sending_init, which answered 0, and by husk_flight_init; notes of zeros; lent memory
--- with any first contents, a queue not under its limit times the MTU; nothing in the log but the settings
+-- ---- the start
 
+-- words made by husk_receiving_init and husk_sending_init, which answered 0, and by husk_flight_init; notes of zeros; lent memory
+-- with any first contents, a queue not under its limit times the MTU; nothing in the log but the settings
 pub record Started (s : Setting) (h : Host) : Type 0 where
   pub receiving : receive.FreshCall 0 (h .incoming .words) (s .min)
   pub datagram : h .incoming .datagram ≡ []
@@ -104,6 +112,7 @@ pub record Started (s : Setting) (h : Host) : Type 0 where
 
 -- ---- the events that a call is
 
+-- a receiving call
 abbrev pub callsOf : InCall → List Call
 callsOf («husk_receiving_key» r v epoch iv) = key· epoch iv ∷ []
 callsOf («husk_receiving_remove» r v epoch) = remove· epoch ∷ []
@@ -121,10 +130,12 @@ callsOf («husk_receiving_mask_over» r v m n e d) = maskOver· (receive.masks m
 callsOf («husk_receiving_opened_over» r v o len d) = choose (leb o 1) (openOver· (openingOf o len) d ∷ []) []
 callsOf («host_writes» r p) = write· p ∷ []
 
+-- receiving calls at an end
 abbrev pub hearing : List Call → List Deed
 hearing [] = []
 hearing (c ∷ cs) = receiving c ∷ hearing cs
 
+-- any call
 abbrev pub deedsOf : Act → List Deed
 deedsOf (inward c) = hearing (callsOf c)
 -- only shows
@@ -133,16 +144,19 @@ deedsOf (outward c) = sending (sendOf c) ∷ []
 deedsOf (outwardOver c q k) = over (sendOf c) q k ∷ []
 deedsOf («host_seals» r bytes) = sending (fill· bytes) ∷ []
 
+-- at that side
 abbrev pub at : Side → List Deed → List Event
 at s [] = []
 at s (d ∷ ds) = record { side = s; deed = d } ∷ at s ds
 
+-- a list of calls
 abbrev pub eventsOf : List CCall → List Event
 eventsOf [] = []
 eventsOf (a ∷ cs) = at (a .side) (deedsOf (a .act)) ++ eventsOf cs
 
 -- ---- each answer is the one that the definitions give, never that for words which stand for nothing
 
+-- by the definitions that the contracts cite, over what the words stand for
 abbrev pub AnsweredIn : Incoming → InCall → Type 0
 AnsweredIn h («husk_receiving_key» r v epoch iv) = r ≡ answerOf (keyOf (stateOf (h .words)) epoch iv .answer)
 AnsweredIn h («husk_receiving_remove» r v epoch) = r ≡ answerOf (removeOf (stateOf (h .words)) epoch .answer)
@@ -160,6 +174,7 @@ AnsweredIn h («husk_receiving_opened_over» r v o len d) =
     r ≡ choose (leb o 1) (flatRead (openedOf (stateOf (h .words)) (openingOf o len) d)) (bare 0 12)
 AnsweredIn h («host_writes» r p) = r ≡ flatRead (readOf (stateOf (h .words)) (h .datagram))
 
+-- over what the sending host's memory stands for
 abbrev pub AnsweredOut : Stores → OutCall → Type 0
 AnsweredOut w («husk_sending_key» r v epoch iv) = r ≡ refusal (keyingState (w .state) epoch iv .answer)
 AnsweredOut w («husk_sending_send» r v epoch t c p) =
@@ -180,12 +195,13 @@ AnsweredOut w («husk_flight_ack» r g m c) = r ≡ refusal (acked (w .flight) c
 AnsweredOut w («husk_notes_add» r x y z epoch number) = r ≡ noting.refusal (noting.noted (w .notes) epoch number .answer)
 AnsweredOut w («husk_notes_send» r v x y z p) = r ≡ refusal (noting.sentAck (w .state) (w .notes) (length (w .queue)) .answer)
 
--- the question that husk_sending_sealing shows is the one that the world lends: kind 2 and its fields; no other kind shows one
+-- the question that husk_sending_sealing shows is the one in the log: kind 2 and its fields; no other kind shows one
 abbrev pub Shows : Option Lent → LinkSealing → Type 0
 Shows none r = r .kind ≡ 2 → ⊥
 Shows (some l) r =
     r ≡ record { kind = 2; refusal = 0; epoch = l .epoch; number = l .num; start = l .place; length = l .size; nonce = l .nonce; header = l .header }
 
+-- of any call
 abbrev pub Answered : Host → Act → Type 0
 Answered h (inward c) = AnsweredIn (h .incoming) c
 Answered h («husk_sending_sealing» r) = Shows (h .seen .out .lent) r
@@ -193,6 +209,7 @@ Answered h (outward c) = AnsweredOut (storesOf (h .outgoing)) c
 Answered h (outwardOver c q k) = AnsweredOut (storesOf (lends (h .outgoing) q k)) c
 Answered h («host_seals» r bytes) = Shows (h .seen .out .lent) r
 
+-- of every call in the list, each over the memory that it met
 abbrev pub AllAnswered : Hosts → List CCall → Type 0
 AllAnswered hs [] = Unit {0}
 AllAnswered hs (a ∷ cs) = Answered (hs (a .side)) (a .act) × AllAnswered (after hs a) cs
@@ -233,6 +250,7 @@ Owed h (outwardOver c q k) =
     (replyOf m c ≡ shortReply (sendOf c)) × (behindOut m c .queue ≡ q) × (behindOut m c .kept ≡ k)
 Owed h («host_seals» r bytes) = OwedSealing (oldest (items (h .seen .ledger .queue))) r
 
+-- of every call in the list, each by the account that it met
 abbrev pub AllOwed : Hosts → List CCall → Type 0
 AllOwed hs [] = Unit {0}
 AllOwed hs (a ∷ cs) = Owed (hs (a .side)) (a .act) × AllOwed (after hs a) cs
@@ -240,10 +258,12 @@ AllOwed hs (a ∷ cs) = Owed (hs (a .side)) (a .act) × AllOwed (after hs a) cs
 -- ---- what is asked of the hosts: what the claim asks of each event, by what the hosts saw. Of the two that husk_receiving_begin_read is nothing is
 -- asked, so each is asked before the call
 
+-- f the far end, e the end of the side s
 abbrev pub FairDeeds : (Side → Masks) → Side → End → End → List Deed → Type 0
 FairDeeds masks s f e [] = Unit {0}
 FairDeeds masks s f e (d ∷ ds) = FairDeed masks s f e d × FairDeeds masks s f e ds
 
+-- of every call in the list, each by what the hosts saw until then
 abbrev pub AllFair : (Side → Masks) → Hosts → List CCall → Type 0
 AllFair masks hs [] = Unit {0}
 AllFair masks hs (c ∷ cs) =
