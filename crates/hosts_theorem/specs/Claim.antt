@@ -32,11 +32,11 @@ use Rattle.send_calls.specs.declared.LinkSealing.{LinkSealing}
 use Rattle.flight_calls.specs.Calls as flights
 use Rattle.waiting_laws.specs.Calls.{Stores, fill·}
 use Rattle.history_theorem.specs.Account.{sealedHead, nothing, keyOwed}
-use Rattle.history_theorem.specs.Claim.{Masks, Proper}
+use Rattle.history_theorem.specs.Claim.{Masks, Proper, nonceFor}
 use Rattle.history_theorem.specs.Receiver.{aRead, aMaskReply, anOpenReply, removeOwed, beginOwed, Inbound, Call, key·, remove·, encrypt·, release·, begin·, read·, mask·, write·, open·, readOver·, maskOver·, openOver·}
 use Rattle.ends_theorem.specs.Claim.{Holds}
 use Rattle.ends_theorem.specs.Ledger.{Item, items, oldest, owed, shortReply}
-use Rattle.ends_theorem.specs.Sender.{Lent}
+use Rattle.ends_theorem.specs.Sender.{Lent, sealedHeader}
 use Rattle.ends_theorem.specs.World.{Side, post, gateway, far, End, Deed, sending, over, receiving, Event, World, run, Setting, newEnd, fresh-pair, FairDeed, Honest}
 use Rattle.hosts_theorem.specs.Memory.{Incoming, Outgoing, InCall, «husk_receiving_key», «husk_receiving_remove», «husk_receiving_enable_encryption», «husk_receiving_release_application_data», «husk_receiving_begin», «husk_receiving_begin_read», «husk_receiving_read», «husk_receiving_mask», «husk_receiving_opened», «husk_receiving_read_over», «husk_receiving_mask_over», «husk_receiving_opened_over», «host_writes», OutCall, «husk_sending_key», «husk_sending_send», «husk_sending_sealed», «husk_sending_take», «husk_sending_take_in_place», «husk_flight_begin», «husk_flight_send», «husk_flight_message», «husk_flight_resend», «husk_flight_ack», «husk_notes_add», «husk_notes_send», behindOut, lends}
 use Rattle.hosts_theorem.specs.Log.{flatRead, readingOf, replyOf, Host, Act, inward, «husk_sending_sealing», outward, outwardOver, «host_seals», Made, behind, storesOf, sealingOf, showsNow, sendOf}
@@ -235,20 +235,29 @@ OwedIn i («husk_receiving_opened_over» r v o len d) = (o ≤ 1 → readingOf r
 -- no call
 OwedIn i («host_writes» r p) = Unit {0}
 
--- a sealing is asked exactly while a record waits, for the oldest
-abbrev pub OwedSealing : Option Item → LinkSealing → Type 0
-OwedSealing none r = r .kind ≡ 2 → ⊥
-OwedSealing (some i) r = (r .kind ≡ 2) × (r .epoch ≡ i .epoch) × (r .number ≡ i .num) × (r .length + sealedHead ≡ i .size)
+-- the sealing of a record in the queue: kind 2, the record behind its header, the nonce by the IV that the host keyed its epoch with, 01's header
+pub record SealingOf (ivs : ℕ → List ℕ) (i : Item) (r : LinkSealing) : Type 0 where
+  pub kind : r .kind ≡ 2
+  pub epoch : r .epoch ≡ i .epoch
+  pub number : r .number ≡ i .num
+  pub size : r .length + sealedHead ≡ i .size
+  pub nonce : r .nonce ≡ nonceFor (ivs (i .epoch)) (i .num)
+  pub header : r .header ≡ sealedHeader (i .epoch) (i .num) (r .length)
+
+-- a sealing is asked exactly while a record waits, for the oldest; else kind 1
+abbrev pub OwedSealing : (ℕ → List ℕ) → Option Item → LinkSealing → Type 0
+OwedSealing ivs none r = r ≡ sends.noSealing 1 0
+OwedSealing ivs (some i) r = SealingOf ivs i r
 
 -- a sending call: 01's number and what is told besides; over memory that is too short 12, and no byte of it changes
 abbrev pub Owed : Host → Act → Type 0
 Owed h (inward c) = OwedIn (h .seen .into) c
-Owed h («husk_sending_sealing» r) = OwedSealing (oldest (items (h .seen .ledger .queue))) r
+Owed h («husk_sending_sealing» r) = OwedSealing (h .seen .out .ivs) (oldest (items (h .seen .ledger .queue))) r
 Owed h (outward c) = replyOf (h .outgoing) c ≡ owed (h .seen .ledger) (sendOf c)
 Owed h (outwardOver c q k) =
     let m = lends (h .outgoing) q k in
     (replyOf m c ≡ shortReply (sendOf c)) × (behindOut m c .queue ≡ q) × (behindOut m c .kept ≡ k)
-Owed h («host_seals» r bytes) = OwedSealing (oldest (items (h .seen .ledger .queue))) r
+Owed h («host_seals» r bytes) = OwedSealing (h .seen .out .ivs) (oldest (items (h .seen .ledger .queue))) r
 
 -- of every call in the list, each by the account that it met
 abbrev pub AllOwed : Hosts → List CCall → Type 0
