@@ -1,6 +1,6 @@
 -- Every list of calls of the C library on two hosts: the events of crate ends_theorem that it is, and the claim of what the hosts saw.
 use Prim.Native.Nat.{ℕ, _+_, _*_, _≤_, _<_}
-use lib.Dec.{leb, ltb}
+use lib.Dec.{eqb, leb, ltb}
 use lib.ListN.{length, replicate}
 use mathlib.Core.Bool.{true}
 use mathlib.Core.List.{List, [], _∷_, _++_}
@@ -249,11 +249,31 @@ abbrev pub OwedSealing : (ℕ → List ℕ) → Option Item → LinkSealing → 
 OwedSealing ivs none r = r ≡ sends.noSealing 1 0
 OwedSealing ivs (some i) r = SealingOf ivs i r
 
+-- the kind that a take is answered with, by the datagrams queued and 01's number: 1 where none is queued, 2 where one is taken, 0 where it is refused
+abbrev pub kindOwed : List (List Item) → ℕ → ℕ
+kindOwed [] n = 1
+kindOwed (d ∷ ds) n = choose (eqb n 0) 2 0
+
+-- no other sending call answers with a kind
+abbrev pub OwedKind : List (List Item) → OutCall → Type 0
+OwedKind q («husk_sending_take» r v b c) = r .kind ≡ kindOwed q (r .refusal)
+OwedKind q («husk_sending_take_in_place» r v) = r .kind ≡ kindOwed q (r .refusal)
+OwedKind q («husk_sending_key» r v epoch iv) = Unit {0}
+OwedKind q («husk_sending_send» r v epoch t c p) = Unit {0}
+OwedKind q («husk_sending_sealed» r v len m n p) = Unit {0}
+OwedKind q («husk_flight_begin» r g) = Unit {0}
+OwedKind q («husk_flight_send» r v g m epoch t c p j) = Unit {0}
+OwedKind q («husk_flight_message» r v g m kind body p j) = Unit {0}
+OwedKind q («husk_flight_resend» r v g m p) = Unit {0}
+OwedKind q («husk_flight_ack» r g m c) = Unit {0}
+OwedKind q («husk_notes_add» r x y z epoch number) = Unit {0}
+OwedKind q («husk_notes_send» r v x y z p) = Unit {0}
+
 -- a sending call: 01's number and what is told besides; over memory that is too short 12, and no byte of it changes
 abbrev pub Owed : Host → Act → Type 0
 Owed h (inward c) = OwedIn (h .seen .into) c
 Owed h («husk_sending_sealing» r) = OwedSealing (h .seen .out .ivs) (oldest (items (h .seen .ledger .queue))) r
-Owed h (outward c) = replyOf (h .outgoing) c ≡ owed (h .seen .ledger) (sendOf c)
+Owed h (outward c) = (replyOf (h .outgoing) c ≡ owed (h .seen .ledger) (sendOf c)) × OwedKind (h .seen .ledger .queue) c
 Owed h (outwardOver c q k) =
     let m = lends (h .outgoing) q k in
     (replyOf m c ≡ shortReply (sendOf c)) × (behindOut m c .queue ≡ q) × (behindOut m c .kept ≡ k)
