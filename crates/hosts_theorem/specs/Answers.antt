@@ -44,9 +44,9 @@ use Rattle.sealing.specs.declared.Question as asks
 use Rattle.waiting_laws.specs.Calls.{writtenIn}
 use Rattle.recv_key_steps.specs.Kept.{stateOf}
 use Rattle.recv_calls.specs.Flat.{flatReading}
-use Rattle.recv_calls.specs.declared.LinkReading.{LinkReading}
+use Rattle.recv_calls.specs.declared.HuskReading.{HuskReading}
 use Rattle.send_calls.specs.Calls.{flatSealing}
-use Rattle.send_calls.specs.declared.LinkSealing.{LinkSealing}
+use Rattle.send_calls.specs.declared.HuskSealing.{HuskSealing}
 use Rattle.history_theorem.specs.Receiver.{outOf}
 use Rattle.ends_theorem.specs.World.{givenIn}
 use Rattle.hosts_theorem.specs.Log.{flatRead, reasonIn, readingOf, outBy}
@@ -133,10 +133,10 @@ module _ (k : RecvKeys) (b : Datagram) where
   open-nonce o d = by-test Opened (λ s. by-test Opened (λ t. nonce-openings (b .question) o d) (λ t. refl)) (λ s. refl)
 
 -- an answer entered is what the definition makes: k the reading, d its bytes
-pub entered : (r : LinkReading) (v c : List ℕ) (k : Read) (d : List ℕ) → flatRead k .nonce ≡ k .nonce → r ≡ flatRead k → stateOf v ≡ k .state → c ≡ d → outBy r v c ≡ outOf k d
+pub entered : (r : HuskReading) (v c : List ℕ) (k : Read) (d : List ℕ) → flatRead k .nonce ≡ k .nonce → r ≡ flatRead k → stateOf v ≡ k .state → c ≡ d → outBy r v c ≡ outOf k d
 entered r v c k d n e s b =
     let p : readingOf r ≡ k .reading = ap readingOf e ∙ reading-back (k .reading) (k .nonce) in
-    let q : r .nonce ≡ k .nonce = ap (λ (x : LinkReading). x .nonce) e ∙ n in
+    let q : r .nonce ≡ k .nonce = ap (λ (x : HuskReading). x .nonce) e ∙ n in
     λ i. record { state = s i; datagram = b i; reading = p i; nonce = q i }
 
 -- ---- the protected part
@@ -148,7 +148,7 @@ writesIn (question.Mask a) at d p = d
 writesIn (question.Opening a n) at d p = choose (leb (length p) (a .length)) (splice (at + a .«header_len») p d) d
 
 module _ (k : RecvKeys) (b : Datagram) (d p : List ℕ) where
-  abbrev flat : Step → LinkReading
+  abbrev flat : Step → HuskReading
   flat t = flatReading (t .reading) (t .nonce)
 
   -- an answer of kind 7 names the part that the question lends; and an answer has the nonce of its step
@@ -195,7 +195,7 @@ module _ (k : RecvKeys) (b : Datagram) (d p : List ℕ) where
 -- ---- the part of the queue
 
 module _ (s : Sending) (q bytes : List ℕ) (o : Option (List ℕ)) where
-  abbrev shown : asks.Question → LinkSealing
+  abbrev shown : asks.Question → HuskSealing
   shown k = flatSealing (k .question) (k .nonce) (k .header)
 
   -- an answer of kind 2 names the part that the host writes and gives

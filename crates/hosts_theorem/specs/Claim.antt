@@ -28,7 +28,7 @@ use Rattle.flight_words.specs.Words.{flatTo}
 use Rattle.recv_calls.specs.Flat.{answerOf, bare, openingOf}
 use Rattle.recv_calls.specs.Calls as receive
 use Rattle.send_calls.specs.Calls as sends
-use Rattle.send_calls.specs.declared.LinkSealing.{LinkSealing}
+use Rattle.send_calls.specs.declared.HuskSealing.{HuskSealing}
 use Rattle.flight_calls.specs.Calls as flights
 use Rattle.waiting_laws.specs.Calls.{Stores, fill·}
 use Rattle.history_theorem.specs.Account.{sealedHead, nothing, keyOwed}
@@ -196,7 +196,7 @@ AnsweredOut w («husk_notes_add» r x y z epoch number) = r ≡ noting.refusal (
 AnsweredOut w («husk_notes_send» r v x y z p) = r ≡ refusal (noting.sentAck (w .state) (w .notes) (length (w .queue)) .answer)
 
 -- the question that husk_sending_sealing shows is the one in the log: kind 2 and its fields; no other kind shows one
-abbrev pub Shows : Option Lent → LinkSealing → Type 0
+abbrev pub Shows : Option Lent → HuskSealing → Type 0
 Shows none r = r .kind ≡ 2 → ⊥
 Shows (some l) r =
     r ≡ record { kind = 2; refusal = 0; epoch = l .epoch; number = l .num; start = l .place; length = l .size; nonce = l .nonce; header = l .header }
@@ -236,7 +236,7 @@ OwedIn i («husk_receiving_opened_over» r v o len d) = (o ≤ 1 → readingOf r
 OwedIn i («host_writes» r p) = Unit {0}
 
 -- the sealing of a record in the queue: kind 2, the record behind its header, the nonce by the IV that the host keyed its epoch with, 01's header
-pub record SealingOf (ivs : ℕ → List ℕ) (i : Item) (r : LinkSealing) : Type 0 where
+pub record SealingOf (ivs : ℕ → List ℕ) (i : Item) (r : HuskSealing) : Type 0 where
   pub kind : r .kind ≡ 2
   pub epoch : r .epoch ≡ i .epoch
   pub number : r .number ≡ i .num
@@ -245,7 +245,7 @@ pub record SealingOf (ivs : ℕ → List ℕ) (i : Item) (r : LinkSealing) : Typ
   pub header : r .header ≡ sealedHeader (i .epoch) (i .num) (r .length)
 
 -- a sealing is asked exactly while a record waits, for the oldest; else kind 1
-abbrev pub OwedSealing : (ℕ → List ℕ) → Option Item → LinkSealing → Type 0
+abbrev pub OwedSealing : (ℕ → List ℕ) → Option Item → HuskSealing → Type 0
 OwedSealing ivs none r = r ≡ sends.noSealing 1 0
 OwedSealing ivs (some i) r = SealingOf ivs i r
 

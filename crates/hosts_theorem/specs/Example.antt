@@ -37,10 +37,10 @@ use Rattle.recv_words.specs.Entries.{freshWords}
 use Rattle.recv_calls.specs.Calls as recv-calls
 use Rattle.recv_calls.specs.Flat as recv-flat
 use Rattle.recv_calls.specs.Flat.{shown, asked}
-use Rattle.recv_calls.specs.declared.LinkReading.{LinkReading}
+use Rattle.recv_calls.specs.declared.HuskReading.{HuskReading}
 use Rattle.send_words.specs.Words as send-words
 use Rattle.send_calls.specs.Calls.{noTake}
-use Rattle.send_calls.specs.declared.LinkSealing.{LinkSealing}
+use Rattle.send_calls.specs.declared.HuskSealing.{HuskSealing}
 use Rattle.history_theorem.specs.Account as history-account
 use Rattle.history_theorem.specs.Claim.{Masks}
 use Rattle.history_theorem.specs.Example.{yes-fair}
@@ -126,10 +126,10 @@ wire = 46 ∷ 1 ∷ 2 ∷ 0 ∷ 18 ∷ cipher
 abbrev alone : List ℕ → List ℕ
 alone d = d ++ replicate 553 0
 
-abbrev sealAsked : LinkSealing
+abbrev sealAsked : HuskSealing
 sealAsked = record { kind = 2; refusal = 0; epoch = 2; number = 0; start = 5; length = 18; nonce = iv; header = header }
 
-abbrev openAsked : LinkReading
+abbrev openAsked : HuskReading
 openAsked = asked 2 0 0 5 18 iv
 
 abbrev by : Side → Act → CCall

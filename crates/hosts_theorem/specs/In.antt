@@ -19,7 +19,7 @@ use Rattle.recv_words.specs.Words.{isFlat}
 use Rattle.recv_key_steps.specs.Kept.{stateOf}
 use Rattle.recv_calls.specs.Flat.{bare, openingOf}
 use Rattle.recv_calls.specs.Calls as receive
-use Rattle.recv_calls.specs.declared.LinkReading.{LinkReading}
+use Rattle.recv_calls.specs.declared.HuskReading.{HuskReading}
 use Rattle.history_theorem.specs.Account.{Shown, keyOwed, keys}
 use Rattle.history_theorem.specs.Calls.{begin-told}
 use Rattle.history_theorem.specs.Receiver.{Sealed, Trial, Receiver, Out, withState, flagged, removedFrom, removed, removeOwed, begun, startsOn, beginOwed, begins, writtenIn, maskBy, openBy, readOut, maskOut, openOut, afterRead, afterMask, afterOpen, useOf, fateOf, unused, logs, strays, Inbound, takes, tells, Call, begin·, read·, mask·, write·, open·, openOver·, does}
@@ -106,13 +106,13 @@ module _ (h : Incoming) (i : Inbound) (a : StandsIn h i) where
 
   -- ---- calls that read
 
-  read-out : (r : LinkReading) (v d : List ℕ) → receive.ReadCall r v w d → outBy r v d ≡ readOut (y .state) d
+  read-out : (r : HuskReading) (v d : List ℕ) → receive.ReadCall r v w d → outBy r v d ≡ readOut (y .state) d
   read-out r v d m =
       entered r v d (readOf (y .state) d) d (read-names (y .state .keys) (y .state .datagram) d [] .0)
       (m .0 ∙ if-true _ _ (a .flat) ∙ ap (λ (s : Receiving). flatRead (readOf s d)) (a .state))
       (m .1 ∙ if-true _ _ (a .flat) ∙ ap (λ (s : Receiving). readOf s d .state) (a .state)) refl
 
-  mask-out : (r : LinkReading) (v : List ℕ) (n₀ n₁ : ℕ) (e d : List ℕ) → receive.MaskCall r v w n₀ n₁ e d → outBy r v e ≡ maskOut (y .state) (receive.masks n₀ n₁) d
+  mask-out : (r : HuskReading) (v : List ℕ) (n₀ n₁ : ℕ) (e d : List ℕ) → receive.MaskCall r v w n₀ n₁ e d → outBy r v e ≡ maskOut (y .state) (receive.masks n₀ n₁) d
   mask-out r v n₀ n₁ e d m =
       let k = receive.masks n₀ n₁ in
       entered r v e (maskOf (y .state) k d .0) (maskOf (y .state) k d .1) (mask-nonce (y .state .keys) (y .state .datagram) k d)
@@ -120,7 +120,7 @@ module _ (h : Incoming) (i : Inbound) (a : StandsIn h i) where
       (m .0 .1 ∙ if-true _ _ (a .flat) ∙ ap (λ (s : Receiving). maskOf s k d .0 .state) (a .state))
       (m .1 ∙ if-true _ _ (a .flat) ∙ ap (λ (s : Receiving). maskOf s k d .1) (a .state))
 
-  open-out : (r : LinkReading) (v : List ℕ) (o len : ℕ) (d : List ℕ) → receive.OpenedCall r v w o len d → leb o 1 ≡ true → outBy r v d ≡ openOut (y .state) (openingOf o len) d
+  open-out : (r : HuskReading) (v : List ℕ) (o len : ℕ) (d : List ℕ) → receive.OpenedCall r v w o len d → leb o 1 ≡ true → outBy r v d ≡ openOut (y .state) (openingOf o len) d
   open-out r v o len d m t =
       let k = openingOf o len in
       entered r v d (openedOf (y .state) k d) d (open-nonce (y .state .keys) (y .state .datagram) k d)
@@ -131,11 +131,11 @@ module _ (h : Incoming) (i : Inbound) (a : StandsIn h i) where
   at-own : {A : Type 0} (f : List ℕ → A) → f (h .datagram) ≡ f (y .datagram)
   at-own f = ap f (a .datagram)
 
-  read-square : (sealed : ℕ → List Sealed) (r : LinkReading) (v : List ℕ) → receive.ReadCall r v w (h .datagram) → reads sealed i (outBy r v (y .datagram)) ≡ does sealed i read·
+  read-square : (sealed : ℕ → List Sealed) (r : HuskReading) (v : List ℕ) → receive.ReadCall r v w (h .datagram) → reads sealed i (outBy r v (y .datagram)) ≡ does sealed i read·
   unfolding afterRead
   read-square sealed r v m = ap (reads sealed i) (sym (at-own (outBy r v)) ∙ read-out r v (h .datagram) m ∙ at-own (readOut (y .state)))
 
-  mask-square : (sealed : ℕ → List Sealed) (r : LinkReading) (v : List ℕ) (n₀ n₁ : ℕ) (e : List ℕ) → receive.MaskCall r v w n₀ n₁ e (h .datagram)
+  mask-square : (sealed : ℕ → List Sealed) (r : HuskReading) (v : List ℕ) (n₀ n₁ : ℕ) (e : List ℕ) → receive.MaskCall r v w n₀ n₁ e (h .datagram)
       → logs i (maskBy y (outBy r v e)) (i .serial) unused ≡ does sealed i (mask· (receive.masks n₀ n₁))
   unfolding afterMask
   mask-square sealed r v n₀ n₁ e m =
@@ -144,14 +144,14 @@ module _ (h : Incoming) (i : Inbound) (a : StandsIn h i) where
   abbrev opensTo : Opening → Out → Inbound
   opensTo p o = logs i (openBy y p o) (i .serial) (useOf (y .account .waits) p (fateOf (o .reading)))
 
-  open-square : (sealed : ℕ → List Sealed) (r : LinkReading) (v : List ℕ) (o len : ℕ) → receive.OpenedCall r v w o len (h .datagram) → leb o 1 ≡ true
+  open-square : (sealed : ℕ → List Sealed) (r : HuskReading) (v : List ℕ) (o len : ℕ) → receive.OpenedCall r v w o len (h .datagram) → leb o 1 ≡ true
       → opensTo (openingOf o len) (outBy r v (y .datagram)) ≡ does sealed i (open· (openingOf o len))
   unfolding afterOpen
   open-square sealed r v o len m t =
       ap (opensTo (openingOf o len)) (sym (at-own (outBy r v)) ∙ open-out r v o len (h .datagram) m t ∙ at-own (openOut (y .state) (openingOf o len)))
 
   -- a reply neither 0 nor 1 changes nothing
-  no-open : (r : LinkReading) (v : List ℕ) (o len : ℕ) (d : List ℕ) → receive.OpenedCall r v w o len d → leb o 1 ≡ false → rewords i v ≡ i
+  no-open : (r : HuskReading) (v : List ℕ) (o len : ℕ) (d : List ℕ) → receive.OpenedCall r v w o len d → leb o 1 ≡ false → rewords i v ≡ i
   no-open r v o len d m t = ap (λ (s : Receiving). takes i (withState y s (y .account))) (m .1 ∙ if-false _ _ (both-false _ t) ∙ a .state)
 
   -- ---- the host writes: where the words ask an opening, the log's question lends the same part
@@ -169,17 +169,17 @@ module _ (h : Incoming) (i : Inbound) (a : StandsIn h i) where
           ∙ ap (λ (x : ℕ). choose (leb (length p) x) (splice (y .state .datagram .at + length (u .2 .0)) p (y .datagram)) (y .datagram)) (sym (u .2 .4))
           ∙ sym (ap (λ (x : Shown). writtenIn x (y .datagram) p) (u .2 .2))
 
-  read-answer : (r : LinkReading) (v : List ℕ) → receive.ReadCall r v w (h .datagram) → r ≡ flatRead (readOf (y .state) (y .datagram))
+  read-answer : (r : HuskReading) (v : List ℕ) → receive.ReadCall r v w (h .datagram) → r ≡ flatRead (readOf (y .state) (y .datagram))
   read-answer r v m =
       m .0 ∙ if-true _ _ (a .flat) ∙ ap (λ (s : Receiving). flatRead (readOf s (h .datagram))) (a .state) ∙ at-own (λ (d : List ℕ). flatRead (readOf (y .state) d))
 
-  write-square : (sealed : ℕ → List Sealed) → Sound y → (r : LinkReading) (p : List ℕ) → MadeIn h («host_writes» r p)
+  write-square : (sealed : ℕ → List Sealed) → Sound y → (r : HuskReading) (p : List ℕ) → MadeIn h («host_writes» r p)
       → takes i (withBytes y (splice (r .start + r .«header_len») p (y .datagram))) ≡ does sealed i (write· p)
   write-square sealed o r p m =
       let e = read-answer r (m .0 .0) (m .0 .1) in
       ap (λ (d : List ℕ). takes i (withBytes y d))
-      (ap (λ (x : LinkReading). splice (x .start + x .«header_len») p (y .datagram)) e
-      ∙ read-names (y .state .keys) (y .state .datagram) (y .datagram) p .1 (subst (λ (x : LinkReading). x .kind ≡ 7) e (m .1)) (subst (λ (x : LinkReading). length p ≤ x .length) e (m .2))
+      (ap (λ (x : HuskReading). splice (x .start + x .«header_len») p (y .datagram)) e
+      ∙ read-names (y .state .keys) (y .state .datagram) (y .datagram) p .1 (subst (λ (x : HuskReading). x .kind ≡ 7) e (m .1)) (subst (λ (x : HuskReading). length p ≤ x .length) e (m .2))
       ∙ writes-same o p (y .state .datagram .question) refl)
 
   -- ---- a beginning, and behind it the first record read
@@ -188,7 +188,7 @@ module _ (h : Incoming) (i : Inbound) (a : StandsIn h i) where
   with-keys : (sealed : ℕ → List Sealed) (d : List ℕ) (o : Out) (s : Receiving) → s .keys ≡ y .state .keys → reads sealed (accepted i (y .state) 0 d) o ≡ reads sealed (accepted i s 0 d) o
   with-keys sealed d o s e = ap (λ (k : RecvKeys). reads sealed (accepted i (record { keys = k; datagram = s .datagram }) 0 d) o) (sym e)
 
-  first-square : (sealed : ℕ → List Sealed) → Sound y → (r : LinkReading) (v d : List ℕ) → receive.BeginReadCall r v w d → ltb 16384 (length d) ≡ false
+  first-square : (sealed : ℕ → List Sealed) → Sound y → (r : HuskReading) (v d : List ℕ) → receive.BeginReadCall r v w d → ltb 16384 (length d) ≡ false
       → reads sealed (accepted i (y .state) 0 d) (outBy r v d) ≡ does sealed (begins i d) read·
   unfolding receive.firstReading receive.firstState afterRead beginOwed
   first-square sealed o r v d m t =
@@ -203,14 +203,14 @@ module _ (h : Incoming) (i : Inbound) (a : StandsIn h i) where
       ∙ ap (λ (j : Inbound). does sealed j read·) (begins-fits i d 0 z t)
 
   -- refused: nothing is read
-  pub long-answer : Sound y → (r : LinkReading) (v d : List ℕ) → receive.BeginReadCall r v w d → ltb 16384 (length d) ≡ true → r ≡ bare 0 1
+  pub long-answer : Sound y → (r : HuskReading) (v d : List ℕ) → receive.BeginReadCall r v w d → ltb 16384 (length d) ≡ true → r ≡ bare 0 1
   unfolding receive.firstReading beginOwed
   long-answer o r v d m t =
       let z : answerNumber (beginOf (y .state) (length d) .answer) ≡ 1 = begin-told y o d ∙ if-true _ _ t in
       m .0 ∙ if-true _ _ (a .flat) ∙ ap (λ (x : Receiving). receive.firstReading (beginOf x (length d)) d) (a .state)
       ∙ if-false _ _ (ap (λ (n : ℕ). eqb n 0) z) ∙ ap (bare 0) z
 
-  long-square : Sound y → (r : LinkReading) (v d : List ℕ) → receive.BeginReadCall r v w d → ltb 16384 (length d) ≡ true
+  long-square : Sound y → (r : HuskReading) (v d : List ℕ) → receive.BeginReadCall r v w d → ltb 16384 (length d) ≡ true
       → refused i (stateOf v) (r .refusal) d ≡ begins i d
   unfolding receive.firstState beginOwed
   long-square o r v d m t =
@@ -218,7 +218,7 @@ module _ (h : Incoming) (i : Inbound) (a : StandsIn h i) where
       ap (λ (s : Receiving). refused i s (r .refusal) d)
       (m .1 ∙ if-true _ _ (a .flat) ∙ ap (λ (x : Receiving). receive.firstState (beginOf x (length d)) d) (a .state)
       ∙ if-false _ _ (ap (λ (n : ℕ). eqb n 0) z))
-      ∙ begins-long i d (r .refusal) (ap (λ (x : LinkReading). x .refusal) (long-answer o r v d m t) ∙ sym z) t
+      ∙ begins-long i d (r .refusal) (ap (λ (x : HuskReading). x .refusal) (long-answer o r v d m t) ∙ sym z) t
 
   -- ---- every receiving call
 
@@ -292,7 +292,7 @@ module _ (h : Incoming) (i : Inbound) (a : StandsIn h i) where
 
   -- ---- the answers
 
-  pub opened-answer : (r : LinkReading) (v : List ℕ) (o len : ℕ) (d : List ℕ) → receive.OpenedCall r v w o len d
+  pub opened-answer : (r : HuskReading) (v : List ℕ) (o len : ℕ) (d : List ℕ) → receive.OpenedCall r v w o len d
       → r ≡ choose (leb o 1) (flatRead (openedOf (stateOf w) (openingOf o len) d)) (bare 0 12)
   opened-answer r v o len d m =
       test-cases (leb o 1) (λ t. m .0 ∙ if-true _ _ (both-true t ∙ a .flat) ∙ sym (if-true _ _ t)) (λ t. m .0 ∙ if-false _ _ (both-false _ t) ∙ sym (if-false _ _ t))

@@ -19,12 +19,12 @@ use Rattle.receiving.specs.declared.Receiving.{Receiving}
 use Rattle.sealing.specs.Sealing.{questionOf}
 use Rattle.recv_key_steps.specs.Kept.{stateOf}
 use Rattle.recv_calls.specs.Flat.{flatReading, openingOf}
-use Rattle.recv_calls.specs.declared.LinkReading.{LinkReading}
+use Rattle.recv_calls.specs.declared.HuskReading.{HuskReading}
 use Rattle.send_words.specs.Words as sendWords
 use Rattle.send_calls.specs.Calls as sends
-use Rattle.send_calls.specs.declared.LinkSealing.{LinkSealing}
-use Rattle.send_calls.specs.declared.LinkTake.{LinkTake}
-use Rattle.send_calls.specs.declared.LinkPart.{LinkPart}
+use Rattle.send_calls.specs.declared.HuskSealing.{HuskSealing}
+use Rattle.send_calls.specs.declared.HuskTake.{HuskTake}
+use Rattle.send_calls.specs.declared.HuskPart.{HuskPart}
 use Rattle.flight_words.specs.Words.{flightOf}
 use Rattle.ack_calls.specs.Calls as acks
 use Rattle.waiting_laws.specs.Calls.{Stores, SendCall, keySend·, send·, save·, message·, beginFlight·, resend·, note·, sendAck·, ack·, fill·, sealed·, take·, Reply, only}
@@ -38,7 +38,7 @@ use Rattle.hosts_theorem.specs.Memory.{Incoming, Outgoing, InCall, «hus
 -- ---- what an answer of a reading call says
 
 -- a reading as the library answers it
-abbrev pub flatRead : Read → LinkReading
+abbrev pub flatRead : Read → HuskReading
 flatRead k = flatReading (k .reading) (k .nonce)
 
 -- 01's numbers of the refusals that drop one record
@@ -51,7 +51,7 @@ reasonIn n =
     (choose (eqb n 8) reason.TooHigh (choose (eqb n 9) reason.Replayed (choose (eqb n 10) reason.NotOpened reason.NoContentType))))))
 
 -- by its kind, as the header lists them: refused, the datagram's end, a record dropped, plaintext, unopened, opened; a mask or an opening asked
-unfoldable pub readingOf : LinkReading → Reading
+unfoldable pub readingOf : HuskReading → Reading
 readingOf r =
     choose (eqb (r .kind) 0) (choose (eqb (r .refusal) 12) says.Setting says.Reply)
     (choose (eqb (r .kind) 1) (choose (eqb (r .refusal) 2) says.Incomplete (choose (eqb (r .refusal) 3) says.TooMany says.End))
@@ -63,7 +63,7 @@ readingOf r =
     (says.Opening (r .epoch) (r .number) (r .start) (r .«header_len») (r .length))))))))
 
 -- a reading call: the answer, the state that the words behind it stand for, the datagram's bytes behind it
-abbrev pub outBy : LinkReading → List ℕ → List ℕ → Out
+abbrev pub outBy : HuskReading → List ℕ → List ℕ → Out
 outBy r v d = record { state = stateOf v; datagram = d; reading = readingOf r; nonce = r .nonce }
 
 -- ---- the log of a receiving host
@@ -191,11 +191,11 @@ replyOf h («husk_notes_add» r x y z epoch number) = record { number = r; told 
 replyOf h («husk_notes_send» r v x y z p) = record { number = r; told = counts (h .count) x }
 
 -- what husk_sending_sealing answers over these words
-abbrev pub sealingOf : List ℕ → LinkSealing
+abbrev pub sealingOf : List ℕ → HuskSealing
 sealingOf w = sends.Seals w (questionOf (sendWords.stateOf w))
 
 -- kind 2 shows a question; the bytes first shown stay with one that is shown again
-abbrev pub showsNow : LinkSealing → List ℕ → Option Lent → Option Lent
+abbrev pub showsNow : HuskSealing → List ℕ → Option Lent → Option Lent
 showsNow r q old =
     choose (eqb (r .kind) 2)
     (some (record {
@@ -231,11 +231,11 @@ finishesNow r (some l) before behind b =
     choose (eqb r 0) (record { sent = b .sent; lines = finish (l .epoch) (l .num) (sealedAs l before behind .wire) (b .lines) }) b
 
 -- kind 2: a datagram, at the start of the buffer
-abbrev pub takesOne : LinkTake → List ℕ → List (List ℕ) → List (List ℕ)
+abbrev pub takesOne : HuskTake → List ℕ → List (List ℕ) → List (List ℕ)
 takesOne r c ts = choose (eqb (r .kind) 2) (ts ++ (part 0 (r .length) c ∷ [])) ts
 
 -- or where it lies in the queue
-abbrev pub takesPart : LinkPart → List ℕ → List (List ℕ) → List (List ℕ)
+abbrev pub takesPart : HuskPart → List ℕ → List (List ℕ) → List (List ℕ)
 takesPart r q ts = choose (eqb (r .kind) 2) (ts ++ (part (r .start) (r .length) q ∷ [])) ts
 
 -- a take: the answer, and the buffer before and behind it
@@ -368,11 +368,11 @@ countsTo e («host_writes» r p) = e .counts
 -- a call at a host: receiving; sending over the host's own memory; sending over another queue q and other memory k for saved contents
 pub data Act : Type 0 where
   inward : InCall → Act
-  «husk_sending_sealing» : (r : LinkSealing) → Act
+  «husk_sending_sealing» : (r : HuskSealing) → Act
   outward : OutCall → Act
   outwardOver : (c : OutCall) (q k : List ℕ) → Act
   -- no call: r is what husk_sending_sealing answers, and the host writes as many bytes as it names into the part of the queue that it names
-  «host_seals» : (r : LinkSealing) (bytes : List ℕ) → Act
+  «host_seals» : (r : HuskSealing) (bytes : List ℕ) → Act
 
 -- it was made: its own contract, over the host's memory
 abbrev pub Made : Host → Act → Type 0
@@ -383,7 +383,7 @@ Made h (outwardOver c q k) = MadeOut (lends (h .outgoing) q k) c
 Made h («host_seals» r bytes) = sends.SealingCall r (h .outgoing .words) × (r .kind ≡ 2) × (length bytes ≡ r .length)
 
 -- the queue behind the host's writing
-abbrev pub sealedIn : Outgoing → LinkSealing → List ℕ → Outgoing
+abbrev pub sealedIn : Outgoing → HuskSealing → List ℕ → Outgoing
 sealedIn h r bytes = queues h (h .words) (splice (r .start) bytes (h .queue))
 
 -- what was done over other memory: the host's own queue and saved contents stay

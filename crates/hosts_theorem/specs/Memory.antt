@@ -8,10 +8,10 @@ use mathlib.Core.Path.{_≡_}
 use Rattle.base.specs.Choose.{choose}
 use Rattle.base.specs.Parts.{splice}
 use Rattle.recv_calls.specs.Calls as receive
-use Rattle.recv_calls.specs.declared.LinkReading.{LinkReading}
+use Rattle.recv_calls.specs.declared.HuskReading.{HuskReading}
 use Rattle.send_calls.specs.Calls as sends
-use Rattle.send_calls.specs.declared.LinkTake.{LinkTake}
-use Rattle.send_calls.specs.declared.LinkPart.{LinkPart}
+use Rattle.send_calls.specs.declared.HuskTake.{HuskTake}
+use Rattle.send_calls.specs.declared.HuskPart.{HuskPart}
 use Rattle.flight_calls.specs.Calls as flights
 use Rattle.ack_calls.specs.Calls as acks
 
@@ -42,18 +42,18 @@ pub data InCall : Type 0 where
   «husk_receiving_release_application_data» : (r : ℕ) (v : List ℕ) → InCall
   -- of a datagram d that arrived
   «husk_receiving_begin» : (r : ℕ) (v : List ℕ) (d : List ℕ) → InCall
-  «husk_receiving_begin_read» : (r : LinkReading) (v : List ℕ) (d : List ℕ) → InCall
+  «husk_receiving_begin_read» : (r : HuskReading) (v : List ℕ) (d : List ℕ) → InCall
   -- over the begun datagram; e is its bytes behind a mask
-  «husk_receiving_read» : (r : LinkReading) (v : List ℕ) → InCall
-  «husk_receiving_mask» : (r : LinkReading) (v : List ℕ) (m n : ℕ) (e : List ℕ) → InCall
-  «husk_receiving_opened» : (r : LinkReading) (v : List ℕ) (o len : ℕ) → InCall
+  «husk_receiving_read» : (r : HuskReading) (v : List ℕ) → InCall
+  «husk_receiving_mask» : (r : HuskReading) (v : List ℕ) (m n : ℕ) (e : List ℕ) → InCall
+  «husk_receiving_opened» : (r : HuskReading) (v : List ℕ) (o len : ℕ) → InCall
   -- the same over other bytes d
-  «husk_receiving_read_over» : (r : LinkReading) (v : List ℕ) (d : List ℕ) → InCall
-  «husk_receiving_mask_over» : (r : LinkReading) (v : List ℕ) (m n : ℕ) (e : List ℕ) (d : List ℕ) → InCall
-  «husk_receiving_opened_over» : (r : LinkReading) (v : List ℕ) (o len : ℕ) (d : List ℕ) → InCall
+  «husk_receiving_read_over» : (r : HuskReading) (v : List ℕ) (d : List ℕ) → InCall
+  «husk_receiving_mask_over» : (r : HuskReading) (v : List ℕ) (m n : ℕ) (e : List ℕ) (d : List ℕ) → InCall
+  «husk_receiving_opened_over» : (r : HuskReading) (v : List ℕ) (o len : ℕ) (d : List ℕ) → InCall
   -- no call: r is what husk_receiving_read answers, an opening question (kind 7), and the host writes bytes p at the start of the protected part that
   -- it names, and not beyond its end
-  «host_writes» : (r : LinkReading) (p : List ℕ) → InCall
+  «host_writes» : (r : HuskReading) (p : List ℕ) → InCall
 
 -- a call was made: its own contract, over the host's memory
 abbrev pub MadeIn : Incoming → InCall → Type 0
@@ -99,8 +99,8 @@ pub data OutCall : Type 0 where
   «husk_sending_send» : (r : ℕ) (v : List ℕ) (epoch t : ℕ) (c p : List ℕ) → OutCall
   «husk_sending_sealed» : (r : ℕ) (v : List ℕ) (len m n : ℕ) (p : List ℕ) → OutCall
   -- b the buffer before, c behind
-  «husk_sending_take» : (r : LinkTake) (v : List ℕ) (b c : List ℕ) → OutCall
-  «husk_sending_take_in_place» : (r : LinkPart) (v : List ℕ) → OutCall
+  «husk_sending_take» : (r : HuskTake) (v : List ℕ) (b c : List ℕ) → OutCall
+  «husk_sending_take_in_place» : (r : HuskPart) (v : List ℕ) → OutCall
   «husk_flight_begin» : (r : ℕ) (g : List ℕ) → OutCall
   «husk_flight_send» : (r : ℕ) (v g m : List ℕ) (epoch t : ℕ) (c p j : List ℕ) → OutCall
   «husk_flight_message» : (r : ℕ) (v g m : List ℕ) (kind : ℕ) (body p j : List ℕ) → OutCall

@@ -39,9 +39,9 @@ use Rattle.acks.specs.declared.Noting.{Noting}
 use Rattle.send_words.specs.Words.{stateOf, isFlat}
 use Rattle.flight_words.specs.Words.{flatTo}
 use Rattle.send_calls.specs.Calls as sends
-use Rattle.send_calls.specs.declared.LinkSealing.{LinkSealing}
-use Rattle.send_calls.specs.declared.LinkTake.{LinkTake}
-use Rattle.send_calls.specs.declared.LinkPart.{LinkPart}
+use Rattle.send_calls.specs.declared.HuskSealing.{HuskSealing}
+use Rattle.send_calls.specs.declared.HuskTake.{HuskTake}
+use Rattle.send_calls.specs.declared.HuskPart.{HuskPart}
 use Rattle.ack_calls.specs.Calls as acks
 use Rattle.waiting_laws.specs.Answers.{noteReply, ackReply, takeReply, answered}
 use Rattle.waiting_laws.specs.Calls.{Stores, fill·, writtenIn, stored, lending, Reply, only}
@@ -148,7 +148,7 @@ module _ (h : Outgoing) (f : isFlat (h .words) ≡ true) (g : flatTo (h .flight)
 
 -- ---- what the host sees of them
 
-abbrev took-reply : LinkTake → Reply
+abbrev took-reply : HuskTake → Reply
 took-reply r = record { number = r .refusal; told = r .length }
 
 take-told : (k : TakeAnswer) → took-reply (sends.flatTake k) ≡ takeReply k
@@ -217,7 +217,7 @@ module _ (h : Outgoing) (f : isFlat (h .words) ≡ true) (g : flatTo (h .flight)
   reply-is («husk_sending_sealed» r v len n₀ n₁ p) m = ap only (out-answer h f g («husk_sending_sealed» r v len n₀ n₁ p) m)
   reply-is («husk_sending_take» r v b c) m = ap took-reply (out-answer h f g («husk_sending_take» r v b c) m) ∙ take-told (takeAnswer (stateOf (h .words)) (length (h .queue)) (length b))
   reply-is («husk_sending_take_in_place» r v) m =
-      ap (λ (x : LinkPart). record { number = x .refusal; told = x .length }) (out-answer h f g («husk_sending_take_in_place» r v) m)
+      ap (λ (x : HuskPart). record { number = x .refusal; told = x .length }) (out-answer h f g («husk_sending_take_in_place» r v) m)
       ∙ part-told (sends.placeAnswer (h .words) (length (h .queue))) (stateOf (h .words) .queue .first * stateOf (h .words) .queue .mtu) (sends.never-short (h .words) (length (h .queue)))
       ∙ ap (λ (n : ℕ). takeReply (takeAnswer (stateOf (h .words)) (length (h .queue)) n)) (sym (wide 65535))
   reply-is («husk_flight_begin» r k) m = ap only (out-answer h f g («husk_flight_begin» r k) m)
@@ -269,7 +269,7 @@ pub shows-now : (h : Outgoing) → isFlat (h .words) ≡ true → (old : Option 
 unfolding world.lends
 shows-now h f old =
     let k = sealings.questionOf (stateOf (h .words)) in
-    ap (λ (r : LinkSealing). showsNow r (h .queue) old) (if-true _ _ f) ∙ lent-same (k .question) (k .nonce) (k .header) (h .queue) old
+    ap (λ (r : HuskSealing). showsNow r (h .queue) old) (if-true _ _ f) ∙ lent-same (k .question) (k .nonce) (k .header) (h .queue) old
 
 turns-as : (x : Sender) (h : Outgoing) (w : Stores) {b b′ : Books} {i i′ : ℕ → List ℕ} {s s′ : ℕ → List Sealed} {t t′ : List (List ℕ)} → isFlat (h .words) ≡ true → storesOf h ≡ w → b ≡ b′
     → i ≡ i′ → s ≡ s′ → t ≡ t′ → turnsTo x h b i s t ≡ world.turns x w b′ i′ s′ t′
@@ -351,7 +351,7 @@ module _ (h : Outgoing) (e : End) (a : StandsOut h e) where
   of-stores : {A : Type 0} (f : Stores → A) → f (storesOf h) ≡ f w
   of-stores f = ap f (a .stores)
 
-  pub sealing-answer : (r : LinkSealing) → sends.SealingCall r (h .words) → Shows (x .lent) r
+  pub sealing-answer : (r : HuskSealing) → sends.SealingCall r (h .words) → Shows (x .lent) r
   unfolding world.lends
   sealing-answer r m =
       let k = sealings.questionOf (stateOf (h .words)) in
@@ -517,13 +517,13 @@ module _ (h : Outgoing) (e : End) (a : StandsOut h e) where
 
   -- ---- the host writes sealed bytes
 
-  module _ (r : LinkSealing) (bytes : List ℕ) (m : sends.SealingCall r (h .words)) (z : r .kind ≡ 2) (l : length bytes ≡ r .length) where
+  module _ (r : HuskSealing) (bytes : List ℕ) (m : sends.SealingCall r (h .words)) (z : r .kind ≡ 2) (l : length bytes ≡ r .length) where
     named : (splice (r .start) bytes (h .queue) ≡ writtenIn (sealings.questionOf (stateOf (h .words)) .question) bytes (h .queue))
         × (some bytes ≡ givenIn (sealings.questionOf (stateOf (h .words)) .question) bytes (e .given))
     named =
         let s = m ∙ if-true _ _ (a .flat) in
-        let n = sealing-names (stateOf (h .words)) (h .queue) bytes (e .given) (subst (λ (k : LinkSealing). k .kind ≡ 2) s z) (subst (λ (k : LinkSealing). length bytes ≡ k .length) s l) in
-        (ap (λ (k : LinkSealing). splice (k .start) bytes (h .queue)) s ∙ n .0, n .1)
+        let n = sealing-names (stateOf (h .words)) (h .queue) bytes (e .given) (subst (λ (k : HuskSealing). k .kind ≡ 2) s z) (subst (λ (k : HuskSealing). length bytes ≡ k .length) s l) in
+        (ap (λ (k : HuskSealing). splice (k .start) bytes (h .queue)) s ∙ n .0, n .1)
 
     pub fill-square : (f : End) → enteredFill e (sealedIn h r bytes) bytes ≡ acts f e (sending (fill· bytes))
     fill-square f =

@@ -16,9 +16,9 @@ use Rattle.outgoing.specs.declared.Sending.{Sending}
 use Rattle.sealing.specs.Sealing.{questionOf}
 use Rattle.sealing.specs.declared.Question.{Question}
 use Rattle.send_calls.specs.Calls.{flatSealing, noSealing, flatTake, flatPart, SealingCall}
-use Rattle.send_calls.specs.declared.LinkSealing.{LinkSealing}
-use Rattle.send_calls.specs.declared.LinkTake.{LinkTake}
-use Rattle.send_calls.specs.declared.LinkPart.{LinkPart}
+use Rattle.send_calls.specs.declared.HuskSealing.{HuskSealing}
+use Rattle.send_calls.specs.declared.HuskTake.{HuskTake}
+use Rattle.send_calls.specs.declared.HuskPart.{HuskPart}
 use Rattle.taking.specs.Take.{takeAnswer}
 use Rattle.taking.specs.declared.TakeAnswer.{TakeAnswer}
 use Rattle.waiting_laws.specs.Calls.{Stores}
@@ -42,10 +42,10 @@ use Rattle.hosts_theorem.specs.Out.{out-answer, sealing-answer}
 
 -- ---- what the sealing question says: 01's header of the record that it names, or nothing
 
-abbrev shownBy : Question → LinkSealing
+abbrev shownBy : Question → HuskSealing
 shownBy k = flatSealing (k .question) (k .nonce) (k .header)
 
-abbrev Plain : LinkSealing → Type 0
+abbrev Plain : HuskSealing → Type 0
 Plain r = (r .kind ≡ 2 → r .header ≡ sealedHeader (r .epoch) (r .number) (r .length)) × ((r .kind ≡ 2 → ⊥) → r ≡ noSealing 1 0)
 
 plain : (s : Sending) (q : List ℕ) (ds : List (List Queued)) → Holds s q ds → Plain (shownBy (questionOf s))
@@ -122,26 +122,26 @@ module _ (h : Incoming) (i : Inbound) (a : StandsIn h i) (z : Sound (i .into)) (
 
 -- ---- a sealing
 
-module _ (ivs : ℕ → List ℕ) (r : LinkSealing) (p : Plain r) where
+module _ (ivs : ℕ → List ℕ) (r : HuskSealing) (p : Plain r) where
   sealing-owed : (o : Option Lent) (k : Option Item) → AskedFor o k → ((l : Lent) → o ≡ some l → l .nonce ≡ nonceFor (ivs (l .epoch)) (l .num)) → Shows o r → OwedSealing ivs k r
   sealing-owed none none q n s = p .1 s
   sealing-owed none (some i) q n s = absurd q
   sealing-owed (some l) none q n s = absurd q
   sealing-owed (some l) (some i) q n s =
-      let kind : r .kind ≡ 2 = ap (λ (x : LinkSealing). x .kind) s in
-      let e : r .epoch ≡ i .epoch = ap (λ (x : LinkSealing). x .epoch) s ∙ q .0 in
-      let m : r .number ≡ i .num = ap (λ (x : LinkSealing). x .number) s ∙ q .1 in
+      let kind : r .kind ≡ 2 = ap (λ (x : HuskSealing). x .kind) s in
+      let e : r .epoch ≡ i .epoch = ap (λ (x : HuskSealing). x .epoch) s ∙ q .0 in
+      let m : r .number ≡ i .num = ap (λ (x : HuskSealing). x .number) s ∙ q .1 in
       record {
         kind = kind;
         epoch = e;
         number = m;
-        size = ap (λ (x : LinkSealing). x .length + sealedHead) s ∙ q .2;
-        nonce = ap (λ (x : LinkSealing). x .nonce) s ∙ n l refl ∙ (λ j. nonceFor (ivs (q .0 j)) (q .1 j));
+        size = ap (λ (x : HuskSealing). x .length + sealedHead) s ∙ q .2;
+        nonce = ap (λ (x : HuskSealing). x .nonce) s ∙ n l refl ∙ (λ j. nonceFor (ivs (q .0 j)) (q .1 j));
         header = p .0 kind ∙ (λ j. sealedHeader (e j) (m j) (r .length));
       }
 
 -- over the host's words
-sealing-now : (h : Host) → Stands h → Fine (h .seen) → (r : LinkSealing) → SealingCall r (h .outgoing .words) → OwedSealing (h .seen .out .ivs) (oldest (items (h .seen .ledger .queue))) r
+sealing-now : (h : Host) → Stands h → Fine (h .seen) → (r : HuskSealing) → SealingCall r (h .outgoing .words) → OwedSealing (h .seen .out .ivs) (oldest (items (h .seen .ledger .queue))) r
 sealing-now h o g r m =
     let e : r ≡ shownBy (questionOf (h .seen .out .stores .state)) =
     m ∙ if-true _ _ (o .outgoing .flat) ∙ ap (λ (w : Stores). shownBy (questionOf (w .state))) (o .outgoing .stores) in
@@ -175,7 +175,7 @@ module _ (h : Outgoing) (e : End) (o : StandsOut h e) (i : Matches (e .out .stor
       let a : r ≡ flatTake (takeTold (i .ds) (length b)) =
       out-answer h (o .flat) (o .flat-flight) («husk_sending_take» r v b c) m
       ∙ ap (λ (w : Stores). flatTake (takeAnswer (w .state) (length (w .queue)) (length b))) (o .stores) ∙ ap flatTake (told-by (length b)) in
-      subst (λ (x : LinkTake). x .kind ≡ kindOwed (e .ledger .queue) (x .refusal)) (sym a)
+      subst (λ (x : HuskTake). x .kind ≡ kindOwed (e .ledger .queue) (x .refusal)) (sym a)
       (subst (λ (q : List (List Item)). flatTake (takeTold (i .ds) (length b)) .kind ≡ kindOwed q (flatTake (takeTold (i .ds) (length b)) .refusal)) (i .queue)
       (kind-told (i .ds) (length b) start .0))
   kind-owed («husk_sending_take_in_place» r v) m =
@@ -183,7 +183,7 @@ module _ (h : Outgoing) (e : End) (o : StandsOut h e) (i : Matches (e .out .stor
       out-answer h (o .flat) (o .flat-flight) («husk_sending_take_in_place» r v) m
       ∙ ap (λ (w : Stores). flatPart (takeAnswer (w .state) (length (w .queue)) 65535) (w .state .queue .first * w .state .queue .mtu)) (o .stores)
       ∙ ap (λ (k : TakeAnswer). flatPart k start) (told-by 65535) in
-      subst (λ (x : LinkPart). x .kind ≡ kindOwed (e .ledger .queue) (x .refusal)) (sym a)
+      subst (λ (x : HuskPart). x .kind ≡ kindOwed (e .ledger .queue) (x .refusal)) (sym a)
       (subst (λ (q : List (List Item)). flatPart (takeTold (i .ds) 65535) start .kind ≡ kindOwed q (flatPart (takeTold (i .ds) 65535) start .refusal)) (i .queue)
       (kind-told (i .ds) 65535 start .1))
   kind-owed («husk_sending_key» r v u iv) m = tt

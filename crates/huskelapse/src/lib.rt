@@ -4,89 +4,89 @@ ghost use Rattle.recv_calls.specs.Calls as receive;
 ghost use Rattle.send_calls.specs.Calls as sends;
 ghost use Rattle.flight_calls.specs.Calls as flights;
 ghost use Rattle.ack_calls.specs.Calls as acks;
-use recv_calls::LinkReading;
+use recv_calls::HuskReading;
 use recv_words::WORDS;
-use send_calls::LinkPart;
-use send_calls::LinkSealing;
-use send_calls::LinkTake;
+use send_calls::HuskPart;
+use send_calls::HuskSealing;
+use send_calls::HuskTake;
 
 // ---- receiving
 
 #[no_mangle]
-pub extern "C" fn link_receiving(w: &mut [u64; WORDS], min_protected: usize) -> u8
+pub extern "C" fn husk_receiving_init(w: &mut [u64; WORDS], min_protected: usize) -> u8
     ensures { λ r. ⌜ receive.FreshCall r (now (w .exit)) «min_protected» ⌝ }
 {
     recv_calls::fresh(w, min_protected)
 }
 
 #[no_mangle]
-pub extern "C" fn link_key_receive(w: &mut [u64; WORDS], epoch: u16, iv: &[u8; 12]) -> u8
+pub extern "C" fn husk_receiving_key(w: &mut [u64; WORDS], epoch: u16, iv: &[u8; 12]) -> u8
     ensures { λ r. ⌜ receive.KeyReceiveCall r (now (w .exit)) (now (w .entry)) epoch (now (iv .entry)) ⌝ }
 {
     recv_calls::key_receive(w, epoch, iv)
 }
 
 #[no_mangle]
-pub extern "C" fn link_remove_receive(w: &mut [u64; WORDS], epoch: u16) -> u8
+pub extern "C" fn husk_receiving_remove(w: &mut [u64; WORDS], epoch: u16) -> u8
     ensures { λ r. ⌜ receive.RemoveReceiveCall r (now (w .exit)) (now (w .entry)) epoch ⌝ }
 {
     recv_calls::remove_receive(w, epoch)
 }
 
 #[no_mangle]
-pub extern "C" fn link_enable_peer_encryption(w: &mut [u64; WORDS]) -> u8
+pub extern "C" fn husk_receiving_enable_encryption(w: &mut [u64; WORDS]) -> u8
     ensures { λ r. ⌜ receive.EnablePeerEncryptionCall r (now (w .exit)) (now (w .entry)) ⌝ }
 {
     recv_calls::enable_peer_encryption(w)
 }
 
 #[no_mangle]
-pub extern "C" fn link_release_application_data(w: &mut [u64; WORDS]) -> u8
+pub extern "C" fn husk_receiving_release_application_data(w: &mut [u64; WORDS]) -> u8
     ensures { λ r. ⌜ receive.ReleaseApplicationDataCall r (now (w .exit)) (now (w .entry)) ⌝ }
 {
     recv_calls::release_application_data(w)
 }
 
 #[no_mangle]
-pub extern "C" fn link_begin(w: &mut [u64; WORDS], n: usize) -> u8
+pub extern "C" fn husk_receiving_begin(w: &mut [u64; WORDS], n: usize) -> u8
     ensures { λ r. ⌜ receive.BeginCall r (now (w .exit)) (now (w .entry)) n ⌝ }
 {
     recv_calls::begin(w, n)
 }
 
 #[no_mangle]
-pub extern "C" fn link_read(w: &mut [u64; WORDS], d: &[u8]) -> LinkReading
+pub extern "C" fn husk_receiving_read(w: &mut [u64; WORDS], d: &[u8]) -> HuskReading
     ensures { λ r. ⌜ receive.ReadCall r (now (w .exit)) (now (w .entry)) (now (d .entry)) ⌝ }
 {
     recv_calls::read(w, d)
 }
 
 #[no_mangle]
-pub extern "C" fn link_begin_read(w: &mut [u64; WORDS], d: &[u8]) -> LinkReading
+pub extern "C" fn husk_receiving_begin_read(w: &mut [u64; WORDS], d: &[u8]) -> HuskReading
     ensures { λ r. ⌜ receive.BeginReadCall r (now (w .exit)) (now (w .entry)) (now (d .entry)) ⌝ }
 {
     recv_calls::begin_read(w, d)
 }
 
 #[no_mangle]
-pub extern "C" fn link_mask(
+pub extern "C" fn husk_receiving_mask(
     w: &mut [u64; WORDS],
     mask_0: u8,
     mask_1: u8,
     d: &mut [u8],
-) -> LinkReading
+) -> HuskReading
     ensures { λ r. ⌜ receive.MaskCall r (now (w .exit)) (now (w .entry)) «mask_0» «mask_1» (now (d .exit)) (now (d .entry)) ⌝ }
 {
     recv_calls::mask(w, mask_0, mask_1, d)
 }
 
 #[no_mangle]
-pub extern "C" fn link_opened(
+pub extern "C" fn husk_receiving_opened(
     w: &mut [u64; WORDS],
     opened: u8,
     length: usize,
     d: &[u8],
-) -> LinkReading
+) -> HuskReading
     ensures { λ r. ⌜ receive.OpenedCall r (now (w .exit)) (now (w .entry)) opened length (now (d .entry)) ⌝ }
 {
     recv_calls::opened(w, opened, length, d)
@@ -95,21 +95,21 @@ pub extern "C" fn link_opened(
 // ---- sending
 
 #[no_mangle]
-pub extern "C" fn link_sending(w: &mut [u64; send_words::WORDS], mtu: usize, limit: usize) -> u8
+pub extern "C" fn husk_sending_init(w: &mut [u64; send_words::WORDS], mtu: usize, limit: usize) -> u8
     ensures { λ r. ⌜ sends.FreshCall r (now (w .exit)) mtu limit ⌝ }
 {
     send_calls::fresh(w, mtu, limit)
 }
 
 #[no_mangle]
-pub extern "C" fn link_key_send(w: &mut [u64; send_words::WORDS], epoch: u16, iv: &[u8; 12]) -> u8
+pub extern "C" fn husk_sending_key(w: &mut [u64; send_words::WORDS], epoch: u16, iv: &[u8; 12]) -> u8
     ensures { λ r. ⌜ sends.KeySendCall r (now (w .exit)) (now (w .entry)) epoch (now (iv .entry)) ⌝ }
 {
     send_calls::key_send(w, epoch, iv)
 }
 
 #[no_mangle]
-pub extern "C" fn link_send(
+pub extern "C" fn husk_sending_send(
     w: &mut [u64; send_words::WORDS],
     epoch: u16,
     content_type: u8,
@@ -122,14 +122,14 @@ pub extern "C" fn link_send(
 }
 
 #[no_mangle]
-pub extern "C" fn link_sealing(w: &[u64; send_words::WORDS]) -> LinkSealing
+pub extern "C" fn husk_sending_sealing(w: &[u64; send_words::WORDS]) -> HuskSealing
     ensures { λ r. ⌜ sends.SealingCall r (now (w .entry)) ⌝ }
 {
     send_calls::sealing(w)
 }
 
 #[no_mangle]
-pub extern "C" fn link_sealed(
+pub extern "C" fn husk_sending_sealed_words(
     w: &mut [u64; send_words::WORDS],
     length: usize,
     mask_0: u8,
@@ -142,18 +142,18 @@ pub extern "C" fn link_sealed(
 }
 
 #[no_mangle]
-pub extern "C" fn link_take(
+pub extern "C" fn husk_sending_take(
     w: &mut [u64; send_words::WORDS],
     buffer: &mut [u8],
     queue: &[u8],
-) -> LinkTake
+) -> HuskTake
     ensures { λ r. ⌜ sends.TakeCall r (now (w .exit)) (now (w .entry)) (now (buffer .exit)) (now (buffer .entry)) (now (queue .entry)) ⌝ }
 {
     send_calls::take(w, buffer, queue)
 }
 
 #[no_mangle]
-pub extern "C" fn link_take_in_place(w: &mut [u64; send_words::WORDS], queue: &[u8]) -> LinkPart
+pub extern "C" fn husk_sending_take_in_place(w: &mut [u64; send_words::WORDS], queue: &[u8]) -> HuskPart
     ensures { λ r. ⌜ sends.TakeInPlaceCall r (now (w .exit)) (now (w .entry)) (now (queue .entry)) ⌝ }
 {
     send_calls::take_in_place(w, queue)
@@ -162,21 +162,21 @@ pub extern "C" fn link_take_in_place(w: &mut [u64; send_words::WORDS], queue: &[
 // ---- saved records and handshake messages
 
 #[no_mangle]
-pub extern "C" fn link_flight(f: &mut [u64; flight_words::WORDS], numbers: &mut [u64; 384])
+pub extern "C" fn husk_flight_init_words(f: &mut [u64; flight_words::WORDS], numbers: &mut [u64; 384])
     ensures { λ _. ⌜ flights.FreshCall (now (f .exit)) (now (numbers .exit)) ⌝ }
 {
     flight_calls::fresh(f, numbers)
 }
 
 #[no_mangle]
-pub extern "C" fn link_begin_flight(f: &mut [u64; flight_words::WORDS]) -> u8
+pub extern "C" fn husk_flight_begin_words(f: &mut [u64; flight_words::WORDS]) -> u8
     ensures { λ r. ⌜ flights.BeginFlightCall r (now (f .exit)) (now (f .entry)) ⌝ }
 {
     flight_calls::begin_flight(f)
 }
 
 #[no_mangle]
-pub extern "C" fn link_send_saved(
+pub extern "C" fn husk_flight_send_words(
     w: &mut [u64; send_words::WORDS],
     f: &mut [u64; flight_words::WORDS],
     numbers: &mut [u64; 384],
@@ -192,7 +192,7 @@ pub extern "C" fn link_send_saved(
 }
 
 #[no_mangle]
-pub extern "C" fn link_create_handshake(
+pub extern "C" fn husk_flight_message_words(
     w: &mut [u64; send_words::WORDS],
     f: &mut [u64; flight_words::WORDS],
     numbers: &mut [u64; 384],
@@ -209,7 +209,7 @@ pub extern "C" fn link_create_handshake(
 // ---- resends and ACKs
 
 #[no_mangle]
-pub extern "C" fn link_resend(
+pub extern "C" fn husk_flight_resend_words(
     w: &mut [u64; send_words::WORDS],
     f: &mut [u64; flight_words::WORDS],
     numbers: &mut [u64; 384],
@@ -222,7 +222,7 @@ pub extern "C" fn link_resend(
 }
 
 #[no_mangle]
-pub extern "C" fn link_process_ack(
+pub extern "C" fn husk_flight_ack_words(
     f: &mut [u64; flight_words::WORDS],
     numbers: &mut [u64; 384],
     content: &[u8],
@@ -233,7 +233,7 @@ pub extern "C" fn link_process_ack(
 }
 
 #[no_mangle]
-pub extern "C" fn link_note(
+pub extern "C" fn husk_notes_add_words(
     count: &mut [u64; 1],
     epochs: &mut [u64; 32],
     numbers: &mut [u64; 32],
@@ -246,7 +246,7 @@ pub extern "C" fn link_note(
 }
 
 #[no_mangle]
-pub extern "C" fn link_send_ack(
+pub extern "C" fn husk_notes_send_words(
     w: &mut [u64; send_words::WORDS],
     count: &mut [u64; 1],
     epochs: &mut [u64; 32],

@@ -15,7 +15,7 @@ use Rattle.receiving.specs.declared.Receiving.{Receiving}
 use Rattle.recv_words.specs.Words.{keysOf, datagramOf, isFlat}
 use Rattle.recv_key_steps.specs.Kept.{stateOf}
 use Rattle.recv_calls.specs.Flat.{answerOf, bare, flatReading, openingOf}
-use Rattle.recv_calls.specs.declared.LinkReading.{LinkReading}
+use Rattle.recv_calls.specs.declared.HuskReading.{HuskReading}
 
 -- ---- a call that reads nothing: w before it, v behind it, k what the definition makes of the state
 
@@ -24,20 +24,20 @@ Does r v w k = (r ≡ choose (isFlat w) (answerOf (k .answer)) 12) × (stateOf v
 
 -- ---- a call that reads
 
-abbrev pub Reads : LinkReading → List ℕ → List ℕ → Read → Type 0
+abbrev pub Reads : HuskReading → List ℕ → List ℕ → Read → Type 0
 Reads r v w k =
     (r ≡ choose (isFlat w) (flatReading (k .reading) (k .nonce)) (bare 0 12)) × (stateOf v ≡ choose (isFlat w) (k .state) (stateOf w))
     × (isFlat v ≡ isFlat w)
 
 -- a beginning, and behind it the first record read; a refused one is told by its number
-unfoldable pub firstReading : Kept → List ℕ → LinkReading
+unfoldable pub firstReading : Kept → List ℕ → HuskReading
 firstReading k d =
     choose (eqb (answerOf (k .answer)) 0) (flatReading (readOf (k .state) d .reading) (readOf (k .state) d .nonce)) (bare 0 (answerOf (k .answer)))
 
 unfoldable pub firstState : Kept → List ℕ → Receiving
 firstState k d = choose (eqb (answerOf (k .answer)) 0) (readOf (k .state) d .state) (k .state)
 
-abbrev pub Stepped : LinkReading → List ℕ → List ℕ → Step → Type 0
+abbrev pub Stepped : HuskReading → List ℕ → List ℕ → Step → Type 0
 Stepped r v w t =
     (r ≡ flatReading (t .reading) (t .nonce)) × (keysOf v ≡ keysOf w) × (datagramOf v ≡ t .datagram) × (isFlat v ≡ true)
 
@@ -49,7 +49,7 @@ abbrev pub maskBytesOf : List ℕ → ℕ → ℕ → List ℕ → List ℕ
 maskBytesOf w m n d = choose (isFlat w) (maskOf (stateOf w) (masks m n) d .1) d
 
 -- a reply to an opening question is 0 or 1
-abbrev pub OpenedAs : LinkReading → List ℕ → List ℕ → ℕ → Read → Type 0
+abbrev pub OpenedAs : HuskReading → List ℕ → List ℕ → ℕ → Read → Type 0
 OpenedAs r v w o k =
     (r ≡ choose (both (leb o 1) (isFlat w)) (flatReading (k .reading) (k .nonce)) (bare 0 12))
     × (stateOf v ≡ choose (both (leb o 1) (isFlat w)) (k .state) (stateOf w)) × (isFlat v ≡ isFlat w)
@@ -74,17 +74,17 @@ ReleaseApplicationDataCall r v w = Does r v w (releaseOf (stateOf w))
 abbrev pub BeginCall : ℕ → List ℕ → List ℕ → ℕ → Type 0
 BeginCall r v w n = Does r v w (beginOf (stateOf w) n)
 
-abbrev pub ReadCall : LinkReading → List ℕ → List ℕ → List ℕ → Type 0
+abbrev pub ReadCall : HuskReading → List ℕ → List ℕ → List ℕ → Type 0
 ReadCall r v w d = Reads r v w (readOf (stateOf w) d)
 
-abbrev pub BeginReadCall : LinkReading → List ℕ → List ℕ → List ℕ → Type 0
+abbrev pub BeginReadCall : HuskReading → List ℕ → List ℕ → List ℕ → Type 0
 BeginReadCall r v w d =
     (r ≡ choose (isFlat w) (firstReading (beginOf (stateOf w) (length d)) d) (bare 0 12))
     × (stateOf v ≡ choose (isFlat w) (firstState (beginOf (stateOf w) (length d)) d) (stateOf w)) × (isFlat v ≡ isFlat w)
 
 -- d the datagram before, e behind
-abbrev pub MaskCall : LinkReading → List ℕ → List ℕ → ℕ → ℕ → List ℕ → List ℕ → Type 0
+abbrev pub MaskCall : HuskReading → List ℕ → List ℕ → ℕ → ℕ → List ℕ → List ℕ → Type 0
 MaskCall r v w m n e d = Reads r v w (maskOf (stateOf w) (masks m n) d .0) × (e ≡ maskBytesOf w m n d)
 
-abbrev pub OpenedCall : LinkReading → List ℕ → List ℕ → ℕ → ℕ → List ℕ → Type 0
+abbrev pub OpenedCall : HuskReading → List ℕ → List ℕ → ℕ → ℕ → List ℕ → Type 0
 OpenedCall r v w o len d = OpenedAs r v w o (openedOf (stateOf w) (openingOf o len) d)

@@ -11,7 +11,7 @@ use Rattle.opening_reply.specs.declared.Opening.the-variants as reply
 use Rattle.opening_reply.specs.declared.Opening.{Opening}
 use Rattle.receiving.specs.Receiving.{answerNumber}
 use Rattle.receiving.specs.declared.Answer.{Answer}
-use Rattle.recv_calls.specs.declared.LinkReading.{LinkReading}
+use Rattle.recv_calls.specs.declared.HuskReading.{HuskReading}
 
 -- 01's numbers
 abbrev pub answerOf : Answer → ℕ
@@ -21,7 +21,7 @@ abbrev pub reasonOf : Reason → ℕ
 reasonOf = reasonNumber
 
 -- a kind that has only a refusal, or 0
-abbrev pub bare : ℕ → ℕ → LinkReading
+abbrev pub bare : ℕ → ℕ → HuskReading
 bare kind refusal = record {
   kind = kind;
   refusal = refusal;
@@ -35,7 +35,7 @@ bare kind refusal = record {
 }
 
 -- a record, or the bytes that a mask question shows: type, epoch, number, place
-abbrev pub shown : ℕ → ℕ → ℕ → ℕ → ℕ → ℕ → LinkReading
+abbrev pub shown : ℕ → ℕ → ℕ → ℕ → ℕ → ℕ → HuskReading
 shown kind t epoch n start len = record {
   kind = kind;
   refusal = 0;
@@ -49,7 +49,7 @@ shown kind t epoch n start len = record {
 }
 
 -- an opening asked for: with its header's length and its nonce
-abbrev pub asked : ℕ → ℕ → ℕ → ℕ → ℕ → List ℕ → LinkReading
+abbrev pub asked : ℕ → ℕ → ℕ → ℕ → ℕ → List ℕ → HuskReading
 asked epoch n start head len nonce = record {
   kind = 7;
   refusal = 0;
@@ -62,7 +62,7 @@ asked epoch n start head len nonce = record {
   nonce = nonce;
 }
 
-abbrev pub flatReading : Reading → List ℕ → LinkReading
+abbrev pub flatReading : Reading → List ℕ → HuskReading
 flatReading says.Setting v = bare 0 12
 flatReading says.Reply v = bare 0 15
 flatReading says.End v = bare 1 0

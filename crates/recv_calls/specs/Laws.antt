@@ -33,7 +33,7 @@ use Rattle.recv_words.specs.Laws.{entry-at, mark-put}
 use Rattle.recv_calls.specs.Flat.{answerOf, bare, flatReading}
 use Rattle.recv_key_steps.specs.Kept.{stateOf, Kept-as}
 use Rattle.recv_calls.specs.Calls.{Does, Reads, firstReading, firstState, BeginReadCall, Stepped, OpenedAs}
-use Rattle.recv_calls.specs.declared.LinkReading.{LinkReading}
+use Rattle.recv_calls.specs.declared.HuskReading.{HuskReading}
 
 -- ---- calls that read nothing
 
@@ -47,14 +47,14 @@ state-by v {keys} p q =
     ap (λ (x : RecvKeys). record { keys = x; datagram = datagramOf v }) p ∙ ap (λ (x : Datagram). record { keys = keys; datagram = x }) q
 
 -- u is the state before the step, with keys already as the definition has them
-pub reads : (r : LinkReading) (v u w : List ℕ) (keys : RecvKeys) (t s : Step) → isFlat w ≡ true → Stepped r v u t → keysOf u ≡ keys → t ≡ s → Reads r v w (stepped keys s)
+pub reads : (r : HuskReading) (v u w : List ℕ) (keys : RecvKeys) (t s : Step) → isFlat w ≡ true → Stepped r v u t → keysOf u ≡ keys → t ≡ s → Reads r v w (stepped keys s)
 reads r v u w keys t s f h p e = (
   h .0 ∙ ap (λ (x : Step). flatReading (x .reading) (x .nonce)) e ∙ sym (if-true _ _ f),
   state-by v (h .1 ∙ p) (h .2 ∙ ap (λ (x : Step). x .datagram) e) ∙ sym (if-true _ _ f),
   h .3 ∙ sym f,
 )
 
-pub opened : (r : LinkReading) (v u w : List ℕ) (o : ℕ) (keys : RecvKeys) (t s : Step) → leb o 1 ≡ true → isFlat w ≡ true → Stepped r v u t → keysOf u ≡ keys → t ≡ s → OpenedAs r v w o (stepped keys s)
+pub opened : (r : HuskReading) (v u w : List ℕ) (o : ℕ) (keys : RecvKeys) (t s : Step) → leb o 1 ≡ true → isFlat w ≡ true → Stepped r v u t → keysOf u ≡ keys → t ≡ s → OpenedAs r v w o (stepped keys s)
 opened r v u w o keys t s l f h p e = (
   h .0 ∙ ap (λ (x : Step). flatReading (x .reading) (x .nonce)) e ∙ sym (if-true _ _ (both-true l ∙ f)),
   state-by v (h .1 ∙ p) (h .2 ∙ ap (λ (x : Step). x .datagram) e) ∙ sym (if-true _ _ (both-true l ∙ f)),
@@ -70,7 +70,7 @@ begun-sound k b n t h =
     is-ready k (begun n) (record { keys = ready k b t .keys; size = h; at = omega arith; readings = omega arith; question = refl })
 
 -- refused: the state as it was
-pub first-refused : (a : Answer) (r : LinkReading) (w d : List ℕ) → r ≡ bare 0 (answerOf a) → eqb (answerOf a) 0 ≡ false → isFlat w ≡ true → beginOf (stateOf w) (length d) ≡ kept (stateOf w) a
+pub first-refused : (a : Answer) (r : HuskReading) (w d : List ℕ) → r ≡ bare 0 (answerOf a) → eqb (answerOf a) 0 ≡ false → isFlat w ≡ true → beginOf (stateOf w) (length d) ≡ kept (stateOf w) a
     → BeginReadCall r w w d
 unfolding firstReading firstState
 first-refused a r w d q e f k = (
@@ -79,7 +79,7 @@ first-refused a r w d q e f k = (
   refl,
 )
 
-pub first-read : (r : LinkReading) (v w d : List ℕ) → sound (stateOf w) ≡ true → length d ≤ 16384 → isFlat w ≡ true
+pub first-read : (r : HuskReading) (v w d : List ℕ) → sound (stateOf w) ≡ true → length d ≤ 16384 → isFlat w ≡ true
     → Stepped r v w (readStep (keysOf w) (begun (length d)) d) → BeginReadCall r v w d
 unfolding firstReading firstState
 first-read r v w d t l f h =

@@ -43,7 +43,7 @@ use recv_words::WORDS;
 //   7 the opening is asked for: epoch, number, nonce, where the record starts, how long its header and its protected part are.
 // Fields that a kind does not use are zeros.
 #[repr(C)]
-pub struct LinkReading {
+pub struct HuskReading {
     pub kind: u8,
     pub refusal: u8,
     pub content_type: u8,
@@ -86,10 +86,10 @@ fn reason_of(r: Reason) -> u8
     }
 }
 
-fn told(kind: u8, refusal: u8) -> LinkReading
+fn told(kind: u8, refusal: u8) -> HuskReading
     ensures { λ r. ⌜ r ≡ bare kind refusal ⌝ }
 {
-    LinkReading {
+    HuskReading {
         kind: kind,
         refusal: refusal,
         content_type: 0,
@@ -110,10 +110,10 @@ fn shown(
     number: u64,
     start: usize,
     length: usize,
-) -> LinkReading
+) -> HuskReading
     ensures { λ r. ⌜ r ≡ shown kind «content_type» epoch number start length ⌝ }
 {
-    LinkReading {
+    HuskReading {
         kind: kind,
         refusal: 0,
         content_type: content_type,
@@ -134,10 +134,10 @@ fn asked(
     header_len: usize,
     length: usize,
     nonce: [u8; 12],
-) -> LinkReading
+) -> HuskReading
     ensures { λ r. ⌜ r ≡ asked epoch number start «header_len» length nonce ⌝ }
 {
-    LinkReading {
+    HuskReading {
         kind: 7,
         refusal: 0,
         content_type: 0,
@@ -150,7 +150,7 @@ fn asked(
     }
 }
 
-fn flat_reading(r: Reading, nonce: [u8; 12]) -> LinkReading
+fn flat_reading(r: Reading, nonce: [u8; 12]) -> HuskReading
     ensures { λ t. ⌜ t ≡ flatReading r nonce ⌝ }
 {
     match r {
@@ -200,7 +200,7 @@ fn opening_of(opened: u8, length: usize) -> Opening
 }
 
 // A step written, and what it says.
-fn settle(w: &mut [u64; WORDS], t: Step) -> LinkReading
+fn settle(w: &mut [u64; WORDS], t: Step) -> HuskReading
     requires { ⌜ isFlat (now w) ≡ true ⌝ }
     ensures { λ r. ⌜ Stepped r (now (w .exit)) (now (w .entry)) t ⌝ }
 {
@@ -278,7 +278,7 @@ pub fn begin(w: &mut [u64; WORDS], n: usize) -> u8
 }
 
 // The record at the cursor of a datagram, where no question waits.
-fn read_on(w: &mut [u64; WORDS], b: Datagram, d: &[u8]) -> LinkReading
+fn read_on(w: &mut [u64; WORDS], b: Datagram, d: &[u8]) -> HuskReading
     requires { ⌜ (isFlat (now w) ≡ true) × Goes (keysOf (now w)) b (length (now d)) ⌝ }
     ensures { λ r. ⌜ Stepped r (now (w .exit)) (now (w .entry)) (readStep (keysOf (now (w .entry))) b (now (d .entry))) ⌝ }
 {
@@ -287,7 +287,7 @@ fn read_on(w: &mut [u64; WORDS], b: Datagram, d: &[u8]) -> LinkReading
 }
 
 // Begins a datagram and reads its first record, in one call. A refused beginning is told by its number, 1 or 12.
-pub fn begin_read(w: &mut [u64; WORDS], d: &[u8]) -> LinkReading
+pub fn begin_read(w: &mut [u64; WORDS], d: &[u8]) -> HuskReading
     ensures { λ r. ⌜ BeginReadCall r (now (w .exit)) (now (w .entry)) (now (d .entry)) ⌝ }
 {
     if recv_words::is_flat(w) {
@@ -310,7 +310,7 @@ pub fn begin_read(w: &mut [u64; WORDS], d: &[u8]) -> LinkReading
 }
 
 // One record of the datagram begun, or the question that waits again.
-pub fn read(w: &mut [u64; WORDS], d: &[u8]) -> LinkReading
+pub fn read(w: &mut [u64; WORDS], d: &[u8]) -> HuskReading
     ensures { λ r. ⌜ ReadCall r (now (w .exit)) (now (w .entry)) (now (d .entry)) ⌝ }
 {
     if recv_words::is_flat(w) {
@@ -325,7 +325,7 @@ pub fn read(w: &mut [u64; WORDS], d: &[u8]) -> LinkReading
 }
 
 // The mask that was asked for; the number bytes are unmasked in the datagram.
-pub fn mask(w: &mut [u64; WORDS], mask_0: u8, mask_1: u8, d: &mut [u8]) -> LinkReading
+pub fn mask(w: &mut [u64; WORDS], mask_0: u8, mask_1: u8, d: &mut [u8]) -> HuskReading
     ensures { λ r. ⌜ MaskCall r (now (w .exit)) (now (w .entry)) «mask_0» «mask_1» (now (d .exit)) (now (d .entry)) ⌝ }
 {
     if recv_words::is_flat(w) {
@@ -350,7 +350,7 @@ fn mark(w: &mut [u64; WORDS], o: Opened)
 }
 
 // Whether the record was opened, 0 or 1; its plaintext, of so many bytes, then stands at the start of the protected part.
-pub fn opened(w: &mut [u64; WORDS], opened: u8, length: usize, d: &[u8]) -> LinkReading
+pub fn opened(w: &mut [u64; WORDS], opened: u8, length: usize, d: &[u8]) -> HuskReading
     ensures { λ r. ⌜ OpenedCall r (now (w .exit)) (now (w .entry)) opened length (now (d .entry)) ⌝ }
 {
     if 1 < opened {

@@ -3,15 +3,15 @@
 // The state is the words that a host keeps, and each step is a call of recv_calls.
 use datagram::Datagram;
 use datagram::Question;
-use recv_calls::LinkReading;
+use recv_calls::HuskReading;
 use recv_keys::Found;
 use recv_words::COUNT;
 use recv_words::WORDS;
 
 // ---- the answer to a step
 
-fn bare(kind: u8, refusal: u8) -> LinkReading {
-    LinkReading {
+fn bare(kind: u8, refusal: u8) -> HuskReading {
+    HuskReading {
         kind: kind,
         refusal: refusal,
         content_type: 0,
@@ -25,7 +25,7 @@ fn bare(kind: u8, refusal: u8) -> LinkReading {
 }
 
 // A call that reads nothing shows no reading, but removing an epoch may drop a record.
-fn answered(a: u8) -> LinkReading {
+fn answered(a: u8) -> HuskReading {
     if a == 6 {
         return bare(2, 6);
     }
@@ -33,7 +33,7 @@ fn answered(a: u8) -> LinkReading {
 }
 
 // The kinds of a line: an end is told by its refusal, 1 where there is none.
-fn line_kind(r: LinkReading) -> u8 {
+fn line_kind(r: HuskReading) -> u8 {
     let k = r.kind;
     if k == 0 {
         return 0;
@@ -51,21 +51,21 @@ fn line_kind(r: LinkReading) -> u8 {
 }
 
 // Why a record is dropped stands apart from a refusal.
-fn line_refusal(r: LinkReading) -> u8 {
+fn line_refusal(r: HuskReading) -> u8 {
     if r.kind == 2 {
         return 0;
     }
     r.refusal
 }
 
-fn line_reason(r: LinkReading) -> u8 {
+fn line_reason(r: HuskReading) -> u8 {
     if r.kind == 2 {
         return r.refusal;
     }
     0
 }
 
-fn numbers(r: LinkReading) -> [u8; 16] {
+fn numbers(r: HuskReading) -> [u8; 16] {
     [
         line_refusal(r),
         line_kind(r),
@@ -87,7 +87,7 @@ fn numbers(r: LinkReading) -> [u8; 16] {
 }
 
 // The 30 bytes before the bytes shown, of which the last two are their number, then these.
-fn lay(r: LinkReading, shown: &[u8], out: &mut [u8]) -> usize {
+fn lay(r: HuskReading, shown: &[u8], out: &mut [u8]) -> usize {
     let head = numbers(r);
     let nonce = r.nonce;
     let length = [
@@ -101,7 +101,7 @@ fn lay(r: LinkReading, shown: &[u8], out: &mut [u8]) -> usize {
 }
 
 // An answer on standard output.
-fn say(letter: u8, r: LinkReading, shown: &[u8]) {
+fn say(letter: u8, r: HuskReading, shown: &[u8]) {
     let mut found = [0u8; 16640];
     let mut text = [0u8; 33536];
     let n = lay(r, shown, &mut found);
@@ -110,14 +110,14 @@ fn say(letter: u8, r: LinkReading, shown: &[u8]) {
 }
 
 // The bytes that a reading names in the datagram: of an opening question, the header.
-fn shown(d: &[u8], r: LinkReading) -> &[u8] {
+fn shown(d: &[u8], r: HuskReading) -> &[u8] {
     if r.kind == 7 {
         return base::fragment(d, r.start, r.header_len);
     }
     base::fragment(d, r.start, r.length)
 }
 
-fn say_reading(letter: u8, r: LinkReading, d: &[u8]) {
+fn say_reading(letter: u8, r: HuskReading, d: &[u8]) {
     say(letter, r, shown(d, r));
 }
 
@@ -180,7 +180,7 @@ fn mask_front(
     mask_1: u8,
     d: &mut [u8],
     size: usize,
-) -> LinkReading {
+) -> HuskReading {
     if size < d.len() {
         return recv_calls::mask(w, mask_0, mask_1, &mut d[..size]);
     }
@@ -241,7 +241,7 @@ fn yes_or_no(input: &[u8]) -> u8 {
     0
 }
 
-fn open(w: &mut [u64; WORDS], input: &[u8], d: &mut [u8], size: usize) -> LinkReading {
+fn open(w: &mut [u64; WORDS], input: &[u8], d: &mut [u8], size: usize) -> HuskReading {
     let b = recv_words::datagram_of(w);
     let yes = yes_or_no(input);
     let n = opening(protected(b), yes, base::behind(input, 1), d);
@@ -249,7 +249,7 @@ fn open(w: &mut [u64; WORDS], input: &[u8], d: &mut [u8], size: usize) -> LinkRe
 }
 
 // A step that replies to a question.
-fn reply(w: &mut [u64; WORDS], letter: u8, input: &[u8], d: &mut [u8], size: usize) -> LinkReading {
+fn reply(w: &mut [u64; WORDS], letter: u8, input: &[u8], d: &mut [u8], size: usize) -> HuskReading {
     if letter == b'm' {
         return mask_front(
             w,

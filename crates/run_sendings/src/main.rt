@@ -2,7 +2,7 @@
 // expected stands in the file stdout, written from the Rust's answers (compare/README.md says how, and what each letter means).
 // The state is the words that a host keeps, and each step is a call of send_calls, flight_calls or ack_calls.
 use flight::Entry;
-use send_calls::LinkSealing;
+use send_calls::HuskSealing;
 use send_words::APPLICATION;
 use send_words::APPLICATION_NEXT;
 use send_words::APPLICATION_SEALED;
@@ -37,8 +37,8 @@ fn push8(out: &mut [u8], at: usize, v: u64) -> usize {
 // ---- the answer to a step
 
 // 01's number or 0, and the kind: 1 none, 2 a datagram, 3 a question; the length that a taking tells.
-fn bare(refusal: u8, kind: u8, length: usize) -> LinkSealing {
-    LinkSealing {
+fn bare(refusal: u8, kind: u8, length: usize) -> HuskSealing {
+    HuskSealing {
         kind: kind,
         refusal: refusal,
         epoch: 0,
@@ -50,7 +50,7 @@ fn bare(refusal: u8, kind: u8, length: usize) -> LinkSealing {
     }
 }
 
-fn lay_numbers(t: LinkSealing, out: &mut [u8]) {
+fn lay_numbers(t: HuskSealing, out: &mut [u8]) {
     run_lines::push(out, 0, t.refusal);
     run_lines::push(out, 1, t.kind);
     push2(out, 2, t.epoch as u64);
@@ -60,7 +60,7 @@ fn lay_numbers(t: LinkSealing, out: &mut [u8]) {
 }
 
 // The 35 bytes before the bytes shown, of which the last two are their number, then these.
-fn lay(t: LinkSealing, shown: &[u8], out: &mut [u8]) -> usize {
+fn lay(t: HuskSealing, shown: &[u8], out: &mut [u8]) -> usize {
     let nonce = t.nonce;
     let header = t.header;
     lay_numbers(t, out);
@@ -71,7 +71,7 @@ fn lay(t: LinkSealing, shown: &[u8], out: &mut [u8]) -> usize {
 }
 
 // An answer on standard output.
-fn say(letter: u8, t: LinkSealing, shown: &[u8]) {
+fn say(letter: u8, t: HuskSealing, shown: &[u8]) {
     let mut found = [0u8; 2048];
     let mut text = [0u8; 4352];
     let n = lay(t, shown, &mut found);
@@ -206,7 +206,7 @@ fn note(
     epochs: &mut [u64; 32],
     noted: &mut [u64; 32],
     input: &[u8],
-) -> LinkSealing {
+) -> HuskSealing {
     let full = count[0] == 32;
     let epoch = run_lines::get8(input, 0);
     let a = ack_calls::note(count, epochs, noted, epoch, run_lines::get8(input, 8));
@@ -220,7 +220,7 @@ fn send_ack(
     epochs: &mut [u64; 32],
     noted: &mut [u64; 32],
     queue: &mut [u8],
-) -> LinkSealing {
+) -> HuskSealing {
     let none = count[0] == 0;
     let a = ack_calls::send_ack(w, count, epochs, noted, queue);
     bare(a, (none && a == 0) as u8, 0)

@@ -32,9 +32,9 @@ use Rattle.send_keys.specs.declared.SendAnswer.{SendAnswer}
 use Rattle.outgoing.specs.Send.{sendAnswer, sendState, sendMemory, laidState, laidMemory}
 use Rattle.taking.specs.Take as takes
 use Rattle.send_keys.specs.Answer.{isDone, refusal}
-use Rattle.send_calls.specs.declared.LinkSealing.{LinkSealing}
-use Rattle.send_calls.specs.declared.LinkTake.{LinkTake}
-use Rattle.send_calls.specs.declared.LinkPart.{LinkPart}
+use Rattle.send_calls.specs.declared.HuskSealing.{HuskSealing}
+use Rattle.send_calls.specs.declared.HuskTake.{HuskTake}
+use Rattle.send_calls.specs.declared.HuskPart.{HuskPart}
 
 abbrev pub masks : ℕ → ℕ → List ℕ
 masks m n = m ∷ n ∷ []
@@ -45,29 +45,29 @@ either w x y = choose (isFlat w) x y
 
 -- ---- answers flat
 
-abbrev pub noSealing : ℕ → ℕ → LinkSealing
+abbrev pub noSealing : ℕ → ℕ → HuskSealing
 noSealing kind n = record { kind = kind; refusal = n; epoch = 0; number = 0; start = 0; length = 0; nonce = replicate 12 0; header = replicate 5 0 }
 
-abbrev pub flatSealing : SealQuestion → List ℕ → List ℕ → LinkSealing
+abbrev pub flatSealing : SealQuestion → List ℕ → List ℕ → HuskSealing
 flatSealing ask.OutOfRange v h = noSealing 0 12
 flatSealing ask.Nothing v h = noSealing 1 0
 flatSealing (ask.Seal e n s l) v h = record { kind = 2; refusal = 0; epoch = e; number = n; start = s; length = l; nonce = v; header = h }
 
-abbrev pub noTake : ℕ → ℕ → ℕ → LinkTake
+abbrev pub noTake : ℕ → ℕ → ℕ → HuskTake
 noTake kind n len = record { kind = kind; refusal = n; length = len }
 
-abbrev pub flatTake : TakeAnswer → LinkTake
+abbrev pub flatTake : TakeAnswer → HuskTake
 flatTake (take.Taken n) = noTake 2 0 n
 flatTake take.OutOfRange = noTake 0 12 0
 flatTake take.Nothing = noTake 1 0 0
 flatTake take.Unsealed = noTake 0 23 0
 flatTake (take.Short n) = noTake 0 16 n
 
-abbrev pub noPart : ℕ → ℕ → LinkPart
+abbrev pub noPart : ℕ → ℕ → HuskPart
 noPart kind n = record { kind = kind; refusal = n; start = 0; length = 0 }
 
 -- a datagram that is taken begins at start
-abbrev pub flatPart : TakeAnswer → ℕ → LinkPart
+abbrev pub flatPart : TakeAnswer → ℕ → HuskPart
 flatPart (take.Taken n) start = record { kind = 2; refusal = 0; start = start; length = n }
 flatPart take.OutOfRange start = noPart 0 12
 flatPart take.Nothing start = noPart 1 0
@@ -86,13 +86,13 @@ Sends r v w k = (r ≡ choose (isFlat w) (refusal (k .answer)) 12) × After v w 
 abbrev pub Keys : ℕ → List ℕ → List ℕ → Keying → Type 0
 Keys r v w k = (r ≡ choose (isFlat w) (refusal (k .answer)) 12) × After v w (k .state)
 
-abbrev pub Seals : List ℕ → Question → LinkSealing
+abbrev pub Seals : List ℕ → Question → HuskSealing
 Seals w k = choose (isFlat w) (flatSealing (k .question) (k .nonce) (k .header)) (noSealing 0 12)
 
 abbrev pub Takes : ℕ → List ℕ → List ℕ → Reply → Type 0
 Takes r v w k = (r ≡ choose (isFlat w) (sealings.refusal (k .answer)) 12) × After v w (k .state)
 
-abbrev pub Taken : LinkTake → List ℕ → List ℕ → Take → Type 0
+abbrev pub Taken : HuskTake → List ℕ → List ℕ → Take → Type 0
 Taken r v w k = (r ≡ choose (isFlat w) (flatTake (k .answer)) (noTake 0 12 0)) × After v w (k .state)
 
 -- ---- the contracts of the calls, here and over C: r answered; w, q before; v, p behind
@@ -109,7 +109,7 @@ SendCall r v w epoch t c p q =
     Sends r v w (sendState (sendAnswer (stateOf w) (length q) epoch t (length c)) (stateOf w) epoch (length c))
     × (p ≡ either w (sendMemory (sendAnswer (stateOf w) (length q) epoch t (length c)) (stateOf w) epoch t c q) q)
 
-abbrev pub SealingCall : LinkSealing → List ℕ → Type 0
+abbrev pub SealingCall : HuskSealing → List ℕ → Type 0
 SealingCall r w = r ≡ Seals w (sealings.questionOf (stateOf w))
 
 abbrev pub SealedCall : ℕ → List ℕ → List ℕ → ℕ → ℕ → ℕ → List ℕ → List ℕ → Type 0
@@ -118,7 +118,7 @@ SealedCall r v w len m n p q =
     × (p ≡ either w (sealings.sealedMemory (sealings.sealAnswer (stateOf w) (length q) len) (stateOf w) (masks m n) q) q)
 
 -- b the buffer before, c behind
-abbrev pub TakeCall : LinkTake → List ℕ → List ℕ → List ℕ → List ℕ → List ℕ → Type 0
+abbrev pub TakeCall : HuskTake → List ℕ → List ℕ → List ℕ → List ℕ → List ℕ → Type 0
 TakeCall r v w c b q =
     Taken r v w (takes.takeState (takes.takeAnswer (stateOf w) (length q) (length b)) (stateOf w))
     × (c ≡ either w (takes.takeBuffer (takes.takeAnswer (stateOf w) (length q) (length b)) (stateOf w) q b) b)
@@ -128,7 +128,7 @@ abbrev pub placeAnswer : List ℕ → ℕ → TakeAnswer
 placeAnswer w room = takes.takeAnswer (stateOf w) room 65535
 
 -- the part of the queue told is what TakeCall puts at the start of such a buffer b, whatever stands in it
-abbrev pub TakeInPlaceCall : LinkPart → List ℕ → List ℕ → List ℕ → Type 0
+abbrev pub TakeInPlaceCall : HuskPart → List ℕ → List ℕ → List ℕ → Type 0
 TakeInPlaceCall r v w q =
     (r ≡ choose (isFlat w) (flatPart (placeAnswer w (length q)) (stateOf w .queue .first * stateOf w .queue .mtu)) (noPart 0 12))
     × After v w (takes.takeState (placeAnswer w (length q)) (stateOf w) .state)
@@ -196,16 +196,16 @@ in-buffer s q b room have =
     (λ l. nowhere q b ∙ sym (if-false _ _ refl))))
     (λ r. nowhere q b ∙ sym (if-false _ _ refl))
 
-pub taken-part : (r : LinkPart) (w q b : List ℕ) → isFlat w ≡ true → r ≡ flatPart (placeAnswer w (length q)) (stateOf w .queue .first * stateOf w .queue .mtu)
+pub taken-part : (r : HuskPart) (w q b : List ℕ) → isFlat w ≡ true → r ≡ flatPart (placeAnswer w (length q)) (stateOf w .queue .first * stateOf w .queue .mtu)
     → length b ≡ 65535 → splice 0 (part (r .start) (r .length) q) b ≡ either w (takes.takeBuffer (takes.takeAnswer (stateOf w) (length q) (length b)) (stateOf w) q b) b
 taken-part r w q b f e h =
-    ap (λ (x : LinkPart). splice 0 (part (x .start) (x .length) q) b) e
+    ap (λ (x : HuskPart). splice 0 (part (x .start) (x .length) q) b) e
     ∙ in-buffer (stateOf w) q b (length q) 65535
     ∙ ap (λ (n : ℕ). takes.takeBuffer (takes.takeAnswer (stateOf w) (length q) n) (stateOf w) q b) (sym h)
     ∙ sym (if-true _ _ f)
 
-pub no-part : (r : LinkPart) (w q b : List ℕ) (x : List ℕ) → isFlat w ≡ false → r ≡ noPart 0 12 → splice 0 (part (r .start) (r .length) q) b ≡ either w x b
-no-part r w q b x f e = ap (λ (y : LinkPart). splice 0 (part (y .start) (y .length) q) b) e ∙ nowhere q b ∙ sym (if-false _ _ f)
+pub no-part : (r : HuskPart) (w q b : List ℕ) (x : List ℕ) → isFlat w ≡ false → r ≡ noPart 0 12 → splice 0 (part (r .start) (r .length) q) b ≡ either w x b
+no-part r w q b x f e = ap (λ (y : HuskPart). splice 0 (part (y .start) (y .length) q) b) e ∙ nowhere q b ∙ sym (if-false _ _ f)
 
 -- 16 is not answered: no length is beyond 65,535
 pub never-short : (w : List ℕ) (room : ℕ) → takes.refusal (placeAnswer w room) ≡ 16 → ⊥

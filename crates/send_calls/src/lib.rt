@@ -25,7 +25,7 @@ use taking::TakeAnswer;
 // The sealing that is asked for, by kind: 0 refused by 12, 1 none waits, 2 a record's full epoch and number, nonce, header with its
 // number not masked, and the place in the queue of what is to be sealed.
 #[repr(C)]
-pub struct LinkSealing {
+pub struct HuskSealing {
     pub kind: u8,
     pub refusal: u8,
     pub epoch: u16,
@@ -39,7 +39,7 @@ pub struct LinkSealing {
 // A datagram taken, by kind: 0 refused by 12, 16 or 23, 1 the queue is empty, 2 a datagram of so many bytes. For 16 the length is
 // what is needed.
 #[repr(C)]
-pub struct LinkTake {
+pub struct HuskTake {
     pub kind: u8,
     pub refusal: u8,
     pub length: usize,
@@ -48,7 +48,7 @@ pub struct LinkTake {
 // A datagram taken where it lies in the queue, by kind: 0 refused by 12 or 23, 1 the queue is empty, 2 a datagram of so many bytes from a
 // place of the queue on.
 #[repr(C)]
-pub struct LinkPart {
+pub struct HuskPart {
     pub kind: u8,
     pub refusal: u8,
     pub start: usize,
@@ -57,10 +57,10 @@ pub struct LinkPart {
 
 // ---- answers flat
 
-fn no_sealing(kind: u8, refusal: u8) -> LinkSealing
+fn no_sealing(kind: u8, refusal: u8) -> HuskSealing
     ensures { λ r. ⌜ r ≡ noSealing kind refusal ⌝ }
 {
-    LinkSealing {
+    HuskSealing {
         kind: kind,
         refusal: refusal,
         epoch: 0,
@@ -72,7 +72,7 @@ fn no_sealing(kind: u8, refusal: u8) -> LinkSealing
     }
 }
 
-fn flat_sealing(q: SealQuestion, nonce: [u8; 12], header: [u8; 5]) -> LinkSealing
+fn flat_sealing(q: SealQuestion, nonce: [u8; 12], header: [u8; 5]) -> HuskSealing
     ensures { λ r. ⌜ r ≡ flatSealing q nonce header ⌝ }
 {
     match q {
@@ -83,7 +83,7 @@ fn flat_sealing(q: SealQuestion, nonce: [u8; 12], header: [u8; 5]) -> LinkSealin
             number,
             start,
             length,
-        } => LinkSealing {
+        } => HuskSealing {
             kind: 2,
             refusal: 0,
             epoch: epoch,
@@ -96,17 +96,17 @@ fn flat_sealing(q: SealQuestion, nonce: [u8; 12], header: [u8; 5]) -> LinkSealin
     }
 }
 
-fn no_take(kind: u8, refusal: u8, length: usize) -> LinkTake
+fn no_take(kind: u8, refusal: u8, length: usize) -> HuskTake
     ensures { λ r. ⌜ r ≡ noTake kind refusal length ⌝ }
 {
-    LinkTake {
+    HuskTake {
         kind: kind,
         refusal: refusal,
         length: length,
     }
 }
 
-fn flat_take(a: TakeAnswer) -> LinkTake
+fn flat_take(a: TakeAnswer) -> HuskTake
     ensures { λ r. ⌜ r ≡ flatTake a ⌝ }
 {
     match a {
@@ -118,10 +118,10 @@ fn flat_take(a: TakeAnswer) -> LinkTake
     }
 }
 
-fn no_part(kind: u8, refusal: u8) -> LinkPart
+fn no_part(kind: u8, refusal: u8) -> HuskPart
     ensures { λ r. ⌜ r ≡ noPart kind refusal ⌝ }
 {
-    LinkPart {
+    HuskPart {
         kind: kind,
         refusal: refusal,
         start: 0,
@@ -129,11 +129,11 @@ fn no_part(kind: u8, refusal: u8) -> LinkPart
     }
 }
 
-fn flat_part(a: TakeAnswer, start: usize) -> LinkPart
+fn flat_part(a: TakeAnswer, start: usize) -> HuskPart
     ensures { λ r. ⌜ r ≡ flatPart a start ⌝ }
 {
     match a {
-        TakeAnswer::Taken(n) => LinkPart {
+        TakeAnswer::Taken(n) => HuskPart {
             kind: 2,
             refusal: 0,
             start: start,
@@ -196,7 +196,7 @@ pub fn send(
 }
 
 // The oldest sealing that waits.
-pub fn sealing(w: &[u64; WORDS]) -> LinkSealing
+pub fn sealing(w: &[u64; WORDS]) -> HuskSealing
     ensures { λ r. ⌜ SealingCall r (now (w .entry)) ⌝ }
 {
     if send_words::is_flat(w) {
@@ -220,7 +220,7 @@ pub fn sealed(w: &mut [u64; WORDS], length: usize, mask_0: u8, mask_1: u8, queue
 }
 
 // The front datagram, if it is wholly sealed, copied to the start of a buffer.
-pub fn take(w: &mut [u64; WORDS], buffer: &mut [u8], queue: &[u8]) -> LinkTake
+pub fn take(w: &mut [u64; WORDS], buffer: &mut [u8], queue: &[u8]) -> HuskTake
     ensures { λ r. ⌜ TakeCall r (now (w .exit)) (now (w .entry)) (now (buffer .exit)) (now (buffer .entry)) (now (queue .entry)) ⌝ }
 {
     if send_words::is_flat(w) {
@@ -230,7 +230,7 @@ pub fn take(w: &mut [u64; WORDS], buffer: &mut [u8], queue: &[u8]) -> LinkTake
 }
 
 // The front datagram, if it is wholly sealed, taken where it lies in the queue. A length of 16 bits fits a buffer of 65,535.
-pub fn take_in_place(w: &mut [u64; WORDS], queue: &[u8]) -> LinkPart
+pub fn take_in_place(w: &mut [u64; WORDS], queue: &[u8]) -> HuskPart
     ensures { λ r. ⌜ TakeInPlaceCall r (now (w .exit)) (now (w .entry)) (now (queue .entry)) ⌝ }
 {
     if send_words::is_flat(w) {
