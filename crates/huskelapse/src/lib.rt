@@ -95,14 +95,22 @@ pub extern "C" fn husk_receiving_opened(
 // ---- sending
 
 #[no_mangle]
-pub extern "C" fn husk_sending_init(w: &mut [u64; send_words::WORDS], mtu: usize, limit: usize) -> u8
+pub extern "C" fn husk_sending_init(
+    w: &mut [u64; send_words::WORDS],
+    mtu: usize,
+    limit: usize,
+) -> u8
     ensures { λ r. ⌜ sends.FreshCall r (now (w .exit)) mtu limit ⌝ }
 {
     send_calls::fresh(w, mtu, limit)
 }
 
 #[no_mangle]
-pub extern "C" fn husk_sending_key(w: &mut [u64; send_words::WORDS], epoch: u16, iv: &[u8; 12]) -> u8
+pub extern "C" fn husk_sending_key(
+    w: &mut [u64; send_words::WORDS],
+    epoch: u16,
+    iv: &[u8; 12],
+) -> u8
     ensures { λ r. ⌜ sends.KeySendCall r (now (w .exit)) (now (w .entry)) epoch (now (iv .entry)) ⌝ }
 {
     send_calls::key_send(w, epoch, iv)
@@ -153,7 +161,10 @@ pub extern "C" fn husk_sending_take(
 }
 
 #[no_mangle]
-pub extern "C" fn husk_sending_take_in_place(w: &mut [u64; send_words::WORDS], queue: &[u8]) -> HuskPart
+pub extern "C" fn husk_sending_take_in_place(
+    w: &mut [u64; send_words::WORDS],
+    queue: &[u8],
+) -> HuskPart
     ensures { λ r. ⌜ sends.TakeInPlaceCall r (now (w .exit)) (now (w .entry)) (now (queue .entry)) ⌝ }
 {
     send_calls::take_in_place(w, queue)
@@ -162,7 +173,10 @@ pub extern "C" fn husk_sending_take_in_place(w: &mut [u64; send_words::WORDS], q
 // ---- saved records and handshake messages
 
 #[no_mangle]
-pub extern "C" fn husk_flight_init_words(f: &mut [u64; flight_words::WORDS], numbers: &mut [u64; 384])
+pub extern "C" fn husk_flight_init_words(
+    f: &mut [u64; flight_words::WORDS],
+    numbers: &mut [u64; 384],
+)
     ensures { λ _. ⌜ flights.FreshCall (now (f .exit)) (now (numbers .exit)) ⌝ }
 {
     flight_calls::fresh(f, numbers)
