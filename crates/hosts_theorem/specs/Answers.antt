@@ -78,42 +78,12 @@ reading-back (says.Opened e n t s l) v = refl
 reading-back (says.Mask e s) v = refl
 reading-back (says.Opening e n s h l) v = refl
 
--- ---- the nonce: of an opening question, else zeros
+-- ---- the nonce of a reply's answer: that of an opening question, else zeros
 
 abbrev Shown : Step → Type 0
 Shown t = flatReading (t .reading) (t .nonce) .nonce ≡ t .nonce
 
 module _ (k : RecvKeys) (b : Datagram) where
-  nonce-locked : (f : Found) (c : Ciphertext) → Shown (lockedStep f k b c)
-  unfolding lockedStep
-  nonce-locked found.Nothing c = refl
-  nonce-locked (found.At i) c = by-test Shown (λ t. refl) (λ t. by-test Shown (λ u. refl) (λ u. refl))
-
-  nonce-new : (x : Parsed) → Shown (stepOf x k b)
-  unfolding stepOf sealedStep counted
-  nonce-new parse.End = refl
-  nonce-new parse.Incomplete = refl
-  nonce-new (parse.Invalid n) = refl
-  nonce-new (parse.Plaintext c) = by-test Shown (λ t. refl) (λ t. refl)
-  nonce-new (parse.Ciphertext c) =
-      by-test Shown (λ e. nonce-locked (resolve k (c .«epoch_bits»)) c)
-      (λ e. by-test Shown (λ t. refl) (λ t. by-test Shown (λ u. refl) (λ u. refl)))
-
-  nonce-again : (f : Found) (a : Ask) (n : ℕ) → Shown (askedAgain f k b a n)
-  unfolding askedAgain openingAsked
-  nonce-again found.Nothing a n = refl
-  nonce-again (found.At i) a n = refl
-
-  nonce-asking : (q : Question) (d : List ℕ) → Shown (asking q k b d)
-  unfolding asking
-  nonce-asking question.Nothing d = nonce-new (parsed (drop (b .at) d))
-  nonce-asking (question.Mask a) d = refl
-  nonce-asking (question.Opening a n) d = nonce-again (find (k .entries) (a .epoch) (k .count)) a n
-
-  pub read-nonce : (d : List ℕ) → Shown (readStep k b d)
-  unfolding readStep
-  read-nonce d = by-test Shown (λ s. by-test Shown (λ t. nonce-asking (b .question) d) (λ t. refl)) (λ s. refl)
-
   nonce-judged : (e : RecvEpochEntry) (a : Ask) (n : ℕ) → Shown (judged e b a n)
   unfolding judged openingAsked
   nonce-judged e a n = by-test Shown (λ t. refl) (λ t. by-test Shown (λ u. refl) (λ u. refl))
@@ -181,45 +151,46 @@ module _ (k : RecvKeys) (b : Datagram) (d p : List ℕ) where
   abbrev flat : Step → HuskReading
   flat t = flatReading (t .reading) (t .nonce)
 
-  -- an answer of kind 7 names the part that the question lends
+  -- an answer of kind 7 names the part that the question lends; and an answer has the nonce of its step
   abbrev Names : Question → Step → Type 0
-  Names q t = flat t .kind ≡ 7 → length p ≤ flat t .length → splice (flat t .start + flat t .«header_len») p d ≡ writesIn q (b .at) d p
+  Names q t = Shown t × (flat t .kind ≡ 7 → length p ≤ flat t .length → splice (flat t .start + flat t .«header_len») p d ≡ writesIn q (b .at) d p)
 
   -- a record that the cut comes to shows no opening
   locked : (f : Found) (c : Ciphertext) → Names question.Nothing (lockedStep f k b c)
   unfolding lockedStep
-  locked found.Nothing c = λ z l. absurd (omega arith)
+  locked found.Nothing c = (refl, λ z l. absurd (omega arith))
   locked (found.At i) c =
-      by-test (Names question.Nothing) (λ t z l. absurd (omega arith))
-      (λ t. by-test (Names question.Nothing) (λ u z l. absurd (omega arith)) (λ u z l. absurd (omega arith)))
+      by-test (Names question.Nothing) (λ t. (refl, λ z l. absurd (omega arith)))
+      (λ t. by-test (Names question.Nothing) (λ u. (refl, λ z l. absurd (omega arith))) (λ u. (refl, λ z l. absurd (omega arith))))
 
   new-record : (x : Parsed) → Names question.Nothing (stepOf x k b)
   unfolding stepOf sealedStep counted
-  new-record parse.End = λ z l. absurd (omega arith)
-  new-record parse.Incomplete = λ z l. absurd (omega arith)
-  new-record (parse.Invalid n) = λ z l. absurd (omega arith)
-  new-record (parse.Plaintext c) = by-test (Names question.Nothing) (λ t z l. absurd (omega arith)) (λ t z l. absurd (omega arith))
+  new-record parse.End = (refl, λ z l. absurd (omega arith))
+  new-record parse.Incomplete = (refl, λ z l. absurd (omega arith))
+  new-record (parse.Invalid n) = (refl, λ z l. absurd (omega arith))
+  new-record (parse.Plaintext c) =
+      by-test (Names question.Nothing) (λ t. (refl, λ z l. absurd (omega arith))) (λ t. (refl, λ z l. absurd (omega arith)))
   new-record (parse.Ciphertext c) =
       by-test (Names question.Nothing) (λ e. locked (resolve k (c .«epoch_bits»)) c)
-      (λ e. by-test (Names question.Nothing) (λ t z l. absurd (omega arith))
-      (λ t. by-test (Names question.Nothing) (λ u z l. absurd (omega arith)) (λ u z l. absurd (omega arith))))
+      (λ e. by-test (Names question.Nothing) (λ t. (refl, λ z l. absurd (omega arith)))
+      (λ t. by-test (Names question.Nothing) (λ u. (refl, λ z l. absurd (omega arith))) (λ u. (refl, λ z l. absurd (omega arith)))))
 
   by-question : (q : Question) → Names q (asking q k b d)
   unfolding asking askedAgain openingAsked
   by-question question.Nothing = new-record (parsed (drop (b .at) d))
-  by-question (question.Mask a) = λ z l. absurd (omega arith)
+  by-question (question.Mask a) = (refl, λ z l. absurd (omega arith))
   by-question (question.Opening a n) = go (find (k .entries) (a .epoch) (k .count))
     where
       go : (f : Found) → Names (question.Opening a n) (askedAgain f k b a n)
-      go found.Nothing = λ z l. absurd (omega arith)
-      go (found.At i) = λ z l. sym (if-true _ _ (le-leb _ _ l))
+      go found.Nothing = (refl, λ z l. absurd (omega arith))
+      go (found.At i) = (refl, λ z l. sym (if-true _ _ (le-leb _ _ l)))
 
   pub read-names : Names (b .question) (readStep k b d)
   unfolding readStep
   read-names =
       by-test (Names (b .question))
-      (λ s. by-test (Names (b .question)) (λ t. by-question (b .question)) (λ t z l. absurd (omega arith)))
-      (λ s z l. absurd (omega arith))
+      (λ s. by-test (Names (b .question)) (λ t. by-question (b .question)) (λ t. (refl, λ z l. absurd (omega arith))))
+      (λ s. (refl, λ z l. absurd (omega arith)))
 
 -- ---- the part of the queue
 

@@ -1,6 +1,6 @@
 -- Every list of calls of the C library on two hosts: the events of crate ends_theorem that it is, and the claim of what the hosts saw.
 use Prim.Native.Nat.{ℕ, _+_, _*_, _≤_, _<_}
-use lib.Dec.{leb, ltb}
+use lib.Dec.{eqb, leb, ltb}
 use lib.ListN.{length, replicate}
 use mathlib.Core.Bool.{true}
 use mathlib.Core.List.{List, [], _∷_, _++_}
@@ -32,33 +32,38 @@ use Rattle.send_calls.specs.declared.HuskSealing.{HuskSealing}
 use Rattle.flight_calls.specs.Calls as flights
 use Rattle.waiting_laws.specs.Calls.{Stores, fill·}
 use Rattle.history_theorem.specs.Account.{sealedHead, nothing, keyOwed}
-use Rattle.history_theorem.specs.Claim.{Masks, Proper}
+use Rattle.history_theorem.specs.Claim.{Masks, Proper, nonceFor}
 use Rattle.history_theorem.specs.Receiver.{aRead, aMaskReply, anOpenReply, removeOwed, beginOwed, Inbound, Call, key·, remove·, encrypt·, release·, begin·, read·, mask·, write·, open·, readOver·, maskOver·, openOver·}
 use Rattle.ends_theorem.specs.Claim.{Holds}
 use Rattle.ends_theorem.specs.Ledger.{Item, items, oldest, owed, shortReply}
-use Rattle.ends_theorem.specs.Sender.{Lent}
+use Rattle.ends_theorem.specs.Sender.{Lent, sealedHeader}
 use Rattle.ends_theorem.specs.World.{Side, post, gateway, far, End, Deed, sending, over, receiving, Event, World, run, Setting, newEnd, fresh-pair, FairDeed, Honest}
 use Rattle.hosts_theorem.specs.Memory.{Incoming, Outgoing, InCall, «husk_receiving_key», «husk_receiving_remove», «husk_receiving_enable_encryption», «husk_receiving_release_application_data», «husk_receiving_begin», «husk_receiving_begin_read», «husk_receiving_read», «husk_receiving_mask», «husk_receiving_opened», «husk_receiving_read_over», «husk_receiving_mask_over», «husk_receiving_opened_over», «host_writes», OutCall, «husk_sending_key», «husk_sending_send», «husk_sending_sealed», «husk_sending_take», «husk_sending_take_in_place», «husk_flight_begin», «husk_flight_send», «husk_flight_message», «husk_flight_resend», «husk_flight_ack», «husk_notes_add», «husk_notes_send», behindOut, lends}
 use Rattle.hosts_theorem.specs.Log.{flatRead, readingOf, replyOf, Host, Act, inward, «husk_sending_sealing», outward, outwardOver, «host_seals», Made, behind, storesOf, sealingOf, showsNow, sendOf}
 
 -- ---- two hosts and a list of calls
 
+-- a host on either side
 abbrev pub Hosts : Type 0
 Hosts = Side → Host
 
+-- a call, and at which of the two
 pub record CCall : Type 0 where
   pub side : Side
   pub act : Act
 
+-- one host in the place of that side
 abbrev pub put : Side → Host → Hosts → Hosts
 put post h hs post = h
 put post h hs gateway = hs gateway
 put gateway h hs post = hs post
 put gateway h hs gateway = h
 
+-- both hosts behind one call
 abbrev pub after : Hosts → CCall → Hosts
 after hs a = put (a .side) (behind (hs (far (a .side))) (hs (a .side)) (a .act)) hs
 
+-- and behind a list of calls
 abbrev pub runs : Hosts → List CCall → Hosts
 runs hs [] = hs
 runs hs (a ∷ cs) = runs (after hs a) cs
@@ -70,6 +75,7 @@ AllMade hs (a ∷ cs) = Made (hs (a .side)) (a .act) × AllMade (after hs a) cs
 
 -- ---- the words stand for the log's state
 
+-- of receiving, and the begun datagram is the log's
 pub record StandsIn (h : Incoming) (i : Inbound) : Type 0 where
   pub flat : isFlat (h .words) ≡ true
   pub state : stateOf (h .words) ≡ i .into .state
@@ -82,13 +88,15 @@ pub record StandsOut (h : Outgoing) (e : End) : Type 0 where
   pub stores : storesOf h ≡ e .out .stores
   pub shown : (old : Option Lent) × (e .out .lent ≡ showsNow (sealingOf (h .words)) (h .queue) old)
 
+-- of both
 pub record Stands (h : Host) : Type 0 where
   pub incoming : StandsIn (h .incoming) (h .seen .into)
   pub outgoing : StandsOut (h .outgoing) (h .seen)
 
--- ---- the start: words made by husk_receiving_init and husk_sending_init, which answered 0, and by husk_flight_init; notes of zeros; lent memory
--- with any first contents, a queue not under its limit times the MTU; nothing in the log but the settings
+-- ---- the start
 
+-- words made by husk_receiving_init and husk_sending_init, which answered 0, and by husk_flight_init; notes of zeros; lent memory
+-- with any first contents, a queue not under its limit times the MTU; nothing in the log but the settings
 pub record Started (s : Setting) (h : Host) : Type 0 where
   pub receiving : receive.FreshCall 0 (h .incoming .words) (s .min)
   pub datagram : h .incoming .datagram ≡ []
@@ -104,6 +112,7 @@ pub record Started (s : Setting) (h : Host) : Type 0 where
 
 -- ---- the events that a call is
 
+-- a receiving call
 abbrev pub callsOf : InCall → List Call
 callsOf («husk_receiving_key» r v epoch iv) = key· epoch iv ∷ []
 callsOf («husk_receiving_remove» r v epoch) = remove· epoch ∷ []
@@ -121,10 +130,12 @@ callsOf («husk_receiving_mask_over» r v m n e d) = maskOver· (receive.masks m
 callsOf («husk_receiving_opened_over» r v o len d) = choose (leb o 1) (openOver· (openingOf o len) d ∷ []) []
 callsOf («host_writes» r p) = write· p ∷ []
 
+-- receiving calls at an end
 abbrev pub hearing : List Call → List Deed
 hearing [] = []
 hearing (c ∷ cs) = receiving c ∷ hearing cs
 
+-- any call
 abbrev pub deedsOf : Act → List Deed
 deedsOf (inward c) = hearing (callsOf c)
 -- only shows
@@ -133,16 +144,19 @@ deedsOf (outward c) = sending (sendOf c) ∷ []
 deedsOf (outwardOver c q k) = over (sendOf c) q k ∷ []
 deedsOf («host_seals» r bytes) = sending (fill· bytes) ∷ []
 
+-- at that side
 abbrev pub at : Side → List Deed → List Event
 at s [] = []
 at s (d ∷ ds) = record { side = s; deed = d } ∷ at s ds
 
+-- a list of calls
 abbrev pub eventsOf : List CCall → List Event
 eventsOf [] = []
 eventsOf (a ∷ cs) = at (a .side) (deedsOf (a .act)) ++ eventsOf cs
 
 -- ---- each answer is the one that the definitions give, never that for words which stand for nothing
 
+-- by the definitions that the contracts cite, over what the words stand for
 abbrev pub AnsweredIn : Incoming → InCall → Type 0
 AnsweredIn h («husk_receiving_key» r v epoch iv) = r ≡ answerOf (keyOf (stateOf (h .words)) epoch iv .answer)
 AnsweredIn h («husk_receiving_remove» r v epoch) = r ≡ answerOf (removeOf (stateOf (h .words)) epoch .answer)
@@ -160,6 +174,7 @@ AnsweredIn h («husk_receiving_opened_over» r v o len d) =
     r ≡ choose (leb o 1) (flatRead (openedOf (stateOf (h .words)) (openingOf o len) d)) (bare 0 12)
 AnsweredIn h («host_writes» r p) = r ≡ flatRead (readOf (stateOf (h .words)) (h .datagram))
 
+-- over what the sending host's memory stands for
 abbrev pub AnsweredOut : Stores → OutCall → Type 0
 AnsweredOut w («husk_sending_key» r v epoch iv) = r ≡ refusal (keyingState (w .state) epoch iv .answer)
 AnsweredOut w («husk_sending_send» r v epoch t c p) =
@@ -180,12 +195,13 @@ AnsweredOut w («husk_flight_ack» r g m c) = r ≡ refusal (acked (w .flight) c
 AnsweredOut w («husk_notes_add» r x y z epoch number) = r ≡ noting.refusal (noting.noted (w .notes) epoch number .answer)
 AnsweredOut w («husk_notes_send» r v x y z p) = r ≡ refusal (noting.sentAck (w .state) (w .notes) (length (w .queue)) .answer)
 
--- the question that husk_sending_sealing shows is the one that the world lends: kind 2 and its fields; no other kind shows one
+-- the question that husk_sending_sealing shows is the one in the log: kind 2 and its fields; no other kind shows one
 abbrev pub Shows : Option Lent → HuskSealing → Type 0
 Shows none r = r .kind ≡ 2 → ⊥
 Shows (some l) r =
     r ≡ record { kind = 2; refusal = 0; epoch = l .epoch; number = l .num; start = l .place; length = l .size; nonce = l .nonce; header = l .header }
 
+-- of any call
 abbrev pub Answered : Host → Act → Type 0
 Answered h (inward c) = AnsweredIn (h .incoming) c
 Answered h («husk_sending_sealing» r) = Shows (h .seen .out .lent) r
@@ -193,6 +209,7 @@ Answered h (outward c) = AnsweredOut (storesOf (h .outgoing)) c
 Answered h (outwardOver c q k) = AnsweredOut (storesOf (lends (h .outgoing) q k)) c
 Answered h («host_seals» r bytes) = Shows (h .seen .out .lent) r
 
+-- of every call in the list, each over the memory that it met
 abbrev pub AllAnswered : Hosts → List CCall → Type 0
 AllAnswered hs [] = Unit {0}
 AllAnswered hs (a ∷ cs) = Answered (hs (a .side)) (a .act) × AllAnswered (after hs a) cs
@@ -218,21 +235,51 @@ OwedIn i («husk_receiving_opened_over» r v o len d) = (o ≤ 1 → readingOf r
 -- no call
 OwedIn i («host_writes» r p) = Unit {0}
 
--- a sealing is asked exactly while a record waits, for the oldest
-abbrev pub OwedSealing : Option Item → HuskSealing → Type 0
-OwedSealing none r = r .kind ≡ 2 → ⊥
-OwedSealing (some i) r = (r .kind ≡ 2) × (r .epoch ≡ i .epoch) × (r .number ≡ i .num) × (r .length + sealedHead ≡ i .size)
+-- the sealing of a record in the queue: kind 2, the record behind its header, the nonce by the IV that the host keyed its epoch with, 01's header
+pub record SealingOf (ivs : ℕ → List ℕ) (i : Item) (r : HuskSealing) : Type 0 where
+  pub kind : r .kind ≡ 2
+  pub epoch : r .epoch ≡ i .epoch
+  pub number : r .number ≡ i .num
+  pub size : r .length + sealedHead ≡ i .size
+  pub nonce : r .nonce ≡ nonceFor (ivs (i .epoch)) (i .num)
+  pub header : r .header ≡ sealedHeader (i .epoch) (i .num) (r .length)
+
+-- a sealing is asked exactly while a record waits, for the oldest; else kind 1
+abbrev pub OwedSealing : (ℕ → List ℕ) → Option Item → HuskSealing → Type 0
+OwedSealing ivs none r = r ≡ sends.noSealing 1 0
+OwedSealing ivs (some i) r = SealingOf ivs i r
+
+-- the kind that a take is answered with, by the datagrams queued and 01's number: 1 where none is queued, 2 where one is taken, 0 where it is refused
+abbrev pub kindOwed : List (List Item) → ℕ → ℕ
+kindOwed [] n = 1
+kindOwed (d ∷ ds) n = choose (eqb n 0) 2 0
+
+-- no other sending call answers with a kind
+abbrev pub OwedKind : List (List Item) → OutCall → Type 0
+OwedKind q («husk_sending_take» r v b c) = r .kind ≡ kindOwed q (r .refusal)
+OwedKind q («husk_sending_take_in_place» r v) = r .kind ≡ kindOwed q (r .refusal)
+OwedKind q («husk_sending_key» r v epoch iv) = Unit {0}
+OwedKind q («husk_sending_send» r v epoch t c p) = Unit {0}
+OwedKind q («husk_sending_sealed» r v len m n p) = Unit {0}
+OwedKind q («husk_flight_begin» r g) = Unit {0}
+OwedKind q («husk_flight_send» r v g m epoch t c p j) = Unit {0}
+OwedKind q («husk_flight_message» r v g m kind body p j) = Unit {0}
+OwedKind q («husk_flight_resend» r v g m p) = Unit {0}
+OwedKind q («husk_flight_ack» r g m c) = Unit {0}
+OwedKind q («husk_notes_add» r x y z epoch number) = Unit {0}
+OwedKind q («husk_notes_send» r v x y z p) = Unit {0}
 
 -- a sending call: 01's number and what is told besides; over memory that is too short 12, and no byte of it changes
 abbrev pub Owed : Host → Act → Type 0
 Owed h (inward c) = OwedIn (h .seen .into) c
-Owed h («husk_sending_sealing» r) = OwedSealing (oldest (items (h .seen .ledger .queue))) r
-Owed h (outward c) = replyOf (h .outgoing) c ≡ owed (h .seen .ledger) (sendOf c)
+Owed h («husk_sending_sealing» r) = OwedSealing (h .seen .out .ivs) (oldest (items (h .seen .ledger .queue))) r
+Owed h (outward c) = (replyOf (h .outgoing) c ≡ owed (h .seen .ledger) (sendOf c)) × OwedKind (h .seen .ledger .queue) c
 Owed h (outwardOver c q k) =
     let m = lends (h .outgoing) q k in
     (replyOf m c ≡ shortReply (sendOf c)) × (behindOut m c .queue ≡ q) × (behindOut m c .kept ≡ k)
-Owed h («host_seals» r bytes) = OwedSealing (oldest (items (h .seen .ledger .queue))) r
+Owed h («host_seals» r bytes) = OwedSealing (h .seen .out .ivs) (oldest (items (h .seen .ledger .queue))) r
 
+-- of every call in the list, each by the account that it met
 abbrev pub AllOwed : Hosts → List CCall → Type 0
 AllOwed hs [] = Unit {0}
 AllOwed hs (a ∷ cs) = Owed (hs (a .side)) (a .act) × AllOwed (after hs a) cs
@@ -240,10 +287,12 @@ AllOwed hs (a ∷ cs) = Owed (hs (a .side)) (a .act) × AllOwed (after hs a) cs
 -- ---- what is asked of the hosts: what the claim asks of each event, by what the hosts saw. Of the two that husk_receiving_begin_read is nothing is
 -- asked, so each is asked before the call
 
+-- f the far end, e the end of the side s
 abbrev pub FairDeeds : (Side → Masks) → Side → End → End → List Deed → Type 0
 FairDeeds masks s f e [] = Unit {0}
 FairDeeds masks s f e (d ∷ ds) = FairDeed masks s f e d × FairDeeds masks s f e ds
 
+-- of every call in the list, each by what the hosts saw until then
 abbrev pub AllFair : (Side → Masks) → Hosts → List CCall → Type 0
 AllFair masks hs [] = Unit {0}
 AllFair masks hs (c ∷ cs) =

@@ -1,68 +1,244 @@
--- Hosts that start: for every setting in range the words that the three starting calls leave, so that the claim is not hollow. Assumes nothing.
+-- A worked list of calls of the C library whose premises are met, computed: a record is keyed, sent, sealed and taken at the post, and read, unmasked,
+-- opened and handed over at the gateway; the words behind each call are given. Assumes nothing.
 use Prim.Native.Nat.{ℕ}
+use native.Mathlib.Omega.{arith}
 use lib.ListN.{replicate, set}
-use mathlib.Core.List.{List, []}
-use mathlib.Core.Path.{_≡_, refl, sym, ap, _∙_}
-use Rattle.base.specs.Choose.{by-test}
-use Rattle.receiving.specs.Receiving.{freshOf}
-use Rattle.receiving.specs.declared.Kept.{Kept}
-use Rattle.recv_keys.specs.Keys.{fresh}
-use Rattle.recv_keys.specs.declared.RecvKeys.{RecvKeys}
-use Rattle.datagram.specs.Datagram.{begun}
-use Rattle.datagram.specs.declared.Datagram.{Datagram}
-use Rattle.recv_words.specs.Words.{datagramOf}
-use Rattle.recv_words.specs.Entries as entries
-use Rattle.recv_key_steps.specs.Kept as kept
-use Rattle.send_words.specs.Words.{words, mtu-at, limit-at}
-use Rattle.flight_words.specs.Words as flightWords
-use Rattle.send_calls.specs.Calls.{starts-done}
-use Rattle.flight_calls.specs.Calls as flights
+use mathlib.Core.Bool.{true, false}
+use mathlib.Core.List.{List, [], _∷_, _++_, List·Memᴰ·head as here}
+use mathlib.Core.Path.{_≡_, refl}
+use Rattle.base.specs.Bits as base-bits
+use Rattle.base.specs.Choose as base-choose
+use Rattle.base.specs.Parts as base-parts
+use Rattle.window.specs.Used as window-used
+use Rattle.window.specs.Window as window-window
+use Rattle.sequence.specs.Sequence as sequence-sequence
+use Rattle.record.specs.Record as record-record
+use Rattle.dtls_aead.specs.Nonce as dtls-aead-nonce
+use Rattle.incoming.specs.Inner as incoming-inner
+use Rattle.recv_keys.specs.Keys as recv-keys-keys
+use Rattle.datagram.specs.Datagram as datagram-datagram
+use Rattle.datagram.specs.declared.Ask.{Ask}
+use Rattle.datagram.specs.declared.Question.the-variants as question
+use Rattle.records.specs.Records as records-records
+use Rattle.mask_reply.specs.Mask as mask-reply-mask
+use Rattle.opening_reply.specs.Opening as opening-reply-opening
+use Rattle.receiving.specs.Receiving as receiving-receiving
+use Rattle.queue.specs.Laid as queue-laid
+use Rattle.queue.specs.Queue as queue-queue
+use Rattle.send_keys.specs.Keys as send-keys-keys
+use Rattle.outgoing.specs.Send as outgoing-send
+use Rattle.outgoing.specs.State as outgoing-state
+use Rattle.sealing.specs.Sealing as sealing-sealing
+use Rattle.sealing.specs.Seek as sealing-seek
+use Rattle.taking.specs.Take as sealing-take
+use Rattle.words.specs.Packed as packed
+use Rattle.recv_words.specs.Words as recv-words
+use Rattle.recv_words.specs.Entries.{freshWords}
+use Rattle.recv_calls.specs.Calls as recv-calls
+use Rattle.recv_calls.specs.Flat as recv-flat
+use Rattle.recv_calls.specs.Flat.{shown, asked}
+use Rattle.recv_calls.specs.declared.HuskReading.{HuskReading}
+use Rattle.send_words.specs.Words as send-words
+use Rattle.send_calls.specs.Calls.{noTake}
+use Rattle.send_calls.specs.declared.HuskSealing.{HuskSealing}
+use Rattle.history_theorem.specs.Account as history-account
+use Rattle.history_theorem.specs.Claim.{Masks}
+use Rattle.history_theorem.specs.Example.{yes-fair}
+use Rattle.history_theorem.specs.Receiver as history-receiver
+use Rattle.history_theorem.specs.Receiver.{Sealed}
 use Rattle.ends_theorem.specs.Claim.{Startable}
-use Rattle.ends_theorem.specs.Starting.{ranges-setting, receiving-starts}
-use Rattle.ends_theorem.specs.World.{Setting, newEnd}
-use Rattle.hosts_theorem.specs.Log.{Host}
-use Rattle.hosts_theorem.specs.Claim.{Started}
+use Rattle.ends_theorem.specs.Ledger as ends-ledger
+use Rattle.ends_theorem.specs.Sender as ends-sender
+use Rattle.ends_theorem.specs.World.{Side, post, gateway, Setting}
+use Rattle.hosts_theorem.specs.Memory.{«husk_receiving_key», «husk_receiving_enable_encryption», «husk_receiving_begin_read», «husk_receiving_mask», «husk_receiving_opened», «host_writes», «husk_sending_key», «husk_sending_send», «husk_sending_sealed», «husk_sending_take»}
+use Rattle.hosts_theorem.specs.Log as hosts-log
+use Rattle.hosts_theorem.specs.Log.{Act, inward, «husk_sending_sealing», outward, «host_seals»}
+use Rattle.hosts_theorem.specs.Claim.{Hosts, CCall, runs, AllMade, AllFair, Started, Refines}
+use Rattle.hosts_theorem.specs.Starts.{sendingWords, firstHost, starts}
+use Rattle.hosts_theorem.specs.Proof.{every-list-of-calls}
 
--- words of 0 but for the settings
-abbrev pub sendingWords : ℕ → ℕ → List ℕ
-sendingWords mtu limit = set (set (replicate words 0) mtu-at mtu) limit-at limit
+-- every definition that the list computes with
+opened : Unit {0}
+unfolding base-bits.bit base-choose.choose base-choose.both base-choose.either base-parts.splice window-used.expected window-window.isFresh window-window.marking sequence-sequence.own sequence-sequence.below sequence-sequence.above sequence-sequence.nearest record-record.headerLen record-record.fragmentLen record-record.partialOf record-record.parseCiphertext record-record.isType record-record.parsed record-record.unifiedHeader dtls-aead-nonce.nonceOf incoming-inner.innerOf recv-keys-keys.fits recv-keys-keys.lastFit recv-keys-keys.find recv-keys-keys.orElse recv-keys-keys.two recv-keys-keys.resolve recv-keys-keys.wasFound recv-keys-keys.isKeyed recv-keys-keys.marked recv-keys-keys.appOne recv-keys-keys.apps recv-keys-keys.windowsSound recv-keys-keys.keysSound recv-keys-keys.isFull recv-keys-keys.installed datagram-datagram.askSound datagram-datagram.askKeyed datagram-datagram.openingSound datagram-datagram.questionSound datagram-datagram.isSound datagram-datagram.counted records-records.lockedStep records-records.sealedStep records-records.stepOf records-records.openingAsked records-records.askedAgain records-records.asking records-records.readStep mask-reply-mask.unmasked mask-reply-mask.rebuilt mask-reply-mask.judged mask-reply-mask.maskedAt mask-reply-mask.maskedBy mask-reply-mask.masking mask-reply-mask.maskStep opening-reply-opening.typed opening-reply-opening.openedAt opening-reply-opening.openedBy opening-reply-opening.openings opening-reply-opening.openedStep receiving-receiving.freshOf receiving-receiving.keyOf receiving-receiving.encryptOf receiving-receiving.beginOf queue-laid.trailerOf queue-laid.recordLen queue-laid.recordBytes queue-queue.isSetting queue-queue.isSound queue-queue.isReady queue-queue.slotOf queue-queue.lastLen queue-queue.tailOf queue-queue.placeOf queue-queue.grown queue-queue.laid queue-queue.startOf send-keys-keys.noEpoch send-keys-keys.noKeys send-keys-keys.isUsable send-keys-keys.isKeyed send-keys-keys.nextOf send-keys-keys.ivOf send-keys-keys.used send-keys-keys.sealedUpTo send-keys-keys.keyAnswer send-keys-keys.keyed outgoing-send.waitsBehind outgoing-send.laidState outgoing-send.laidMemory outgoing-send.sendAnswer outgoing-send.sendState outgoing-send.sendMemory outgoing-state.noWaiting outgoing-state.freshSending outgoing-state.started outgoing-state.isContentType outgoing-state.isAllowed outgoing-state.keyingState sealing-sealing.isSpan sealing-sealing.isHeld sealing-sealing.isAsked sealing-sealing.partStart sealing-sealing.questionOf sealing-sealing.maskedHeader sealing-sealing.behindOldest sealing-sealing.sealAnswer sealing-sealing.sealedState sealing-sealing.sealedMemory sealing-seek.nthOf sealing-seek.beyond sealing-seek.passed sealing-seek.foundAt sealing-seek.stepOf sealing-seek.seekStep sealing-seek.seek sealing-take.nextSlot sealing-take.takeAnswer sealing-take.takeState sealing-take.takeBuffer packed.ivOf recv-words.entriesOf recv-words.questionOf recv-words.isFlat send-words.lowsFrom send-words.isFlat recv-calls.firstReading recv-calls.firstState recv-flat.openingOf history-account.upd history-account.keyOwed history-account.keys history-account.resolvesTo history-account.sealedSize history-account.plainSize history-account.recordSize history-account.goodPlain history-receiver.beginOwed ends-sender.lends ends-ledger.joins ends-ledger.lays ends-ledger.isOld ends-ledger.keyNumber ends-ledger.keyed ends-ledger.isUsable ends-ledger.isType ends-ledger.isAllowed ends-ledger.hasKeys ends-ledger.queueNumber ends-ledger.sendNumber ends-ledger.after ends-ledger.sentBy hosts-log.reasonIn hosts-log.readingOf
+opened = tt
 
-abbrev pub firstHost : Setting → Host
-firstHost s = record {
-  incoming = record { words = entries.freshWords (s .min); datagram = [] };
-  outgoing = record {
-    words = sendingWords (s .mtu) (s .limit);
-    queue = s .queue;
-    flight = replicate flightWords.words 0;
-    numbers = replicate 384 0;
-    kept = s .kept;
-    count = replicate 1 0;
-    epochs = replicate 32 0;
-    noted = replicate 32 0;
-  };
-  seen = newEnd s;
-}
+-- ---- the calls
 
-fresh-is : (min : ℕ) → freshOf min .state ≡ record { keys = fresh min; datagram = begun 0 }
-unfolding freshOf
-fresh-is min = by-test (λ (r : Kept). r .state ≡ record { keys = fresh min; datagram = begun 0 }) (λ t. refl) (λ t. refl)
+settings : Side → Setting
+settings s = record { mtu = 576; limit = 1; min = 16; queue = replicate 576 0; kept = [] }
 
-receives : (min : ℕ) → kept.stateOf (entries.freshWords min) ≡ freshOf min .state
-receives min =
-    ap (λ (k : RecvKeys). record { keys = k; datagram = datagramOf (entries.freshWords min) }) (entries.starts min .0)
-    ∙ ap (λ (b : Datagram). record { keys = fresh min; datagram = b }) (entries.starts min .1) ∙ sym (fresh-is min)
+abbrev iv : List ℕ
+iv = replicate 12 1
 
-pub starts : (s : Setting) → Startable s → Started s (firstHost s)
-starts s o = record {
-  receiving = (sym (receiving-starts (s .min) .0 .1 (o .min)), receives (s .min), entries.starts (s .min) .2);
-  datagram = refl;
-  sending = starts-done (s .mtu) (s .limit) (ranges-setting (s .mtu) (s .limit) (record { low = o .low; high = o .high; some = o .some; most = o .most }));
-  queue = refl;
-  room = o .room;
-  flight = flights.starts;
-  kept = refl;
-  count = refl;
-  epochs = refl;
-  noted = refl;
-  seen = refl;
-}
+-- the words of sending: keyed; a record queued that waits to be sealed; sealed; taken
+abbrev handshake : ℕ → ℕ → List ℕ → List ℕ
+handshake next sealed w = send-words.putEpoch send-words.handshake-at send-words.handshake-iv-at (record { epoch = 2; iv = iv; next = next; sealed = sealed }) w
+
+abbrev v₁ : List ℕ
+v₁ = handshake 0 0 (sendingWords 576 1)
+
+abbrev v₂ : List ℕ
+v₂ =
+    send-words.putWaiting (record { any = true; slot = 0; start = 0; length = 18; epoch = 2; number = 0 })
+    (handshake 1 0 (set (set v₁ send-words.count-at 1) (send-words.length-at 0) 23))
+
+abbrev v₃ : List ℕ
+v₃ = send-words.putWaiting (record { any = false; slot = 0; start = 0; length = 0; epoch = 0; number = 0 }) (handshake 1 1 v₂)
+
+abbrev v₄ : List ℕ
+v₄ = set v₃ send-words.count-at 0
+
+-- the words of receiving: keyed; encrypted; a mask asked; an opening asked; opened
+abbrev u₁ : List ℕ
+u₁ =
+    recv-words.putEntry 0 (record { epoch = 2; iv = iv; replay = record { «max_seq» = 0; window = 0 } })
+    (set (set (freshWords 16) recv-words.count-at 1) recv-words.highest-at 2)
+
+abbrev u₂ : List ℕ
+u₂ = set u₁ recv-words.encrypted-at 1
+
+abbrev ask : Ask
+ask = record { epoch = 2; «s_flag» = true; «header_len» = 5; length = 18 }
+
+abbrev u₃ : List ℕ
+u₃ = recv-words.putDatagram (record { size = 23; at = 0; readings = 0; question = question.Mask ask }) u₂
+
+abbrev u₄ : List ℕ
+u₄ = recv-words.putDatagram (record { size = 23; at = 0; readings = 0; question = question.Opening ask 0 }) u₂
+
+abbrev u₅ : List ℕ
+u₅ = recv-words.putDatagram (record { size = 23; at = 23; readings = 1; question = question.Nothing }) (recv-words.putWindow 0 (record { «max_seq» = 0; window = 1 }) u₄)
+
+-- content and type of the record, and what a cipher that appends sixteen sevens makes of them; its header, and that with the mask 1, 2
+abbrev inner : List ℕ
+inner = 5 ∷ 22 ∷ []
+
+abbrev cipher : List ℕ
+cipher = inner ++ replicate 16 7
+
+abbrev header : List ℕ
+header = 46 ∷ 0 ∷ 0 ∷ 0 ∷ 18 ∷ []
+
+abbrev wire : List ℕ
+wire = 46 ∷ 1 ∷ 2 ∷ 0 ∷ 18 ∷ cipher
+
+-- in the queue, where the tag's place has the epoch and the number until it is sealed, and in the buffer of 576 bytes
+abbrev alone : List ℕ → List ℕ
+alone d = d ++ replicate 553 0
+
+abbrev sealAsked : HuskSealing
+sealAsked = record { kind = 2; refusal = 0; epoch = 2; number = 0; start = 5; length = 18; nonce = iv; header = header }
+
+abbrev openAsked : HuskReading
+openAsked = asked 2 0 0 5 18 iv
+
+abbrev by : Side → Act → CCall
+by s a = record { side = s; act = a }
+
+talk : List CCall
+talk =
+    by post (outward («husk_sending_key» 0 v₁ 2 iv))
+    ∷ by post (outward («husk_sending_send» 0 v₂ 2 22 (5 ∷ []) (alone (header ++ inner ++ 0 ∷ 2 ∷ replicate 14 0))))
+    ∷ by post («husk_sending_sealing» sealAsked)
+    ∷ by post («host_seals» sealAsked cipher)
+    ∷ by post (outward («husk_sending_sealed» 0 v₃ 18 1 2 (alone wire)))
+    ∷ by post (outward («husk_sending_take» (noTake 2 0 23) v₄ (replicate 576 0) (alone wire)))
+    ∷ by gateway (inward («husk_receiving_key» 0 u₁ 2 iv))
+    ∷ by gateway (inward («husk_receiving_enable_encryption» 0 u₂))
+    ∷ by gateway (inward («husk_receiving_begin_read» (shown 6 0 2 0 5 16) u₃ wire))
+    ∷ by gateway (inward («husk_receiving_mask» openAsked u₄ 1 2 (header ++ cipher)))
+    ∷ by gateway (inward («host_writes» openAsked inner))
+    ∷ by gateway (inward («husk_receiving_opened» (shown 5 22 2 0 5 1) u₅ 1 2))
+    ∷ []
+
+hosts : Hosts
+hosts s = firstHost (settings s)
+
+-- ---- each meets its contract
+
+talk-made : AllMade hosts talk
+unfolding opened settings talk hosts
+talk-made = (
+  (refl, (refl, refl)),
+  (
+    ((refl, (refl, refl)), refl),
+    (
+      refl,
+      (
+        (refl, refl, refl),
+        (
+          ((refl, (refl, refl)), refl),
+          (
+            ((refl, (refl, refl)), refl),
+            (
+              (refl, refl, refl),
+              (
+                (refl, refl, refl),
+                (
+                  (refl, refl, refl),
+                  (((refl, refl, refl), refl), (((u₄, (refl, refl, refl)), refl, omega arith), ((refl, refl, refl), tt))),
+                ),
+              ),
+            ),
+          ),
+        ),
+      ),
+    ),
+  ),
+)
+
+-- ---- what is asked of the hosts is met
+
+oneMask : Side → Masks
+oneMask s e l = 1 ∷ 2 ∷ []
+
+abbrev sealedOne : Sealed
+sealedOne = record { num = 0; type = 22; content = 5 ∷ []; header = header; cipher = cipher; wire = wire }
+
+talk-fair : AllFair oneMask hosts talk
+unfolding opened settings talk hosts oneMask
+talk-fair = (
+  ((omega arith, tt), tt),
+  (
+    ((tt, tt), tt),
+    (
+      tt,
+      (
+        ((tt, tt), tt),
+        (
+          ((λ right. (refl, refl), tt), tt),
+          (
+            ((tt, tt), tt),
+            (
+              (tt, tt),
+              (
+                (tt, tt),
+                (
+                  (tt, (tt, tt)),
+                  (((refl, λ s. refl), tt), ((tt, tt), ((λ right. yes-fair (sealedOne ∷ []) sealedOne (here refl) refl _ refl, tt), tt))),
+                ),
+              ),
+            ),
+          ),
+        ),
+      ),
+    ),
+  ),
+)
+
+-- ---- so the claim holds of what these hosts saw: the record is handed over, the datagram is its bytes, every answer is as owed
+
+in-range : (s : Side) → Startable (settings s)
+unfolding settings
+in-range s = record { low = omega arith; high = omega arith; some = omega arith; most = omega arith; min = omega arith; room = omega arith }
+
+begun : (s : Side) → Started (settings s) (hosts s)
+unfolding hosts
+begun s = starts (settings s) (in-range s)
+
+talk-refines : Refines oneMask settings hosts talk
+talk-refines = every-list-of-calls settings hosts begun oneMask talk talk-made talk-fair
+
+talk-hands : (runs hosts talk gateway .seen .into .into .handed 2 ≡ record { num = 0; type = 22; content = 5 ∷ [] } ∷ []) × (runs hosts talk post .seen .out .taken ≡ wire ∷ [])
+unfolding opened settings talk hosts
+talk-hands = (refl, refl)

@@ -26,7 +26,7 @@ use Rattle.history_theorem.specs.Receiver.{Sealed, Trial, Receiver, Out, withSt
 use Rattle.history_theorem.specs.Sound.{UnderWay, Sound}
 use Rattle.hosts_theorem.specs.Memory.{Incoming, InCall, «husk_receiving_key», «husk_receiving_remove», «husk_receiving_enable_encryption», «husk_receiving_release_application_data», «husk_receiving_begin», «husk_receiving_begin_read», «husk_receiving_read», «husk_receiving_mask», «husk_receiving_opened», «husk_receiving_read_over», «husk_receiving_mask_over», «husk_receiving_opened_over», «host_writes», MadeIn, behindIn}
 use Rattle.hosts_theorem.specs.Log.{flatRead, outBy, removedTo, beginsTo, accepted, refused, reads, rewords, withBytes, enteredIn}
-use Rattle.hosts_theorem.specs.Answers.{writesIn, read-names, read-nonce, mask-nonce, open-nonce, entered}
+use Rattle.hosts_theorem.specs.Answers.{writesIn, read-names, mask-nonce, open-nonce, entered}
 use Rattle.hosts_theorem.specs.Claim.{StandsIn, callsOf, AnsweredIn}
 
 abbrev pub doesAll : (ℕ → List Sealed) → Inbound → List Call → Inbound
@@ -108,7 +108,7 @@ module _ (h : Incoming) (i : Inbound) (a : StandsIn h i) where
 
   read-out : (r : HuskReading) (v d : List ℕ) → receive.ReadCall r v w d → outBy r v d ≡ readOut (y .state) d
   read-out r v d m =
-      entered r v d (readOf (y .state) d) d (read-nonce (y .state .keys) (y .state .datagram) d)
+      entered r v d (readOf (y .state) d) d (read-names (y .state .keys) (y .state .datagram) d [] .0)
       (m .0 ∙ if-true _ _ (a .flat) ∙ ap (λ (s : Receiving). flatRead (readOf s d)) (a .state))
       (m .1 ∙ if-true _ _ (a .flat) ∙ ap (λ (s : Receiving). readOf s d .state) (a .state)) refl
 
@@ -179,7 +179,7 @@ module _ (h : Incoming) (i : Inbound) (a : StandsIn h i) where
       let e = read-answer r (m .0 .0) (m .0 .1) in
       ap (λ (d : List ℕ). takes i (withBytes y d))
       (ap (λ (x : HuskReading). splice (x .start + x .«header_len») p (y .datagram)) e
-      ∙ read-names (y .state .keys) (y .state .datagram) (y .datagram) p (subst (λ (x : HuskReading). x .kind ≡ 7) e (m .1)) (subst (λ (x : HuskReading). length p ≤ x .length) e (m .2))
+      ∙ read-names (y .state .keys) (y .state .datagram) (y .datagram) p .1 (subst (λ (x : HuskReading). x .kind ≡ 7) e (m .1)) (subst (λ (x : HuskReading). length p ≤ x .length) e (m .2))
       ∙ writes-same o p (y .state .datagram .question) refl)
 
   -- ---- a beginning, and behind it the first record read
@@ -196,7 +196,7 @@ module _ (h : Incoming) (i : Inbound) (a : StandsIn h i) where
       let z : 0 ≡ answerNumber (beginOf (y .state) (length d) .answer) = sym (if-false _ _ t) ∙ sym (begin-told y o d) in
       let q : eqb (answerNumber (beginOf (y .state) (length d) .answer)) 0 ≡ true = ap (λ (n : ℕ). eqb n 0) (sym z) in
       ap (reads sealed (accepted i (y .state) 0 d))
-      (entered r v d (readOf s d) d (read-nonce (s .keys) (s .datagram) d)
+      (entered r v d (readOf s d) d (read-names (s .keys) (s .datagram) d [] .0)
       (m .0 ∙ if-true _ _ (a .flat) ∙ ap (λ (x : Receiving). receive.firstReading (beginOf x (length d)) d) (a .state) ∙ if-true _ _ q)
       (m .1 ∙ if-true _ _ (a .flat) ∙ ap (λ (x : Receiving). receive.firstState (beginOf x (length d)) d) (a .state) ∙ if-true _ _ q) refl)
       ∙ with-keys sealed d (readOut s d) s (begin-keys (y .state) (length d))

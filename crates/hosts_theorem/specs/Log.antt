@@ -83,12 +83,15 @@ beginsTo i y serial r d = record {
   told = record { answer = r; owed = beginOwed d } ∷ i .told;
 }
 
+-- begun: the cut stands at its start, and no question waits
 abbrev pub accepted : Inbound → Receiving → ℕ → List ℕ → Inbound
 accepted i s r d = beginsTo i (startsOn (i .into) s d) (suc (i .lastSerial)) r d
 
+-- refused: the earlier datagram and its question live on
 abbrev pub refused : Inbound → Receiving → ℕ → List ℕ → Inbound
 refused i s r d = beginsTo i (withState (i .into) s (i .into .account)) (i .serial) r d
 
+-- a read: the record that it comes to, the answer and the question that then waits
 abbrev pub reads : (ℕ → List Sealed) → Inbound → Out → Inbound
 reads sealed i o = logs i (readBy (i .into) sealed (i .into .account .waits) o) (i .serial) unused
 
@@ -216,20 +219,22 @@ turnsTo x h b ivs sealed taken = record {
   taken = taken;
 }
 
--- answered 0, the record that the question showed is sealed, and finished in the order of those sent
+-- answered 0, the record that the question showed is sealed
 abbrev pub sealsNow : ℕ → Option Lent → List ℕ → List ℕ → (ℕ → List Sealed) → ℕ → List Sealed
 sealsNow r none before behind f = f
 sealsNow r (some l) before behind f = choose (eqb r 0) (upd f (l .epoch) (sealedAs l before behind ∷ f (l .epoch))) f
 
+-- and finished in the order of those sent
 abbrev pub finishesNow : ℕ → Option Lent → List ℕ → List ℕ → Books → Books
 finishesNow r none before behind b = b
 finishesNow r (some l) before behind b =
     choose (eqb r 0) (record { sent = b .sent; lines = finish (l .epoch) (l .num) (sealedAs l before behind .wire) (b .lines) }) b
 
--- kind 2: a datagram, at the start of the buffer, or where it lies in the queue
+-- kind 2: a datagram, at the start of the buffer
 abbrev pub takesOne : HuskTake → List ℕ → List (List ℕ) → List (List ℕ)
 takesOne r c ts = choose (eqb (r .kind) 2) (ts ++ (part 0 (r .length) c ∷ [])) ts
 
+-- or where it lies in the queue
 abbrev pub takesPart : HuskPart → List ℕ → List (List ℕ) → List (List ℕ)
 takesPart r q ts = choose (eqb (r .kind) 2) (ts ++ (part (r .start) (r .length) q ∷ [])) ts
 
@@ -332,6 +337,7 @@ enteredOver e h g own c = record {
 
 -- ---- a host: its memory, and its log, which the claim speaks of as an end
 
+-- seen is entered from arguments, memory and answers alone
 pub record Host : Type 0 where
   pub incoming : Incoming
   pub outgoing : Outgoing
@@ -341,6 +347,7 @@ pub record Host : Type 0 where
 abbrev pub count : End → ℕ → List Count → List Count
 count e k cs = record { datagram = k; before = e .out .stores .state .keys; behind = e .out .stores .state .keys } ∷ cs
 
+-- keying, removing, peer encryption, release and the host's writing read none
 abbrev pub countsTo : End → InCall → List Count
 countsTo e («husk_receiving_key» r v epoch iv) = e .counts
 countsTo e («husk_receiving_remove» r v epoch) = e .counts

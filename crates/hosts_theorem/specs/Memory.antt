@@ -34,6 +34,7 @@ pub record Outgoing : Type 0 where
 
 -- ---- the calls that receive
 
+-- r the answer, v the words behind it
 pub data InCall : Type 0 where
   «husk_receiving_key» : (r : ℕ) (v : List ℕ) (epoch : ℕ) (iv : List ℕ) → InCall
   «husk_receiving_remove» : (r : ℕ) (v : List ℕ) (epoch : ℕ) → InCall
@@ -72,6 +73,7 @@ MadeIn h («host_writes» r p) = ((v : List ℕ) × receive.ReadCall r v (h .wor
 
 -- ---- the memory behind them
 
+-- what is lent for reading only, or not lent, stays
 abbrev pub behindIn : Incoming → InCall → Incoming
 behindIn h («husk_receiving_key» r v epoch iv) = record { words = v; datagram = h .datagram }
 behindIn h («husk_receiving_remove» r v epoch) = record { words = v; datagram = h .datagram }
@@ -91,6 +93,7 @@ behindIn h («host_writes» r p) = record { words = h .words; datagram = splice 
 
 -- ---- the calls that send
 
+-- r the answer; v, g, m, p, j what was left in words, flight, numbers, queue and saved contents
 pub data OutCall : Type 0 where
   «husk_sending_key» : (r : ℕ) (v : List ℕ) (epoch : ℕ) (iv : List ℕ) → OutCall
   «husk_sending_send» : (r : ℕ) (v : List ℕ) (epoch t : ℕ) (c p : List ℕ) → OutCall
@@ -107,6 +110,7 @@ pub data OutCall : Type 0 where
   «husk_notes_add» : (r : ℕ) (x y z : List ℕ) (epoch number : ℕ) → OutCall
   «husk_notes_send» : (r : ℕ) (v x y z p : List ℕ) → OutCall
 
+-- a call was made: its own contract, over the host's memory
 abbrev pub MadeOut : Outgoing → OutCall → Type 0
 MadeOut h («husk_sending_key» r v epoch iv) = sends.KeySendCall r v (h .words) epoch iv
 MadeOut h («husk_sending_send» r v epoch t c p) = sends.SendCall r v (h .words) epoch t c p (h .queue)
@@ -127,6 +131,7 @@ MadeOut h («husk_notes_send» r v x y z p) =
 
 -- ---- the memory behind them
 
+-- other words and queue
 abbrev pub queues : Outgoing → List ℕ → List ℕ → Outgoing
 queues h v p = record {
   words = v;
@@ -139,6 +144,7 @@ queues h v p = record {
   noted = h .noted;
 }
 
+-- and another flight with its numbers and saved contents
 abbrev pub flies : Outgoing → List ℕ → List ℕ → List ℕ → List ℕ → List ℕ → Outgoing
 flies h v p g m j = record {
   words = v;
@@ -151,6 +157,7 @@ flies h v p g m j = record {
   noted = h .noted;
 }
 
+-- other words, queue and notes
 abbrev pub notes : Outgoing → List ℕ → List ℕ → List ℕ → List ℕ → List ℕ → Outgoing
 notes h v p x y z = record {
   words = v;
@@ -163,6 +170,7 @@ notes h v p x y z = record {
   noted = z;
 }
 
+-- what is lent for reading only, or not lent, stays
 abbrev pub behindOut : Outgoing → OutCall → Outgoing
 behindOut h («husk_sending_key» r v epoch iv) = queues h v (h .queue)
 behindOut h («husk_sending_send» r v epoch t c p) = queues h v p

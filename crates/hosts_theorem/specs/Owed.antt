@@ -1,29 +1,58 @@
 -- Each answer is the one that the host's account owes: by what holds of the log behind the call, in which the answer stands first. Assumes nothing.
-use Prim.Native.Nat.{ℕ}
+use Prim.Native.Nat.{ℕ, _+_, _*_}
 use borrow.Author.Tests.{le-leb, lt-leb, le-ltb, lt-ltb}
+use native.Mathlib.Omega.{arith}
 use lib.Dec.{eqb, leb, ltb}
 use lib.ListN.{length}
 use mathlib.Core.Bool.{false, false≢true}
-use mathlib.Core.List.{List, List·Memᴰ as Mem, List·Memᴰ·head as here}
+use mathlib.Core.List.{List, [], _∷_, List·Memᴰ as Mem, List·Memᴰ·head as here}
 use mathlib.Core.Option.{Option, none, some}
-use mathlib.Core.Path.{_≡_, refl, sym, subst, _∙_}
-use Rattle.base.specs.Choose.{by-test, if-false}
+use mathlib.Core.Path.{_≡_, refl, sym, ap, subst, _∙_}
+use Rattle.base.specs.Choose.{choose, by-test, if-true, if-false}
 use Rattle.datagram.specs.declared.Reading.the-variants as says
 use Rattle.recv_calls.specs.Flat.{openingOf}
+use Rattle.record.specs.Record.{unifiedHeader}
+use Rattle.outgoing.specs.declared.Sending.{Sending}
+use Rattle.sealing.specs.Sealing.{questionOf}
+use Rattle.sealing.specs.declared.Question.{Question}
+use Rattle.send_calls.specs.Calls.{flatSealing, noSealing, flatTake, flatPart, SealingCall}
 use Rattle.send_calls.specs.declared.HuskSealing.{HuskSealing}
-use Rattle.history_theorem.specs.Account.{nothing}
-use Rattle.history_theorem.specs.Claim.{Masks, Proper, Turned}
+use Rattle.send_calls.specs.declared.HuskTake.{HuskTake}
+use Rattle.send_calls.specs.declared.HuskPart.{HuskPart}
+use Rattle.taking.specs.Take.{takeAnswer}
+use Rattle.taking.specs.declared.TakeAnswer.{TakeAnswer}
+use Rattle.waiting_laws.specs.Calls.{Stores}
+use Rattle.waiting_laws.specs.Queued.{Queued, Holds}
+use Rattle.waiting_laws.specs.Seals.{question-told}
+use Rattle.waiting_laws.specs.Takes.{takeTold, take-told}
+use Rattle.history_theorem.specs.Account.{sealedHead, nothing}
+use Rattle.history_theorem.specs.Claim.{Masks, Proper, Turned, nonceFor}
 use Rattle.history_theorem.specs.Receiver.{Sealed, Spoken, Stray, Told, aRead, anOpenReply, beginOwed, Inbound}
 use Rattle.history_theorem.specs.Sound.{Sound}
 use Rattle.ends_theorem.specs.Ledger.{Item, items, oldest}
+use Rattle.ends_theorem.specs.Matches.{itemsOf, Matches}
 use Rattle.ends_theorem.specs.Proof.{Good, holds}
-use Rattle.ends_theorem.specs.Sender.{Lent, AskedFor}
+use Rattle.ends_theorem.specs.Sender.{Lent, AskedFor, sealedHeader}
 use Rattle.ends_theorem.specs.World.{Side, post, gateway, Said, Over, End, World}
-use Rattle.hosts_theorem.specs.Memory.{Incoming, InCall, «husk_receiving_key», «husk_receiving_remove», «husk_receiving_enable_encryption», «husk_receiving_release_application_data», «husk_receiving_begin», «husk_receiving_begin_read», «husk_receiving_read», «husk_receiving_mask», «husk_receiving_opened», «husk_receiving_read_over», «husk_receiving_mask_over», «husk_receiving_opened_over», «host_writes», MadeIn}
+use Rattle.hosts_theorem.specs.Memory.{Incoming, Outgoing, InCall, «husk_receiving_key», «husk_receiving_remove», «husk_receiving_enable_encryption», «husk_receiving_release_application_data», «husk_receiving_begin», «husk_receiving_begin_read», «husk_receiving_read», «husk_receiving_mask», «husk_receiving_opened», «husk_receiving_read_over», «husk_receiving_mask_over», «husk_receiving_opened_over», «host_writes», OutCall, «husk_sending_key», «husk_sending_send», «husk_sending_sealed», «husk_sending_take», «husk_sending_take_in_place», «husk_flight_begin», «husk_flight_send», «husk_flight_message», «husk_flight_resend», «husk_flight_ack», «husk_notes_add», «husk_notes_send», MadeIn, MadeOut}
 use Rattle.hosts_theorem.specs.Log.{readingOf, enteredIn, Host, Act, inward, «husk_sending_sealing», outward, outwardOver, «host_seals», Made, behind}
-use Rattle.hosts_theorem.specs.Claim.{Stands, StandsIn, Shows, OwedIn, OwedSealing, Owed}
+use Rattle.hosts_theorem.specs.Claim.{Stands, StandsIn, StandsOut, Shows, OwedIn, OwedSealing, kindOwed, OwedKind, Owed}
 use Rattle.hosts_theorem.specs.In.{long-answer, opened-answer}
-use Rattle.hosts_theorem.specs.Out.{sealing-answer}
+use Rattle.hosts_theorem.specs.Out.{out-answer, sealing-answer}
+
+-- ---- what the sealing question says: 01's header of the record that it names, or nothing
+
+abbrev shownBy : Question → HuskSealing
+shownBy k = flatSealing (k .question) (k .nonce) (k .header)
+
+abbrev Plain : HuskSealing → Type 0
+Plain r = (r .kind ≡ 2 → r .header ≡ sealedHeader (r .epoch) (r .number) (r .length)) × ((r .kind ≡ 2 → ⊥) → r ≡ noSealing 1 0)
+
+plain : (s : Sending) (q : List ℕ) (ds : List (List Queued)) → Holds s q ds → Plain (shownBy (questionOf s))
+unfolding unifiedHeader
+plain s q ds h =
+    subst (λ (k : Question). Plain (shownBy k)) (sym (question-told s q ds h))
+    (by-test (λ (k : Question). Plain (shownBy k)) (λ t. (λ z. refl, λ n. absurd (n refl))) (λ t. (λ z. absurd (omega arith), λ n. refl)))
 
 -- ---- what holds of a log
 
@@ -37,17 +66,24 @@ pub record Fine (e : End) : Type 0 where
   said : (a : Said) → Mem a (e .said) → a .reply ≡ a .owed
   overs : (o : Over) → Mem o (e .overs) → (o .queue′ ≡ o .queue) × (o .kept′ ≡ o .kept)
   asked : AskedFor (e .out .lent) (oldest (items (e .ledger .queue)))
+  nonce : (l : Lent) → e .out .lent ≡ some l → l .nonce ≡ nonceFor (e .out .ivs (l .epoch)) (l .num)
+  shown : Plain (shownBy (questionOf (e .out .stores .state)))
+  matches : Matches (e .out .stores) (e .ledger)
 
-asked-at : (masks : Side → Masks) (w : World) → Good masks w → (s : Side) → AskedFor (w s .out .lent) (oldest (items (w s .ledger .queue)))
-asked-at masks w g post = holds masks w g gateway 0 .seal-asked
-asked-at masks w g gateway = holds masks w g post 0 .seal-asked
+asked-at : (masks : Side → Masks) (w : World) → Good masks w → (s : Side)
+    → AskedFor (w s .out .lent) (oldest (items (w s .ledger .queue))) × ((l : Lent) → w s .out .lent ≡ some l → l .nonce ≡ nonceFor (w s .out .ivs (l .epoch)) (l .num))
+asked-at masks w g post = let h = holds masks w g gateway 0 in (h .seal-asked, h .seal-nonce)
+asked-at masks w g gateway = let h = holds masks w g post 0 in (h .seal-asked, h .seal-nonce)
 
 pub fine : (masks : Side → Masks) (w : World) → Good masks w → (s : Side) → Fine (w s)
 fine masks w g s = record {
   into = record { told = g .link s .told; proper = g .link s .sound .proper; strays = g .link s .strays };
   said = g .said s;
   overs = g .overs s;
-  asked = asked-at masks w g s;
+  asked = asked-at masks w g s .0;
+  nonce = asked-at masks w g s .1;
+  shown = plain (w s .out .stores .state) (w s .out .stores .queue) (g .out s .ds) (g .out s .laying .holds);
+  matches = g .matches s;
 }
 
 -- ---- receiving
@@ -86,17 +122,86 @@ module _ (h : Incoming) (i : Inbound) (a : StandsIn h i) (z : Sound (i .into)) (
 
 -- ---- a sealing
 
-sealing-owed : (o : Option Lent) (k : Option Item) (r : HuskSealing) → AskedFor o k → Shows o r → OwedSealing k r
-sealing-owed none none r q s = s
-sealing-owed none (some i) r q s = absurd q
-sealing-owed (some l) none r q s = absurd q
-sealing-owed (some l) (some i) r q s = subst (OwedSealing (some i)) (sym s) (refl, q .0, q .1, q .2)
+module _ (ivs : ℕ → List ℕ) (r : HuskSealing) (p : Plain r) where
+  sealing-owed : (o : Option Lent) (k : Option Item) → AskedFor o k → ((l : Lent) → o ≡ some l → l .nonce ≡ nonceFor (ivs (l .epoch)) (l .num)) → Shows o r → OwedSealing ivs k r
+  sealing-owed none none q n s = p .1 s
+  sealing-owed none (some i) q n s = absurd q
+  sealing-owed (some l) none q n s = absurd q
+  sealing-owed (some l) (some i) q n s =
+      let kind : r .kind ≡ 2 = ap (λ (x : HuskSealing). x .kind) s in
+      let e : r .epoch ≡ i .epoch = ap (λ (x : HuskSealing). x .epoch) s ∙ q .0 in
+      let m : r .number ≡ i .num = ap (λ (x : HuskSealing). x .number) s ∙ q .1 in
+      record {
+        kind = kind;
+        epoch = e;
+        number = m;
+        size = ap (λ (x : HuskSealing). x .length + sealedHead) s ∙ q .2;
+        nonce = ap (λ (x : HuskSealing). x .nonce) s ∙ n l refl ∙ (λ j. nonceFor (ivs (q .0 j)) (q .1 j));
+        header = p .0 kind ∙ (λ j. sealedHeader (e j) (m j) (r .length));
+      }
+
+-- over the host's words
+sealing-now : (h : Host) → Stands h → Fine (h .seen) → (r : HuskSealing) → SealingCall r (h .outgoing .words) → OwedSealing (h .seen .out .ivs) (oldest (items (h .seen .ledger .queue))) r
+sealing-now h o g r m =
+    let e : r ≡ shownBy (questionOf (h .seen .out .stores .state)) =
+    m ∙ if-true _ _ (o .outgoing .flat) ∙ ap (λ (w : Stores). shownBy (questionOf (w .state))) (o .outgoing .stores) in
+    sealing-owed (h .seen .out .ivs) r (subst Plain (sym e) (g .shown)) (h .seen .out .lent) (oldest (items (h .seen .ledger .queue))) (g .asked) (g .nonce)
+    (sealing-answer (h .outgoing) (h .seen) (o .outgoing) r m)
+
+-- ---- the kind of a take
+
+kind-told : (ds : List (List Queued)) (have start : ℕ)
+    → (flatTake (takeTold ds have) .kind ≡ kindOwed (itemsOf ds) (flatTake (takeTold ds have) .refusal))
+    × (flatPart (takeTold ds have) start .kind ≡ kindOwed (itemsOf ds) (flatPart (takeTold ds have) start .refusal))
+kind-told [] have start = (refl, refl)
+kind-told (d ∷ ds) have start =
+    let P : TakeAnswer → Type 0 = λ a.
+    (flatTake a .kind ≡ choose (eqb (flatTake a .refusal) 0) 2 0) × (flatPart a start .kind ≡ choose (eqb (flatPart a start .refusal) 0) 2 0) in
+    by-test P (λ t. (sym (if-false _ _ refl), sym (if-false _ _ refl)))
+    (λ t. by-test P (λ u. (sym (if-false _ _ refl), sym (if-false _ _ refl))) (λ u. (sym (if-true _ _ refl), sym (if-true _ _ refl))))
+
+module _ (h : Outgoing) (e : End) (o : StandsOut h e) (i : Matches (e .out .stores) (e .ledger)) where
+  abbrev s : Sending
+  s = e .out .stores .state
+
+  abbrev start : ℕ
+  start = s .queue .first * s .queue .mtu
+
+  told-by : (have : ℕ) → takeAnswer s (length (e .out .stores .queue)) have ≡ takeTold (i .ds) have
+  told-by have = take-told s (e .out .stores .queue) (i .ds) (i .holds) have
+
+  kind-owed : (c : OutCall) → MadeOut h c → OwedKind (e .ledger .queue) c
+  kind-owed («husk_sending_take» r v b c) m =
+      let a : r ≡ flatTake (takeTold (i .ds) (length b)) =
+      out-answer h (o .flat) (o .flat-flight) («husk_sending_take» r v b c) m
+      ∙ ap (λ (w : Stores). flatTake (takeAnswer (w .state) (length (w .queue)) (length b))) (o .stores) ∙ ap flatTake (told-by (length b)) in
+      subst (λ (x : HuskTake). x .kind ≡ kindOwed (e .ledger .queue) (x .refusal)) (sym a)
+      (subst (λ (q : List (List Item)). flatTake (takeTold (i .ds) (length b)) .kind ≡ kindOwed q (flatTake (takeTold (i .ds) (length b)) .refusal)) (i .queue)
+      (kind-told (i .ds) (length b) start .0))
+  kind-owed («husk_sending_take_in_place» r v) m =
+      let a : r ≡ flatPart (takeTold (i .ds) 65535) start =
+      out-answer h (o .flat) (o .flat-flight) («husk_sending_take_in_place» r v) m
+      ∙ ap (λ (w : Stores). flatPart (takeAnswer (w .state) (length (w .queue)) 65535) (w .state .queue .first * w .state .queue .mtu)) (o .stores)
+      ∙ ap (λ (k : TakeAnswer). flatPart k start) (told-by 65535) in
+      subst (λ (x : HuskPart). x .kind ≡ kindOwed (e .ledger .queue) (x .refusal)) (sym a)
+      (subst (λ (q : List (List Item)). flatPart (takeTold (i .ds) 65535) start .kind ≡ kindOwed q (flatPart (takeTold (i .ds) 65535) start .refusal)) (i .queue)
+      (kind-told (i .ds) 65535 start .1))
+  kind-owed («husk_sending_key» r v u iv) m = tt
+  kind-owed («husk_sending_send» r v u t z p) m = tt
+  kind-owed («husk_sending_sealed» r v len n₀ n₁ p) m = tt
+  kind-owed («husk_flight_begin» r k) m = tt
+  kind-owed («husk_flight_send» r v k l u t z p j) m = tt
+  kind-owed («husk_flight_message» r v k l t z p j) m = tt
+  kind-owed («husk_flight_resend» r v k l p) m = tt
+  kind-owed («husk_flight_ack» r k l z) m = tt
+  kind-owed («husk_notes_add» r y₀ y₁ y₂ u n) m = tt
+  kind-owed («husk_notes_send» r v y₀ y₁ y₂ p) m = tt
 
 -- ---- every call: g holds of the log before it, k of the log behind it
 
 pub owed-now : (f h : Host) → Stands h → Sound (h .seen .into .into) → Fine (h .seen) → (a : Act) → Made h a → Fine (behind f h a .seen) → Owed h a
 owed-now f h o z g (inward c) m k = in-owed (h .incoming) (h .seen .into) (o .incoming) z (f .seen .out .sealed) c m (k .into)
-owed-now f h o z g («husk_sending_sealing» r) m k = sealing-owed (h .seen .out .lent) (oldest (items (h .seen .ledger .queue))) r (g .asked) (sealing-answer (h .outgoing) (h .seen) (o .outgoing) r m)
-owed-now f h o z g (outward c) m k = k .said _ (here refl)
+owed-now f h o z g («husk_sending_sealing» r) m k = sealing-now h o g r m
+owed-now f h o z g (outward c) m k = (k .said _ (here refl), kind-owed (h .outgoing) (h .seen) (o .outgoing) (g .matches) c m)
 owed-now f h o z g (outwardOver c q j) m k = (k .said _ (here refl), k .overs _ (here refl) .0, k .overs _ (here refl) .1)
-owed-now f h o z g («host_seals» r bytes) m k = sealing-owed (h .seen .out .lent) (oldest (items (h .seen .ledger .queue))) r (g .asked) (sealing-answer (h .outgoing) (h .seen) (o .outgoing) r (m .0))
+owed-now f h o z g («host_seals» r bytes) m k = sealing-now h o g r (m .0)

@@ -1,5 +1,5 @@
 -- Every list of calls of the C library is a list of events of the claim, and the hosts saw the world that it leads to. Assumes nothing.
-use Prim.Native.Nat.{ℕ, suc}
+use Prim.Native.Nat.{ℕ, suc, _+_, _≤_, _<_}
 use lib.Dec.{leb, ltb}
 use lib.ListN.{length, replicate}
 use mathlib.Core.Bool.{Bool, true, false}
@@ -15,23 +15,25 @@ use Rattle.recv_calls.specs.Flat.{openingOf}
 use Rattle.sealing.specs.Sealing.{questionOf}
 use Rattle.sealing.specs.declared.Question as asked
 use Rattle.waiting_laws.specs.Answers.{answered}
+use Rattle.waiting_laws.specs.Calls.{send·, Reply, only}
+use Rattle.history_theorem.specs.Account.{sealedOver}
 use Rattle.history_theorem.specs.Claim.{Masks}
 use Rattle.history_theorem.specs.Receiver.{Inbound, Call, begin·, read·, open·, openOver·}
 use Rattle.history_theorem.specs.Sound.{Sound}
 use Rattle.ends_theorem.specs.Claim.{Holds, Startable}
 use Rattle.ends_theorem.specs.Every.{every-does}
-use Rattle.ends_theorem.specs.Ledger.{owed}
-use Rattle.ends_theorem.specs.Proof.{Good, run-keeps, new-good, every-list}
+use Rattle.ends_theorem.specs.Ledger.{applicationData, lastNumber, owed}
+use Rattle.ends_theorem.specs.Proof.{Good, run-keeps, new-good, every-list, stop-order-sent as stop-order}
 use Rattle.ends_theorem.specs.Sender as world
 use Rattle.ends_theorem.specs.Sender.{lentBy}
 use Rattle.ends_theorem.specs.Starting.{sending-starts, receiving-starts}
 use Rattle.ends_theorem.specs.World.{Side, post, gateway, far, Count, End, Deed, Event, World, takesIn, acts, step, run, Setting, fresh-pair, FairDeed, Honest}
-use Rattle.hosts_theorem.specs.Memory.{InCall, «husk_receiving_key», «husk_receiving_remove», «husk_receiving_enable_encryption», «husk_receiving_release_application_data», «husk_receiving_begin», «husk_receiving_begin_read», «husk_receiving_read», «husk_receiving_mask», «husk_receiving_opened», «husk_receiving_read_over», «husk_receiving_mask_over», «husk_receiving_opened_over», «host_writes», lends}
+use Rattle.hosts_theorem.specs.Memory.{InCall, «husk_receiving_key», «husk_receiving_remove», «husk_receiving_enable_encryption», «husk_receiving_release_application_data», «husk_receiving_begin», «husk_receiving_begin_read», «husk_receiving_read», «husk_receiving_mask», «husk_receiving_opened», «husk_receiving_read_over», «husk_receiving_mask_over», «husk_receiving_opened_over», «host_writes», «husk_sending_send», MadeOut, lends}
 use Rattle.hosts_theorem.specs.Log.{sendOf, count, countsTo, Host, Act, inward, «husk_sending_sealing», outward, outwardOver, «host_seals», Made, behind}
 use Rattle.hosts_theorem.specs.Claim.{Hosts, CCall, after, runs, AllMade, Stands, Started, callsOf, hearing, deedsOf, at, eventsOf, Answered, AllAnswered, Owed, AllOwed, FairDeeds, AllFair, sightOf, EveryListOfCalls}
 use Rattle.hosts_theorem.specs.In.{doesAll, in-square, in-stands, in-answer}
 use Rattle.hosts_theorem.specs.Owed.{fine, owed-now}
-use Rattle.hosts_theorem.specs.Out.{shows-now, sealing-answer, out-answer, out-square, out-stands, over-square, over-stands, fill-square, fill-stands}
+use Rattle.hosts_theorem.specs.Out.{shows-now, out-reply, sealing-answer, out-answer, out-square, out-stands, over-square, over-stands, fill-square, fill-stands}
 
 -- ---- some deeds at one end
 
@@ -274,6 +276,13 @@ starts s h t =
 
 -- ---- every list of calls
 
+-- what its account promises a host of a stop order x
+abbrev Asks : End → List ℕ → Type 0
+Asks e x =
+    let l = e .ledger in
+    3 ≤ l .application → length x + sealedOver ≤ l .mtu → l .mtu ≤ 1500 → length (l .queue) < l .limit → l .next (l .application) < lastNumber
+    → answered (e .out .stores) (send· (l .application) applicationData x) ≡ only 0
+
 pub every-list-of-calls : EveryListOfCalls
 every-list-of-calls settings hs st masks cs made fair =
     let ok : (s : Side) → Startable (settings s) = λ s. startable (settings s) (hs s) (st s) in
@@ -290,3 +299,17 @@ every-list-of-calls settings hs st masks cs made fair =
       holds = holds;
       saw = λ s e. subst (λ (w : World). Holds w s e) (sym agrees) (holds s e);
     }
+
+-- a host that keeps the rules can always send its stop order: with an application epoch keyed, a record that a datagram holds, a datagram free in
+-- the queue and a number left, by its own account, husk_sending_send answers 0, after every list of calls
+pub stop-order-sent : (settings : Side → Setting) (hs : Hosts) → ((s : Side) → Started (settings s) (hs s)) → (masks : Side → Masks) (cs : List CCall) → AllMade hs cs → AllFair masks hs cs
+    → (s : Side) (r : ℕ) (v x p : List ℕ) → let h = runs hs cs s in
+    let l = h .seen .ledger in
+    3 ≤ l .application → length x + sealedOver ≤ l .mtu → l .mtu ≤ 1500 → length (l .queue) < l .limit → l .next (l .application) < lastNumber
+    → MadeOut (h .outgoing) («husk_sending_send» r v (l .application) applicationData x p) → r ≡ 0
+stop-order-sent settings hs st masks cs made fair s r v x p key fits mtu room num m =
+    let ok : (s : Side) → Startable (settings s) = λ s. startable (settings s) (hs s) (st s) in
+    let k = every-list-of-calls settings hs st masks cs made fair in
+    let h = runs hs cs s in
+    let a : Asks (h .seen) x = subst (λ (e : End). Asks e x) (sym (k .agrees s)) (stop-order settings ok masks (eventsOf cs) (k .honest) s x) in
+    ap (λ (n : Reply). n .number) (out-reply (h .outgoing) (h .seen) (k .stands s .outgoing) («husk_sending_send» r v (h .seen .ledger .application) applicationData x p) m ∙ a key fits mtu room num)
