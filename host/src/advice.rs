@@ -27,11 +27,12 @@ fn on_time(options: &Options, report: &Report) -> String {
         return "all meter records were sent, and orders were not acknowledged yet: lower --lose or --orders, or give more --seconds"
             .to_string();
     }
-    // By what has gone all its way, and some more for the orders.
+    // By what has gone all its way; the orders take some more.
     let records = &report.post_to_gateway.records;
     let settled = (records.sealed - records.on_their_way).max(1);
-    let needed = (1.5 * report.seconds * meter.to_send as f64 / settled as f64).ceil() as u64;
-    format!("at this pace {} meter records take --seconds {needed}: give that, or fewer --records", HumanCount(options.records as u64))
+    let needed = report.seconds * meter.to_send as f64 / settled as f64;
+    let all = HumanCount(options.records as u64);
+    format!("at this pace {all} meter records take {needed:.0} s: give --seconds {:.0}, or fewer --records", (1.5 * needed).ceil())
 }
 
 /// A run that holds: what most of the missing records are missing for.
@@ -59,7 +60,7 @@ fn on_records(options: &Options, records: &Records) -> String {
     if many(records.lost + records.damaged) {
         let gone = share(records.lost + records.damaged);
         return format!(
-            "{gone} never arrived whole, and a record link sends none again: what must arrive is saved and resent, as the orders are"
+            "{gone} were lost or damaged, and nothing sends them again: what has to arrive is saved and resent, as the orders are"
         );
     }
     "nearly all arrived: --lose, --reorder, --corrupt and --forge make the link worse".to_string()

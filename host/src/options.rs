@@ -7,6 +7,11 @@ use clap::Parser;
 
 use crate::crypto::Suite;
 
+/// Seconds for an end to say what it has to say, once it is told to end.
+pub const GRACE: u64 = 5;
+/// The most seconds that can be given.
+const LONGEST: u64 = 86_400;
+
 const EXIT_STATUS: &str = "\
 Exit status: 0 the page holds; 1 a record was handed over twice, changed, invented or wrongly left out, or an order obeyed that
 was not given or obeyed twice; 2 the run was not finished (its time was over, or Ctrl-C), or something is missing to make it.
@@ -67,7 +72,7 @@ pub struct Options {
     pub forge: f64,
 
     /// Seconds until it ends, finished or not, 1 to 86,400
-    #[arg(long, value_name = "N", default_value = "120", value_parser = clap::value_parser!(u64).range(1..=86_400))]
+    #[arg(long, value_name = "N", default_value = "120", value_parser = clap::value_parser!(u64).range(1..=LONGEST))]
     pub seconds: u64,
 
     /// Print the page as one JSON object, for programs
@@ -112,9 +117,6 @@ fn suite(name: &str) -> Result<Suite, String> {
     Suite::named(name).ok_or_else(|| "there is no such cipher here".to_string())
 }
 
-/// Time for an end to say what it has to say, once it is told to end.
-pub const GRACE: u64 = 5;
-
 impl Options {
     /// The words for a process that is one end. It is told when to end; its own limit is for the case that nobody tells it.
     pub fn for_end(&self, name: &str, port: u16) -> Vec<String> {
@@ -124,7 +126,7 @@ impl Options {
             ("--orders", self.orders.to_string()),
             ("--cipher", self.suite.name().to_string()),
             ("--seed", self.seed.to_string()),
-            ("--seconds", (self.seconds + 2 * GRACE).to_string()),
+            ("--seconds", (self.seconds + 2 * GRACE).min(LONGEST).to_string()),
             ("--end", format!("{name}:{port}")),
         ];
         words.into_iter().flat_map(|(name, value)| [name.to_string(), value]).collect()

@@ -34,7 +34,7 @@ pub struct Progress {
 impl Progress {
     pub fn new(records: usize) -> Progress {
         let bar = ProgressBar::with_draw_target(Some(records as u64), ProgressDrawTarget::stderr());
-        let style = ProgressStyle::with_template("{bar:30} {human_pos} of {human_len} meter records sent, {msg}");
+        let style = ProgressStyle::with_template("{bar:30} {human_pos} of {human_len} records sent, {msg}");
         bar.set_style(style.expect("the template is well formed"));
         Progress { bar, last: Instant::now() }
     }
@@ -130,7 +130,7 @@ impl Page<'_> {
 
     fn not_fresh(&self, f: &mut fmt::Formatter<'_>) -> fmt::Result {
         self.row(f, "  doubles, handed over before", |way| way.readings.doubles)?;
-        self.row(f, "  too late, never handed over", |way| way.readings.too_late)?;
+        self.row(f, "  too late or replayed, never handed over", |way| way.readings.too_late)?;
         self.row(f, "  damaged or forged numbers", |way| {
             way.readings.dropped_by(NOT_FRESH).saturating_sub(way.readings.doubles + way.readings.too_late)
         })
@@ -155,6 +155,7 @@ impl Page<'_> {
         }
         let head = match (&verdict.unfinished, verdict.findings.is_empty()) {
             (_, false) => return Ok(()),
+            (Some(_), true) if !verdict.whole => return writeln!(f, "so far: nothing that must not be, in what the ends could tell"),
             (Some(_), true) => "so far",
             (None, true) => "holds",
         };

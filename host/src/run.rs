@@ -170,11 +170,11 @@ impl<'a> Run<'a> {
 
     /// Why the ends are to end, if they are.
     fn over(&self, interrupted: &AtomicBool) -> Option<Ending> {
-        if self.peers.iter().any(|peer| !peer.open) {
-            return Some(Ending::Ended);
-        }
         if interrupted.load(Ordering::Relaxed) {
             return Some(Ending::Interrupted);
+        }
+        if self.peers.iter().any(|peer| !peer.open) {
+            return Some(Ending::Ended);
         }
         let limit = Duration::from_secs(self.options.seconds);
         (self.started.elapsed() >= limit).then_some(Ending::TimeOver(self.options.seconds))

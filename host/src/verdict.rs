@@ -37,6 +37,9 @@ pub struct Verdict {
     pub unfinished: Option<String>,
     #[serde(skip)]
     pub ending: Ending,
+    /// Whether both ends said all that they had to say.
+    #[serde(skip)]
+    pub whole: bool,
 }
 
 impl Verdict {
@@ -49,7 +52,7 @@ impl Verdict {
             (true, Some(_)) => (Word::NotFinished, 2),
             (true, None) => (Word::Holds, 0),
         };
-        Verdict { word, exit_status, findings, unfinished, ending }
+        Verdict { word, exit_status, findings, unfinished, ending, whole: told.done == [true, true] }
     }
 }
 
