@@ -33,9 +33,18 @@ use run::Run;
 
 const NOT_FINISHED: u8 = 2;
 
+/// Set when this process is asked to end.
+fn interruption() -> io::Result<Arc<AtomicBool>> {
+    let interrupted = Arc::default();
+    for signal in [SIGINT, SIGTERM] {
+        flag::register(signal, Arc::clone(&interrupted))?;
+    }
+    Ok(interrupted)
+}
+
 fn run_end(options: &Options, role: &Role) -> io::Result<u8> {
-    // Ctrl-C reaches all three processes: the ends go on until the link tells them to end, so that their logs are whole.
-    flag::register(SIGINT, Arc::default())?;
+    // Ctrl-C reaches all three processes. The ends do not heed it: they end when the link tells them to, so that their logs are whole.
+    interruption()?;
     let end = End::new(options, &role.name, role.port)?;
     if role.name == "post" {
         post::run(options, end);
@@ -46,12 +55,7 @@ fn run_end(options: &Options, role: &Role) -> io::Result<u8> {
 }
 
 fn run_link(options: &Options) -> io::Result<u8> {
-    let interrupted = Arc::new(AtomicBool::new(false));
-    for signal in [SIGINT, SIGTERM] {
-        // The second one ends this process at once, and the ends with it, since their pipes close.
-        flag::register_conditional_shutdown(signal, NOT_FINISHED.into(), Arc::clone(&interrupted))?;
-        flag::register(signal, Arc::clone(&interrupted))?;
-    }
+    let interrupted = interruption()?;
     let report = Run::new(options)?.report(&interrupted);
     let text = if options.json { report.json() } else { Page(&report).to_string() };
     io::stdout().write_all(text.as_bytes())?;
