@@ -1,9 +1,10 @@
 //! What both ends have: socket, link, ciphers, and a log of what happens for the process that started them.
 
 use std::collections::VecDeque;
-use std::io::{self, BufWriter, Stdout, Write};
+use std::fs::File;
+use std::io::{self, BufWriter, Read, Stdout, Write};
 use std::net::UdpSocket;
-use std::os::fd::AsRawFd;
+use std::os::fd::{AsFd, AsRawFd};
 use std::process;
 use std::time::{Duration, Instant};
 
@@ -12,7 +13,7 @@ use huskelapse::{Cipher, Reading, Receiver, Refusal, Sender};
 
 use crate::crypto::Keys;
 use crate::options::Options;
-use crate::system;
+use crate::system::Sources;
 
 pub const MTU: usize = 1200;
 /// Datagrams on their way to the link at once, so that no socket's buffer overflows.
@@ -28,6 +29,10 @@ pub struct Record {
 
 pub struct End {
     socket: UdpSocket,
+    /// Standard input without a buffer, in which a byte could be overlooked.
+    credits: File,
+    /// The socket, then the credits.
+    sources: Sources<2>,
     pub sender: Sender,
     pub receiver: Receiver,
     keys_out: Keys,
@@ -53,14 +58,7 @@ struct Logged<'a> {
 }
 
 fn log_record(log: &mut impl Write, what: char, epoch: u16, number: u64, content_type: u8, content: &[u8]) {
-    const DIGITS: &[u8; 16] = b"0123456789abcdef";
-    let mut hex = Vec::with_capacity(2 * content.len() + 1);
-    for byte in content {
-        hex.extend([DIGITS[usize::from(byte >> 4)], DIGITS[usize::from(byte & 15)]]);
-    }
-    hex.push(b'\n');
-    let _ = write!(log, "{what} {epoch} {number} {content_type} ");
-    let _ = log.write_all(&hex);
+    let _ = writeln!(log, "{what} {epoch} {number} {content_type} {}", hex::encode(content));
 }
 
 /// The plaintext records of a datagram that this end wrote.
@@ -101,6 +99,7 @@ impl End {
         let socket = UdpSocket::bind("127.0.0.1:0")?;
         socket.connect(("127.0.0.1", port))?;
         socket.set_nonblocking(true)?;
+        let credits = File::from(io::stdin().as_fd().try_clone_to_owned()?);
         let secret = |from: &str| format!("{} from the {from}", options.seed);
         let other = if name == "post" { "gateway" } else { "post" };
         let refused = |why: Refusal| io::Error::other(why);
@@ -108,7 +107,9 @@ impl End {
         writeln!(log, "port {}", socket.local_addr()?.port())?;
         log.flush()?;
         Ok(End {
+            sources: Sources::new([socket.as_raw_fd(), credits.as_raw_fd()])?,
             socket,
+            credits,
             sender: Sender::new(MTU, 16).map_err(refused)?,
             receiver: Receiver::new(16).map_err(refused)?,
             keys_out: Keys::new(options.suite),
@@ -265,14 +266,14 @@ impl End {
     }
 
     /// Waits for datagrams, at most so many milliseconds, and reads them. False when this process is to end.
-    pub fn wait(&mut self, milliseconds: i32) -> bool {
+    pub fn wait(&mut self, milliseconds: u64) -> bool {
         if milliseconds > 0 {
             let _ = self.log.flush();
         }
-        let ready = system::wait([Some(self.socket.as_raw_fd()), Some(0)], milliseconds);
+        let ready = self.sources.wait(milliseconds);
         if ready[1] {
             let mut credits = [0; 4096];
-            match system::read_some(0, &mut credits) {
+            match self.credits.read(&mut credits) {
                 Ok(n) if n > 0 && !credits[..n].contains(&b'q') => {
                     self.outstanding = self.outstanding.saturating_sub(n);
                     self.moved = Instant::now();

@@ -1,7 +1,10 @@
-//! What was sealed at one end and handed over at the other, and whether that is as it must be.
+//! What was sealed at one end, what the link did with it and what the other end handed over, as it is told.
 
-use std::collections::{HashMap, HashSet};
+use std::hash::{DefaultHasher, Hasher};
 use std::ops::Range;
+use std::str::SplitAsciiWhitespace;
+
+use crate::link::{Datagram, Kind, Sent};
 
 pub struct Record {
     pub epoch: u16,
@@ -10,30 +13,34 @@ pub struct Record {
     pub content: Vec<u8>,
 }
 
-enum Event {
+pub enum Event {
     Keyed(u16),
     Handed(Record),
     Read(u64),
 }
 
-/// A value by which a datagram is known again (FNV-1a).
+/// A value by which a datagram is known again, the same in every process of this program.
 pub fn check(datagram: &[u8]) -> u64 {
-    datagram.iter().fold(0xCBF2_9CE4_8422_2325, |sum, byte| (sum ^ u64::from(*byte)).wrapping_mul(0x100_0000_01B3))
+    let mut hasher = DefaultHasher::new();
+    hasher.write(datagram);
+    hasher.finish()
 }
 
-/// A datagram delivered; `records` are the sealed records in it, if it was undamaged.
-struct Delivery {
-    check: u64,
-    records: Option<Range<usize>>,
+pub struct Delivery {
+    pub check: u64,
+    pub records: Range<usize>,
+    pub kind: Kind,
 }
 
 /// One direction.
 #[derive(Default)]
 pub struct Ledger {
-    sealed: Vec<Record>,
-    events: Vec<Event>,
-    delivered: Vec<Delivery>,
-    acknowledged: Vec<Record>,
+    pub sealed: Vec<Record>,
+    pub sent: Vec<Sent>,
+    /// What the receiving end told, in order.
+    pub events: Vec<Event>,
+    pub delivered: Vec<Delivery>,
+    pub acknowledged: Vec<Record>,
     pub handed: usize,
     pub read: usize,
     pub plaintext: usize,
@@ -41,76 +48,36 @@ pub struct Ledger {
     pub dropped: [usize; 24],
 }
 
-#[derive(Default)]
-pub struct Verdict {
-    pub twice: usize,
-    pub changed: usize,
-    pub invented: usize,
-    pub left_out: usize,
-    /// Marked acknowledged though no sending of it was handed over.
-    pub unacknowledged: usize,
-    /// Datagrams delivered and not read: on their way when the far end ended, or lost between the sockets.
-    pub unread: usize,
-    /// For each record sealed, whether it was handed over.
-    pub handed: Vec<bool>,
-}
-
-/// The numbers used in a receive epoch.
-#[derive(Default)]
-struct Used {
-    numbers: HashSet<u64>,
-    highest: Option<u64>,
-}
-
-impl Used {
-    /// Unused, at most 63 below the highest, under 32,768 above the highest plus one.
-    fn reaches(&self, number: u64) -> bool {
-        let low = self.highest.unwrap_or(0).saturating_sub(63);
-        let next = self.highest.map_or(0, |highest| highest + 1);
-        !self.numbers.contains(&number) && number >= low && number < next + 32_768
-    }
-
-    fn mark(&mut self, number: u64) {
-        self.numbers.insert(number);
-        self.highest = self.highest.max(Some(number));
-    }
-}
-
-fn record_of(words: &mut std::str::SplitAsciiWhitespace<'_>) -> Option<Record> {
+fn record_of(words: &mut SplitAsciiWhitespace<'_>) -> Option<Record> {
     let epoch = words.next()?.parse().ok()?;
     let number = words.next()?.parse().ok()?;
     let content_type = words.next()?.parse().ok()?;
-    let hex = words.next().unwrap_or("").as_bytes();
-    let digit = |d: u8| if d < b'a' { d - b'0' } else { d - b'a' + 10 };
-    let content = hex.chunks_exact(2).map(|pair| digit(pair[0]) << 4 | digit(pair[1])).collect();
+    let content = hex::decode(words.next().unwrap_or("")).ok()?;
     Some(Record { epoch, number, content_type, content })
 }
 
 impl Ledger {
     /// The sending end's line on a sealing.
-    pub fn seals(&mut self, words: &mut std::str::SplitAsciiWhitespace<'_>) {
+    pub fn seals(&mut self, words: &mut SplitAsciiWhitespace<'_>) {
         self.sealed.extend(record_of(words));
     }
 
-    pub fn sealed(&self) -> &[Record] {
-        &self.sealed
-    }
-
     /// The sending end's line on a saved record that is marked acknowledged.
-    pub fn acknowledges(&mut self, words: &mut std::str::SplitAsciiWhitespace<'_>) {
+    pub fn acknowledges(&mut self, words: &mut SplitAsciiWhitespace<'_>) {
         self.acknowledged.extend(record_of(words));
     }
 
-    pub fn delivers(&mut self, datagram: &[u8], records: Option<Range<usize>>) {
-        self.delivered.push(Delivery { check: check(datagram), records });
+    /// The link has a datagram.
+    pub fn sends(&mut self, sent: Sent) {
+        self.sent.push(sent);
     }
 
-    pub fn delivered(&self) -> usize {
-        self.delivered.len()
+    pub fn delivers(&mut self, datagram: &Datagram) {
+        self.delivered.push(Delivery { check: check(&datagram.bytes), records: datagram.records.clone(), kind: datagram.kind });
     }
 
     /// The receiving end's line; whether it is one.
-    pub fn reads(&mut self, kind: &str, words: &mut std::str::SplitAsciiWhitespace<'_>) -> bool {
+    pub fn reads(&mut self, kind: &str, words: &mut SplitAsciiWhitespace<'_>) -> bool {
         match kind {
             "r" => {
                 self.handed += 1;
@@ -130,67 +97,5 @@ impl Ledger {
             _ => return false,
         }
         true
-    }
-
-    /// Goes through all that was read in order.
-    pub fn judge(&self) -> Verdict {
-        let index: HashMap<_, _> = self.sealed.iter().enumerate().map(|(i, r)| ((r.epoch, r.number), i)).collect();
-        let mut verdict = Verdict { handed: vec![false; self.sealed.len()], ..Verdict::default() };
-        let mut used: HashMap<u16, Used> = HashMap::new();
-        let mut delivered = self.delivered.iter();
-        let mut here = Vec::new();
-        for event in &self.events {
-            match event {
-                Event::Keyed(epoch) => {
-                    used.insert(*epoch, Used::default());
-                }
-                Event::Handed(record) => match index.get(&(record.epoch, record.number)) {
-                    None => verdict.invented += 1,
-                    Some(&i) => {
-                        let sealed = &self.sealed[i];
-                        let same = sealed.content_type == record.content_type && sealed.content == record.content;
-                        verdict.changed += usize::from(!same);
-                        verdict.twice += usize::from(verdict.handed[i]);
-                        verdict.handed[i] = true;
-                        here.push(i);
-                    }
-                },
-                Event::Read(check) => {
-                    if let Some(records) = delivered.find(|delivery| delivery.check == *check).and_then(|d| d.records.clone()) {
-                        verdict.left_out += self.left_out(records, &here, &used);
-                    }
-                    for i in here.drain(..) {
-                        let record = &self.sealed[i];
-                        used.entry(record.epoch).or_default().mark(record.number);
-                    }
-                }
-            }
-        }
-        let was_handed = |a: &Record| {
-            let same = |r: &Record| r.epoch == a.epoch && r.content_type == a.content_type && r.content == a.content;
-            self.sealed.iter().zip(&verdict.handed).any(|(record, handed)| *handed && same(record))
-        };
-        verdict.unacknowledged = self.acknowledged.iter().filter(|a| a.epoch >= 2 && !was_handed(a)).count();
-        verdict.unread = self.delivered.len() - self.read;
-        verdict
-    }
-
-    /// How many records of an undamaged datagram were left out though they were in reach, `here` being those handed over.
-    fn left_out(&self, records: Range<usize>, here: &[usize], used: &HashMap<u16, Used>) -> usize {
-        let mut missing = 0;
-        let mut before: Vec<&Record> = Vec::new();
-        for i in records.take(16) {
-            let record = &self.sealed[i];
-            let Some(used) = used.get(&record.epoch) else { continue };
-            if here.contains(&i) {
-                before.push(record);
-                continue;
-            }
-            // Records of this datagram that were handed over before this one count as used.
-            let passed = before.iter().filter(|b| b.epoch == record.epoch).map(|b| b.number).max();
-            let late = passed.is_some_and(|highest| record.number + 63 < highest);
-            missing += usize::from(used.reaches(record.number) && !late);
-        }
-        missing
     }
 }

@@ -1,62 +1,59 @@
 //! One direction of the bad link: it loses, doubles, delays, reorders, corrupts and forges.
 
-use std::collections::BinaryHeap;
+use std::collections::BTreeMap;
+use std::ops::Range;
 use std::time::{Duration, Instant};
 
-use crate::options::Options;
-use crate::random::Random;
+use rand::rngs::SmallRng;
+use rand::{Rng, RngCore, SeedableRng};
+use serde::Serialize;
 
-/// A datagram on its way. `records` are the sealed records in it, by the order in which the far end sealed them, if it is undamaged.
+use crate::options::Options;
+
+/// What a datagram is by the time it is delivered.
+#[derive(Clone, Copy, Debug, PartialEq)]
+pub enum Kind {
+    /// As it was sent.
+    Intact,
+    /// Bytes of it are changed or cut off.
+    Damaged,
+    /// As it was sent, but the link's own doing: an old one once more.
+    Replayed,
+    /// Made up by the link.
+    Forged,
+}
+
+/// A datagram on its way. `records` are the sealed records that it was sent with, by the order in which the far end sealed them.
 #[derive(Clone)]
 pub struct Datagram {
     pub bytes: Vec<u8>,
-    pub records: Option<std::ops::Range<usize>>,
+    pub records: Range<usize>,
+    pub kind: Kind,
 }
 
-struct Held {
-    place: usize,
-    order: usize,
-    until: Option<Instant>,
-    datagram: Datagram,
+/// The sealed records that a datagram was sent with, and whether the link lost it.
+pub struct Sent {
+    pub records: Range<usize>,
+    pub lost: bool,
 }
 
-impl PartialEq for Held {
-    fn eq(&self, other: &Held) -> bool {
-        (self.place, self.order) == (other.place, other.order)
-    }
-}
-
-impl Eq for Held {}
-
-impl PartialOrd for Held {
-    fn partial_cmp(&self, other: &Held) -> Option<std::cmp::Ordering> {
-        Some(self.cmp(other))
-    }
-}
-
-impl Ord for Held {
-    /// The least place is the greatest, for a heap that gives it first.
-    fn cmp(&self, other: &Held) -> std::cmp::Ordering {
-        (other.place, other.order).cmp(&(self.place, self.order))
-    }
-}
-
-#[derive(Default)]
+#[derive(Clone, Default, Serialize)]
 pub struct Tally {
-    pub arrived: usize,
+    pub sent: usize,
     pub lost: usize,
     pub doubled: usize,
-    pub delayed: usize,
-    pub corrupted: usize,
+    pub held_back: usize,
+    pub damaged: usize,
     pub forged: usize,
     pub delivered: usize,
 }
 
 pub struct Direction {
     options: Options,
-    random: Random,
-    held: BinaryHeap<Held>,
-    delayed: Vec<Held>,
+    random: SmallRng,
+    /// By the place at which it is due, and by the order in which it came.
+    held: BTreeMap<(usize, usize), Datagram>,
+    delayed: BTreeMap<(Instant, usize), Datagram>,
     old: Vec<Datagram>,
     last: Instant,
     sealed: usize,
@@ -67,13 +64,17 @@ pub struct Direction {
 const OLD: usize = 512;
 const IDLE: Duration = Duration::from_millis(2);
 
+fn comes_up(random: &mut SmallRng, percent: f64) -> bool {
+    random.gen_bool(percent / 100.0)
+}
+
 impl Direction {
     pub fn new(options: &Options, salt: u64) -> Direction {
         Direction {
             options: options.clone(),
-            random: Random::new(options.seed ^ salt),
-            held: BinaryHeap::new(),
-            delayed: Vec::new(),
+            random: SmallRng::seed_from_u64(options.seed ^ salt),
+            held: BTreeMap::new(),
+            delayed: BTreeMap::new(),
             old: Vec::new(),
             last: Instant::now(),
             sealed: 0,
@@ -83,105 +84,112 @@ impl Direction {
     }
 
     /// A datagram comes from the sending end.
-    pub fn arrive(&mut self, bytes: &[u8], now: Instant) {
+    pub fn arrive(&mut self, bytes: &[u8], now: Instant) -> Sent {
+        // One number for each datagram, from which its choices are made: what became of those before it plays no part.
+        let random = &mut SmallRng::seed_from_u64(self.random.next_u64());
         let first = self.sealed;
         self.sealed += sealed_records(bytes);
-        let datagram = Datagram { bytes: bytes.to_vec(), records: Some(first..self.sealed) };
-        self.tally.arrived += 1;
+        let records = first..self.sealed;
+        let datagram = Datagram { bytes: bytes.to_vec(), records: records.clone(), kind: Kind::Intact };
+        self.tally.sent += 1;
         self.last = now;
-        if self.random.percent(self.options.forge) {
-            let forged = self.forge(&datagram);
+        if comes_up(random, self.options.forge) {
+            let forged = self.forge(random, &datagram);
             self.tally.forged += 1;
-            self.hold(forged, now);
+            self.hold(random, forged, now);
         }
-        if self.old.len() < OLD {
-            self.old.push(datagram.clone());
-        } else {
-            let i = self.random.below(OLD);
-            self.old[i] = datagram.clone();
-        }
-        if self.random.percent(self.options.lose) {
+        self.remember(random, &datagram);
+        let lost = comes_up(random, self.options.lose);
+        if lost {
             self.tally.lost += 1;
-            return;
+        } else {
+            self.pass(random, datagram, now);
         }
-        if self.random.percent(self.options.double) {
-            self.tally.doubled += 1;
-            let copy = self.corrupt(datagram.clone());
-            self.hold(copy, now);
-        }
-        let datagram = self.corrupt(datagram);
-        self.hold(datagram, now);
+        Sent { records, lost }
     }
 
-    fn corrupt(&mut self, mut datagram: Datagram) -> Datagram {
-        if !self.random.percent(self.options.corrupt) {
+    /// Keeps some of the datagrams sent, for replays.
+    fn remember(&mut self, random: &mut SmallRng, datagram: &Datagram) {
+        let old = Datagram { kind: Kind::Replayed, ..datagram.clone() };
+        if self.old.len() < OLD {
+            self.old.push(old);
+        } else {
+            self.old[random.gen_range(0..OLD)] = old;
+        }
+    }
+
+    /// A datagram that is not lost goes on, once or twice.
+    fn pass(&mut self, random: &mut SmallRng, datagram: Datagram, now: Instant) {
+        if comes_up(random, self.options.double) {
+            self.tally.doubled += 1;
+            let copy = self.corrupt(random, datagram.clone());
+            self.hold(random, copy, now);
+        }
+        let datagram = self.corrupt(random, datagram);
+        self.hold(random, datagram, now);
+    }
+
+    fn corrupt(&mut self, random: &mut SmallRng, mut datagram: Datagram) -> Datagram {
+        if !comes_up(random, self.options.corrupt) {
             return datagram;
         }
-        self.tally.corrupted += 1;
-        datagram.records = None;
+        self.tally.damaged += 1;
+        datagram.kind = Kind::Damaged;
         let n = datagram.bytes.len();
-        if self.random.below(4) == 0 {
-            datagram.bytes.truncate(self.random.below(n));
+        if random.gen_ratio(1, 4) {
+            datagram.bytes.truncate(random.gen_range(0..n));
         } else {
-            for _ in 0..=self.random.below(3) {
-                let i = self.random.below(n);
-                datagram.bytes[i] ^= 1 + self.random.below(255) as u8;
+            for _ in 0..random.gen_range(1..=3) {
+                datagram.bytes[random.gen_range(0..n)] ^= random.gen_range(1..=u8::MAX);
             }
         }
         datagram
     }
 
     /// An old datagram once more, random bytes, a sealed record of random bytes, or a real one under another number.
-    fn forge(&mut self, real: &Datagram) -> Datagram {
-        let kind = self.random.below(4);
+    fn forge(&self, random: &mut SmallRng, real: &Datagram) -> Datagram {
+        let kind = random.gen_range(0..4);
         if kind == 0 && !self.old.is_empty() {
-            let i = self.random.below(self.old.len());
-            return self.old[i].clone();
+            return self.old[random.gen_range(0..self.old.len())].clone();
         }
-        let mut bytes = if kind == 1 { real.bytes.clone() } else { vec![0; 1 + self.random.below(200)] };
+        let mut bytes = if kind == 1 { real.bytes.clone() } else { vec![0; random.gen_range(1..=200)] };
         if kind == 1 {
-            for i in 1..bytes.len().min(3) {
-                bytes[i] = self.random.next() as u8;
-            }
+            let end = bytes.len().min(3);
+            random.fill_bytes(&mut bytes[1..end]);
         } else {
-            bytes.iter_mut().for_each(|byte| *byte = self.random.next() as u8);
+            random.fill_bytes(&mut bytes);
             if kind == 2 && bytes.len() >= 5 {
                 let length = bytes.len() - 5;
                 bytes[0] = 0x2C | bytes[0] & 3;
                 bytes[3..5].copy_from_slice(&(length as u16).to_be_bytes());
             }
         }
-        Datagram { bytes, records: None }
+        Datagram { bytes, records: 0..0, kind: Kind::Forged }
     }
 
-    fn hold(&mut self, datagram: Datagram, now: Instant) {
-        let place = self.tally.arrived + self.random.below(self.options.reorder + 1);
-        let late = self.random.percent(self.options.delay);
-        let until = late.then(|| now + Duration::from_millis(1 + self.random.below(self.options.delay_ms.max(1)) as u64));
+    fn hold(&mut self, random: &mut SmallRng, datagram: Datagram, now: Instant) {
+        let place = self.tally.sent + random.gen_range(0..=self.options.reorder);
         self.order += 1;
-        let held = Held { place, order: self.order, until, datagram };
-        if late {
-            self.tally.delayed += 1;
-            self.delayed.push(held);
+        if comes_up(random, self.options.delay) {
+            self.tally.held_back += 1;
+            let until = now + Duration::from_millis(random.gen_range(1..=self.options.delay_ms as u64));
+            self.delayed.insert((until, self.order), datagram);
         } else {
-            self.held.push(held);
+            self.held.insert((place, self.order), datagram);
         }
     }
 
     /// The next datagram that is due for the receiving end. Where nothing arrives any more, those that are held go on.
     pub fn due(&mut self, now: Instant) -> Option<Datagram> {
-        while let Some(i) = self.delayed.iter().position(|held| held.until.is_none_or(|until| until <= now)) {
+        while let Some(late) = self.delayed.first_entry().filter(|late| late.key().0 <= now) {
             // Behind all that arrived in the meantime and waits to be delivered.
-            let late = self.delayed.swap_remove(i);
             self.order += 1;
-            self.held.push(Held { place: self.tally.arrived, order: self.order, ..late });
+            self.held.insert((self.tally.sent, self.order), late.remove());
         }
         let idle = now.duration_since(self.last) > IDLE;
-        if self.held.peek().is_some_and(|held| idle || held.place <= self.tally.arrived) {
-            self.tally.delivered += 1;
-            return self.held.pop().map(|held| held.datagram);
-        }
-        None
+        let next = self.held.first_entry().filter(|next| idle || next.key().0 <= self.tally.sent)?;
+        self.tally.delivered += 1;
+        Some(next.remove())
     }
 
     pub fn is_empty(&self) -> bool {
@@ -200,4 +208,46 @@ fn sealed_records(mut bytes: &[u8]) -> usize {
         count += usize::from(sealed);
     }
     count
+}
+
+#[cfg(test)]
+mod tests {
+    use clap::Parser;
+
+    use super::*;
+
+    /// A sealed record of so many bytes behind its header.
+    fn sealed(length: u8) -> Vec<u8> {
+        let mut bytes = vec![0x2F, 0, 0, 0, length];
+        bytes.resize(5 + usize::from(length), length);
+        bytes
+    }
+
+    fn direction(words: &[&str]) -> Direction {
+        Direction::new(&Options::parse_from([&["host/run"], words].concat()), 0)
+    }
+
+    fn lost(direction: &mut Direction, lengths: impl Iterator<Item = u8>) -> Vec<bool> {
+        lengths.map(|length| direction.arrive(&sealed(length), Instant::now()).lost).collect()
+    }
+
+    #[test]
+    fn a_seed_chooses_the_same_whatever_the_lengths() {
+        let words = ["--seed", "7", "--corrupt", "50", "--forge", "50"];
+        let short = lost(&mut direction(&words), (0..200).map(|_| 20));
+        let mixed = lost(&mut direction(&words), (0..200).map(|i| 20 + i));
+        let other = lost(&mut direction(&["--seed", "8"]), (0..200).map(|_| 20));
+        assert!(short == mixed && short != other);
+    }
+
+    #[test]
+    fn a_good_link_passes_all_on_in_order() {
+        let words = ["--lose", "0", "--double", "0", "--reorder", "0", "--delay", "0", "--corrupt", "0", "--forge", "0"];
+        let mut direction = direction(&words);
+        lost(&mut direction, 20..120);
+        let passed: Vec<_> = std::iter::from_fn(|| direction.due(Instant::now())).collect();
+        assert!(passed.iter().map(|datagram| datagram.bytes[4]).eq(20..120));
+        assert!(passed.iter().enumerate().all(|(i, datagram)| datagram.records == (i..i + 1) && datagram.kind == Kind::Intact));
+        assert!(direction.is_empty());
+    }
 }

@@ -1,144 +1,147 @@
-//! What the command line says.
+//! What the command line says. `help.txt` has what --help prints, for `run`, which knows no built program: a test holds it to this file.
 
-use std::env;
-use std::process;
 use std::str::FromStr;
+
+use clap::builder::RangedU64ValueParser;
+use clap::Parser;
 
 use crate::crypto::Suite;
 
-pub const HELP: &str = "\
-A charging post and a gateway, two processes that talk DTLS 1.3 records over UDP on loopback, with a bad link between them.
+/// Seconds for an end to say what it has to say, once it is told to end.
+pub const GRACE: u64 = 5;
+/// The most seconds that can be given.
+const LONGEST: u64 = 86_400;
 
-usage: host/run [OPTION VALUE]...
+const EXIT_STATUS: &str = "\
+Exit status: 0 the page holds; 1 a record was handed over twice, changed, invented or wrongly left out, or an order obeyed that
+was not given or obeyed twice; 2 the run was not finished (its time was over, or Ctrl-C), or something is missing to make it.
 
-  --records N     meter records that the post sends, 1 to 4,000,000 (10,000)
-  --pack N        at most so many meter records in one datagram, 1 to 16 (1)
-  --orders N      orders of the gateway to the post before the stop order, 0 to 1,000 (5)
-  --cipher NAME   aes-128-gcm or chacha20-poly1305 (aes-128-gcm)
-  --seed N        seed of the link's choices and of the keys (1)
-  --lose P        percent of the datagrams that the link loses (20)
-  --double P      percent that it delivers twice (10)
-  --reorder N     a datagram is overtaken by at most so many later ones (60)
-  --delay P       percent that it holds back for a time (0.1)
-  --delay-ms N    the longest such time in milliseconds (50)
-  --corrupt P     percent of the deliveries in which it changes bytes or cuts some off (1)
-  --forge P       percent of the datagrams to which it adds one of its own: an old one once more, a real one under another number,
-                  random bytes (1)
-  --seconds N     gives up after so many seconds (120)
-  --help          this page
+The first run proves the library, which takes about ten minutes, and builds the program. HUSKELAPSE_LIB names a folder that has
+libhuskelapse.a, where it is not to be proved here.";
 
-Exit status: 0 the page holds; 1 a record was handed over twice, changed, invented or wrongly left out, or an order obeyed that was
-not given or obeyed twice; 2 the run could not be made or not be finished.
-";
-
-#[derive(Clone)]
+/// A charging post and a gateway, two processes that talk DTLS 1.3 records over UDP on loopback, with a bad link between them.
+#[derive(Clone, Parser)]
+#[command(name = "host/run", override_usage = "host/run [OPTIONS]", after_help = EXIT_STATUS)]
 pub struct Options {
+    /// Meter records that the post sends, 1 to 4,000,000
+    #[arg(long, value_name = "N", default_value = "10000", value_parser = whole(1, 4_000_000))]
     pub records: usize,
+
+    /// At most so many meter records in one datagram, 1 to 16
+    #[arg(long, value_name = "N", default_value = "1", value_parser = whole(1, 16))]
     pub pack: usize,
+
+    /// Orders of the gateway to the post before the stop order, 0 to 1,000
+    #[arg(long, value_name = "N", default_value = "5", value_parser = whole(0, 1_000))]
     pub orders: usize,
+
+    /// aes-128-gcm or chacha20-poly1305
+    #[arg(long = "cipher", value_name = "NAME", default_value = "aes-128-gcm", value_parser = suite)]
     pub suite: Suite,
+
+    /// Seed of the link's choices and of the keys
+    #[arg(long, value_name = "N", default_value = "1")]
     pub seed: u64,
+
+    /// Percent of the datagrams that the link loses, 0 to 95
+    #[arg(long, value_name = "P", default_value = "20", value_parser = percent)]
     pub lose: f64,
+
+    /// Percent that it delivers twice
+    #[arg(long, value_name = "P", default_value = "10", value_parser = percent)]
     pub double: f64,
+
+    /// A datagram is overtaken by at most so many later ones, 0 to 10,000
+    #[arg(long, value_name = "N", default_value = "60", value_parser = whole(0, 10_000))]
     pub reorder: usize,
+
+    /// Percent that it holds back for a time
+    #[arg(long, value_name = "P", default_value = "0.1", value_parser = percent)]
     pub delay: f64,
+
+    /// The longest such time in milliseconds, 1 to 10,000
+    #[arg(long, value_name = "N", default_value = "50", value_parser = whole(1, 10_000))]
     pub delay_ms: usize,
+
+    /// Percent of the deliveries in which it changes bytes or cuts some off
+    #[arg(long, value_name = "P", default_value = "1", value_parser = percent)]
     pub corrupt: f64,
+
+    /// Percent of the datagrams beside which it sends an old one once more, or one that it made up
+    #[arg(long, value_name = "P", default_value = "1", value_parser = percent)]
     pub forge: f64,
+
+    /// Seconds until it ends, finished or not, 1 to 86,400
+    #[arg(long, value_name = "N", default_value = "120", value_parser = clap::value_parser!(u64).range(1..=LONGEST))]
     pub seconds: u64,
+
+    /// Print the page as one JSON object, for programs
+    #[arg(long)]
+    pub json: bool,
+
     /// Given to the processes that this one starts: which end, and the link's port.
-    pub end: Option<(String, u16)>,
+    #[arg(long, hide = true)]
+    pub end: Option<Role>,
 }
 
-fn refuse(why: &str) -> ! {
-    eprintln!("host: {why}; --help says what there is");
-    process::exit(2)
+/// Which end a process is, and where the link is.
+#[derive(Clone)]
+pub struct Role {
+    pub name: String,
+    pub port: u16,
 }
 
-fn number<T: FromStr>(name: &str, value: &str) -> T {
-    value.parse().unwrap_or_else(|_| refuse(&format!("{name} has the value {value}")))
-}
+impl FromStr for Role {
+    type Err = String;
 
-fn within(name: &str, value: &str, least: usize, most: usize) -> usize {
-    let n = number(name, value);
-    if n < least || n > most {
-        refuse(&format!("{name} is {least} to {most}"));
+    fn from_str(text: &str) -> Result<Role, String> {
+        let (name, port) = text.split_once(':').ok_or("it is for this program alone")?;
+        Ok(Role { name: name.to_string(), port: port.parse().map_err(|_| "no port")? })
     }
-    n
 }
 
-fn percent(name: &str, value: &str) -> f64 {
-    let p = number(name, value);
-    if !(0.0..=95.0).contains(&p) {
-        refuse(&format!("{name} is 0 to 95"));
+fn whole(least: u64, most: u64) -> RangedU64ValueParser<usize> {
+    RangedU64ValueParser::new().range(least..=most)
+}
+
+fn percent(text: &str) -> Result<f64, String> {
+    let percent: f64 = text.parse().map_err(|_| "it is no number")?;
+    if (0.0..=95.0).contains(&percent) {
+        Ok(percent)
+    } else {
+        Err("it is not in 0..=95".to_string())
     }
-    p
+}
+
+fn suite(name: &str) -> Result<Suite, String> {
+    Suite::named(name).ok_or_else(|| "there is no such cipher here".to_string())
 }
 
 impl Options {
-    pub fn read() -> Options {
-        let mut options = Options {
-            records: 10_000,
-            pack: 1,
-            orders: 5,
-            suite: Suite::Aes,
-            seed: 1,
-            lose: 20.0,
-            double: 10.0,
-            reorder: 60,
-            delay: 0.1,
-            delay_ms: 50,
-            corrupt: 1.0,
-            forge: 1.0,
-            seconds: 120,
-            end: None,
-        };
-        let mut words = env::args().skip(1);
-        while let Some(name) = words.next() {
-            if name == "--help" || name == "-h" {
-                print!("{HELP}");
-                process::exit(0);
-            }
-            let value = words.next().unwrap_or_else(|| refuse(&format!("{name} lacks its value or is not known")));
-            options.set(&name, &value);
-        }
-        options
-    }
-
-    fn set(&mut self, name: &str, value: &str) {
-        match name {
-            "--records" => self.records = within(name, value, 1, 4_000_000),
-            "--pack" => self.pack = within(name, value, 1, 16),
-            "--orders" => self.orders = within(name, value, 0, 1_000),
-            "--cipher" => self.suite = Suite::named(value).unwrap_or_else(|| refuse("--cipher has no such value")),
-            "--seed" => self.seed = number(name, value),
-            "--lose" => self.lose = percent(name, value),
-            "--double" => self.double = percent(name, value),
-            "--reorder" => self.reorder = within(name, value, 0, 10_000),
-            "--delay" => self.delay = percent(name, value),
-            "--delay-ms" => self.delay_ms = within(name, value, 1, 10_000),
-            "--corrupt" => self.corrupt = percent(name, value),
-            "--forge" => self.forge = percent(name, value),
-            "--seconds" => self.seconds = number(name, value),
-            "--end" => {
-                let (end, port) = value.split_once(':').unwrap_or_else(|| refuse("--end is not for you"));
-                self.end = Some((end.to_string(), number(name, port)));
-            }
-            _ => refuse(&format!("{name} is not known")),
-        }
-    }
-
-    /// The words for a process that is one end.
-    pub fn for_end(&self, end: &str, port: u16) -> Vec<String> {
+    /// The words for a process that is one end. It is told when to end; its own limit is for the case that nobody tells it.
+    pub fn for_end(&self, name: &str, port: u16) -> Vec<String> {
         let words = [
             ("--records", self.records.to_string()),
             ("--pack", self.pack.to_string()),
             ("--orders", self.orders.to_string()),
             ("--cipher", self.suite.name().to_string()),
             ("--seed", self.seed.to_string()),
-            ("--seconds", self.seconds.to_string()),
-            ("--end", format!("{end}:{port}")),
+            ("--seconds", (self.seconds + 2 * GRACE).min(LONGEST).to_string()),
+            ("--end", format!("{name}:{port}")),
         ];
         words.into_iter().flat_map(|(name, value)| [name.to_string(), value]).collect()
+    }
+}
+
+#[cfg(test)]
+mod tests {
+    use clap::CommandFactory;
+
+    use super::*;
+
+    #[test]
+    fn help_is_the_file() {
+        let help = Options::command().render_help().to_string();
+        assert!(help == include_str!("../help.txt"), "help.txt is to be:\n{help}");
     }
 }

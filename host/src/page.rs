@@ -1,12 +1,11 @@
-//! The line of progress and the page at the end.
+//! The page at the end, and the bar on the way to it.
 
+use std::fmt;
 use std::time::{Duration, Instant};
 
-use crate::ledger::{Ledger, Record, Verdict};
-use crate::link::Tally;
-use crate::meter::Word;
-use crate::options::Options;
-use crate::Told;
+use indicatif::{HumanCount, ProgressBar, ProgressDrawTarget, ProgressStyle};
+
+use crate::report::{Report, Way};
 
 const REASONS: [&str; 12] = [
     "",
@@ -23,138 +22,151 @@ const REASONS: [&str; 12] = [
     "no content type",
 ];
 
+/// Refusal 9, which is told apart by what the link did.
+const NOT_FRESH: usize = 9;
+
+/// A bar on stderr, where that is a terminal.
 pub struct Progress {
-    terminal: bool,
+    bar: ProgressBar,
     last: Instant,
 }
 
 impl Progress {
-    pub fn new(terminal: bool) -> Progress {
-        Progress { terminal, last: Instant::now() }
+    pub fn new(records: usize) -> Progress {
+        let bar = ProgressBar::with_draw_target(Some(records as u64), ProgressDrawTarget::stderr());
+        let style = ProgressStyle::with_template("{bar:30} {human_pos} of {human_len} records sent, {msg}");
+        bar.set_style(style.expect("the template is well formed"));
+        Progress { bar, last: Instant::now() }
     }
 
-    pub fn tell(&mut self, options: &Options, ledgers: &[Ledger; 2], told: &Told, started: Instant) {
-        if self.last.elapsed() < Duration::from_millis(if self.terminal { 100 } else { 1000 }) {
+    pub fn tell(&mut self, sent: usize, handed_over: usize, obeyed: usize) {
+        if self.bar.is_hidden() || self.last.elapsed() < Duration::from_millis(100) {
             return;
         }
         self.last = Instant::now();
-        let line = format!(
-            "{:5.1} s: {} records sealed, {} handed over, {} of {} orders obeyed",
-            started.elapsed().as_secs_f64(),
-            grouped(ledgers[0].sealed().len() + ledgers[1].sealed().len()),
-            grouped(ledgers[0].handed + ledgers[1].handed),
-            told.orders_obeyed.len(),
-            options.orders + 1,
-        );
-        if self.terminal {
-            eprint!("\r{line}\x1b[K");
-        } else {
-            eprintln!("{line}");
-        }
+        self.bar.set_position((sent as u64).min(self.bar.length().unwrap_or(0)));
+        self.bar.set_message(format!("{} handed over, {obeyed} orders obeyed", number(handed_over)));
     }
 
-    pub fn end(&mut self) {
-        if self.terminal {
-            eprint!("\r\x1b[K");
-        }
+    pub fn end(&self) {
+        self.bar.finish_and_clear();
     }
 }
 
-/// A number with a comma before each three digits.
-pub fn grouped(n: usize) -> String {
-    let digits = n.to_string();
-    let mut out = String::new();
-    for (i, digit) in digits.chars().enumerate() {
-        if i > 0 && (digits.len() - i) % 3 == 0 {
-            out.push(',');
-        }
-        out.push(digit);
-    }
-    out
+fn number(n: usize) -> HumanCount {
+    HumanCount(n as u64)
 }
 
 fn kwh(wh: u64) -> String {
-    format!("{}.{:03} kWh", grouped((wh / 1000) as usize), wh % 1000)
+    format!("{}.{:03} kWh", HumanCount(wh / 1000), wh % 1000)
 }
 
-fn row(name: &str, a: usize, b: usize) {
-    println!("  {name:<52}{:>16}{:>18}", grouped(a), grouped(b));
+/// A report as people read it.
+pub struct Page<'a>(pub &'a Report);
+
+impl fmt::Display for Page<'_> {
+    fn fmt(&self, f: &mut fmt::Formatter<'_>) -> fmt::Result {
+        let report = self.0;
+        writeln!(f, "{}, seed {}, {:.1} s", report.cipher, report.seed, report.seconds)?;
+        writeln!(f, "  {:<52}{:>16}{:>18}", "", "post to gateway", "gateway to post")?;
+        self.datagrams(f)?;
+        self.records(f)?;
+        self.readings(f)?;
+        self.totals(f)?;
+        self.verdict(f)?;
+        writeln!(f, "advice: {}", report.advice)
+    }
 }
 
-fn energy<'a>(records: impl Iterator<Item = &'a Record>) -> (usize, u64) {
-    records.fold((0, 0), |(count, sum), record| match Word::of(&record.content) {
-        Some(Word::Meter { wh, .. }) if record.content_type == 23 => (count + 1, sum + u64::from(wh)),
-        _ => (count, sum),
-    })
-}
+impl Page<'_> {
+    fn row(&self, f: &mut fmt::Formatter<'_>, name: &str, count: fn(&Way) -> usize) -> fmt::Result {
+        let [up, down] = [&self.0.post_to_gateway, &self.0.gateway_to_post].map(|way| number(count(way)).to_string());
+        writeln!(f, "  {name:<52}{up:>16}{down:>18}")
+    }
 
-/// Prints the page; the exit status.
-pub fn print(options: &Options, tallies: [&Tally; 2], ledgers: &[Ledger; 2], told: &Told, finished: bool, seconds: f64) -> i32 {
-    let [up, down] = ledgers;
-    let verdicts = [up.judge(), down.judge()];
-    println!("{}, seed {}, {seconds:.1} s", options.suite.name(), options.seed);
-    println!("  {:<52}{:>16}{:>18}", "", "post to gateway", "gateway to post");
-    row("datagrams sent", tallies[0].arrived, tallies[1].arrived);
-    row("  lost by the link", tallies[0].lost, tallies[1].lost);
-    row("  doubled", tallies[0].doubled, tallies[1].doubled);
-    row("  held back", tallies[0].delayed, tallies[1].delayed);
-    row("  corrupted", tallies[0].corrupted, tallies[1].corrupted);
-    row("  forged", tallies[0].forged, tallies[1].forged);
-    row("  delivered", tallies[0].delivered, tallies[1].delivered);
-    row("  not read any more", verdicts[0].unread, verdicts[1].unread);
-    row("records sealed", up.sealed().len(), down.sealed().len());
-    row("  handed over", up.handed, down.handed);
-    row("  sent again", told.resent[0], told.resent[1]);
-    row("  saved ones acknowledged", told.marked[0], told.marked[1]);
-    row("records read in plaintext", up.plaintext, down.plaintext);
-    row("sealed records read before encryption", up.unopened, down.unopened);
-    for (i, reason) in REASONS.iter().enumerate() {
-        if up.dropped[i] + down.dropped[i] > 0 {
-            row(&format!("dropped by {i}: {reason}"), up.dropped[i], down.dropped[i]);
+    fn datagrams(&self, f: &mut fmt::Formatter<'_>) -> fmt::Result {
+        self.row(f, "datagrams sent", |way| way.datagrams.link.sent)?;
+        self.row(f, "  lost by the link", |way| way.datagrams.link.lost)?;
+        self.row(f, "  doubled by the link", |way| way.datagrams.link.doubled)?;
+        self.row(f, "  held back for a time", |way| way.datagrams.link.held_back)?;
+        self.row(f, "  damaged", |way| way.datagrams.link.damaged)?;
+        self.row(f, "  forged besides", |way| way.datagrams.link.forged)?;
+        self.row(f, "  delivered", |way| way.datagrams.link.delivered)?;
+        self.row(f, "  delivered and not read at the end", |way| way.datagrams.unread)
+    }
+
+    fn records(&self, f: &mut fmt::Formatter<'_>) -> fmt::Result {
+        self.row(f, "records sealed", |way| way.records.sealed)?;
+        self.row(f, "  handed over", |way| way.records.handed_over)?;
+        self.row(f, "  lost by the link", |way| way.records.lost)?;
+        self.row(f, "  too late: overtaken by more than 63 records", |way| way.records.too_late)?;
+        self.row(f, "  damaged", |way| way.records.damaged)?;
+        self.row(f, "  read before their keys", |way| way.records.before_keys)?;
+        self.row(f, "  on their way at the end", |way| way.records.on_their_way)?;
+        if self.0.post_to_gateway.records.left_out + self.0.gateway_to_post.records.left_out > 0 {
+            self.row(f, "  LEFT OUT", |way| way.records.left_out)?;
         }
+        self.row(f, "what --pack cost: lost or damaged beside another", |way| way.records.beside_another)?;
+        self.row(f, "records sent again", |way| way.records.sent_again)?;
+        self.row(f, "saved records acknowledged", |way| way.records.acknowledged)
     }
-    let (sent, sent_wh) = energy(up.sealed().iter());
-    let (handed, handed_wh) = energy(up.sealed().iter().zip(&verdicts[0].handed).filter(|(_, handed)| **handed).map(|(record, _)| record));
-    println!("meter records: {} sent, {} handed over, {} counted", grouped(sent), grouped(handed), grouped(told.counted));
-    println!("energy: {} sent; of what was handed over {} at the post, {} at the gateway", kwh(sent_wh), kwh(handed_wh), kwh(told.energy));
-    println!("orders: {} given, {} obeyed", told.orders_given, told.orders_obeyed.len());
-    let mut wrong = judged(&verdicts);
-    if (handed, handed_wh) != (told.counted, told.energy) && finished {
-        wrong.push("the gateway counted other meter records than were sent".to_string());
-    }
-    if !told.orders_obeyed.iter().enumerate().all(|(i, order)| *order == i + 1) || told.orders_obeyed.len() > told.orders_given {
-        wrong.push("an order was obeyed that was not given, or twice".to_string());
-    }
-    conclude(&wrong, told, finished)
-}
 
-fn judged(verdicts: &[Verdict; 2]) -> Vec<String> {
-    let sum = |count: fn(&Verdict) -> usize| verdicts.iter().map(count).sum::<usize>();
-    let counts = [
-        (sum(|v| v.twice), "handed over twice"),
-        (sum(|v| v.changed), "handed over changed"),
-        (sum(|v| v.invented), "handed over that was not sealed"),
-        (sum(|v| v.left_out), "left out though undamaged and in reach"),
-        (sum(|v| v.unacknowledged), "marked acknowledged of which no sending was handed over"),
-    ];
-    counts.iter().filter(|(n, _)| *n > 0).map(|(n, what)| format!("{}: a record {what}", grouped(*n))).collect()
-}
+    fn readings(&self, f: &mut fmt::Formatter<'_>) -> fmt::Result {
+        self.row(f, "records read in plaintext", |way| way.readings.plaintext)?;
+        self.row(f, "sealed records read before encryption", |way| way.readings.unopened)?;
+        let [up, down] = [&self.0.post_to_gateway.readings, &self.0.gateway_to_post.readings];
+        for (refusal, reason) in REASONS.iter().enumerate() {
+            let [a, b] = [up, down].map(|readings| readings.dropped_by(refusal));
+            if a + b > 0 {
+                let name = format!("dropped by {refusal}: {reason}");
+                writeln!(f, "  {name:<52}{:>16}{:>18}", number(a).to_string(), number(b).to_string())?;
+                if refusal == NOT_FRESH {
+                    self.not_fresh(f)?;
+                }
+            }
+        }
+        Ok(())
+    }
 
-fn conclude(wrong: &[String], told: &Told, finished: bool) -> i32 {
-    for why in &told.stopped {
-        println!("stopped: {why}");
+    fn not_fresh(&self, f: &mut fmt::Formatter<'_>) -> fmt::Result {
+        self.row(f, "  doubles, handed over before", |way| way.readings.doubles)?;
+        self.row(f, "  too late or replayed, never handed over", |way| way.readings.too_late)?;
+        self.row(f, "  damaged or forged numbers", |way| {
+            way.readings.dropped_by(NOT_FRESH).saturating_sub(way.readings.doubles + way.readings.too_late)
+        })
     }
-    for what in wrong {
-        println!("DOES NOT HOLD: {what}");
+
+    fn totals(&self, f: &mut fmt::Formatter<'_>) -> fmt::Result {
+        let (meter, orders) = (&self.0.meter, &self.0.orders);
+        let [sent, handed_over, counted] = [meter.sent, meter.handed_over, meter.counted].map(number);
+        writeln!(f, "meter records: {sent} sent, {handed_over} handed over, {counted} counted")?;
+        let [sent, handed_over, counted] = [meter.sent_wh, meter.handed_over_wh, meter.counted_wh].map(kwh);
+        writeln!(f, "energy: {sent} sent; of what was handed over {handed_over} at the post, {counted} at the gateway")?;
+        writeln!(f, "orders: {} given, {} obeyed", orders.given, orders.obeyed)
     }
-    if !wrong.is_empty() {
-        return 1;
+
+    fn verdict(&self, f: &mut fmt::Formatter<'_>) -> fmt::Result {
+        let verdict = &self.0.verdict;
+        for finding in &verdict.findings {
+            writeln!(f, "DOES NOT HOLD: {finding}")?;
+        }
+        if let Some(why) = &verdict.unfinished {
+            writeln!(f, "not finished: {why}; {}", self.so_far())?;
+        }
+        let head = match (&verdict.unfinished, verdict.findings.is_empty()) {
+            (_, false) => return Ok(()),
+            (Some(_), true) if !verdict.whole => return writeln!(f, "so far: nothing that must not be, in what the ends could tell"),
+            (Some(_), true) => "so far",
+            (None, true) => "holds",
+        };
+        writeln!(f, "{head}: no record handed over twice, changed or invented, none left out that arrived undamaged and in reach,")?;
+        let rest = "none marked acknowledged that was not handed over; each meter record counted was sent, each order obeyed once";
+        writeln!(f, "{:head$}  {rest}", "", head = head.len())
     }
-    if !finished || told.done < 2 {
-        println!("not finished");
-        return 2;
+
+    fn so_far(&self) -> String {
+        let (meter, orders) = (&self.0.meter, &self.0.orders);
+        let (sent, to_send) = (number(meter.sent), number(meter.to_send));
+        format!("{sent} of {to_send} meter records sent, {} of {} orders obeyed", orders.obeyed, orders.to_give)
     }
-    println!("holds: no record handed over twice, changed or invented, none left out that arrived undamaged and in reach,");
-    println!("       none marked acknowledged that was not handed over; each meter record counted was sent, each order obeyed once");
-    0
 }

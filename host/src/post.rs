@@ -3,17 +3,18 @@
 use std::time::{Duration, Instant};
 
 use huskelapse::content_type::APPLICATION_DATA;
+use rand::rngs::SmallRng;
+use rand::{Rng, SeedableRng};
 
 use crate::end::{End, PACE};
 use crate::handshake::Handshake;
 use crate::meter::Word;
 use crate::options::Options;
-use crate::random::Random;
 
 const AGAIN: Duration = Duration::from_millis(10);
 
 pub fn run(options: &Options, mut end: End) {
-    let mut random = Random::new(options.seed ^ 0x706F_7374);
+    let mut random = SmallRng::seed_from_u64(options.seed ^ 0x706F_7374);
     let (mut sent, mut obeyed, mut stopped) = (0, 0, false);
     let mut told: Option<Instant> = None;
     let mut handshake = Handshake::begin(&mut end, true);
@@ -41,8 +42,8 @@ pub fn run(options: &Options, mut end: End) {
             continue;
         }
         while sent < options.records && end.outstanding < PACE {
-            for _ in 0..=random.below(options.pack).min(options.records - sent - 1) {
-                end.send(&Word::Meter { index: sent as u32, wh: random.below(30) as u32 }.bytes());
+            for _ in 0..random.gen_range(1..=options.pack).min(options.records - sent) {
+                end.send(&Word::Meter { index: sent as u32, wh: random.gen_range(0..30) }.bytes());
                 sent += 1;
             }
             end.flush();

@@ -1,31 +1,47 @@
-//! The two calls of the C library that Rust's does not wrap.
+//! Waiting on sockets and pipes at once.
 
 use std::io;
 use std::os::fd::RawFd;
+use std::time::Duration;
 
-#[repr(C)]
-struct PollFd {
-    fd: i32,
-    events: i16,
-    revents: i16,
+use polling::{Event, Poller};
+
+/// What is waited on together. Whoever owns these keeps them open, or removes them first.
+pub struct Sources<const N: usize> {
+    poller: Poller,
+    fds: [Option<RawFd>; N],
+    events: Vec<Event>,
 }
 
-const POLLIN: i16 = 1;
+impl<const N: usize> Sources<N> {
+    pub fn new(fds: [RawFd; N]) -> io::Result<Sources<N>> {
+        let poller = Poller::new()?;
+        for (place, fd) in fds.into_iter().enumerate() {
+            poller.add(fd, Event::readable(place))?;
+        }
+        Ok(Sources { poller, fds: fds.map(Some), events: Vec::new() })
+    }
 
-extern "C" {
-    fn poll(fds: *mut PollFd, n: u64, timeout: i32) -> i32;
-    fn read(fd: i32, buffer: *mut u8, n: usize) -> isize;
-}
+    /// Waits until one of these can be read or has ended, at most so many milliseconds. Which ones it is.
+    pub fn wait(&mut self, milliseconds: u64) -> [bool; N] {
+        self.events.clear();
+        // A signal ends the waiting early: then nothing is ready.
+        let _ = self.poller.wait(&mut self.events, Some(Duration::from_millis(milliseconds)));
+        let mut ready = [false; N];
+        for event in &self.events {
+            ready[event.key] = true;
+            // An event is told once: what is left unread is to be told again.
+            if let Some(fd) = self.fds[event.key] {
+                let _ = self.poller.modify(fd, Event::readable(event.key));
+            }
+        }
+        ready
+    }
 
-/// Waits until one of these can be read or has ended, at most so many milliseconds. Which ones it is.
-pub fn wait<const N: usize>(fds: [Option<RawFd>; N], milliseconds: i32) -> [bool; N] {
-    let mut set = fds.map(|fd| PollFd { fd: fd.unwrap_or(-1), events: POLLIN, revents: 0 });
-    let ready = unsafe { poll(set.as_mut_ptr(), N as u64, milliseconds) };
-    std::array::from_fn(|i| ready > 0 && set[i].revents != 0)
-}
-
-/// Reads what is there; 0 at the end.
-pub fn read_some(fd: RawFd, buffer: &mut [u8]) -> io::Result<usize> {
-    let n = unsafe { read(fd, buffer.as_mut_ptr(), buffer.len()) };
-    usize::try_from(n).map_err(|_| io::Error::last_os_error())
+    /// This one is not waited on any more.
+    pub fn remove(&mut self, place: usize) {
+        if let Some(fd) = self.fds[place].take() {
+            let _ = self.poller.delete(fd);
+        }
+    }
 }

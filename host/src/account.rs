@@ -1,0 +1,359 @@
+//! What became of each record of a direction, and whether that is as it must be.
+
+use std::collections::{HashMap, HashSet};
+use std::ops::Range;
+use std::slice;
+
+use crate::ledger::{Delivery, Event, Ledger, Record};
+use crate::link::Kind;
+
+/// What became of a sealed record. Of several copies that arrived, the one that comes last here counts.
+#[derive(Clone, Copy, Debug, Eq, Ord, PartialEq, PartialOrd)]
+pub enum Fate {
+    /// No copy of it was read when the run ended.
+    OnItsWay,
+    /// Gone with its datagram.
+    Lost,
+    /// Read before its epoch was keyed.
+    BeforeKeys,
+    Damaged,
+    /// Read when it was behind the window.
+    TooLate,
+    /// Read undamaged, unused and in reach, and yet not handed over.
+    LeftOut,
+    HandedOver,
+}
+
+/// What comes of a direction.
+#[derive(Default)]
+pub struct Account {
+    pub twice: usize,
+    pub changed: usize,
+    pub invented: usize,
+    pub left_out: usize,
+    /// Marked acknowledged though no sending of it was handed over.
+    pub unacknowledged: usize,
+    /// Datagrams delivered and not read: on their way when the far end ended, or lost between the sockets.
+    pub unread: usize,
+    /// Readings of undamaged records that were handed over before.
+    pub doubles: usize,
+    /// Readings of undamaged records that were behind the window.
+    pub late: usize,
+    /// Records lost or damaged together with another one in the same datagram.
+    pub beside: usize,
+    /// For each record sealed.
+    pub fates: Vec<Fate>,
+}
+
+impl Account {
+    /// Goes through all that was read in order.
+    pub fn of(ledger: &Ledger) -> Account {
+        let mut judge = Judge::new(ledger);
+        for event in &ledger.events {
+            match event {
+                Event::Keyed(epoch) => {
+                    judge.used.insert(*epoch, Used::default());
+                }
+                Event::Handed(record) => judge.hand(record),
+                Event::Read(check) => judge.read(*check),
+            }
+        }
+        let mut account = judge.account;
+        let acknowledged = ledger.acknowledged.iter().filter(|record| record.epoch >= 2);
+        account.unacknowledged = acknowledged.filter(|record| !was_handed(ledger, &account.fates, record)).count();
+        account.unread = ledger.delivered.len().saturating_sub(ledger.read);
+        account.beside = ledger.sent.iter().map(|sent| beside(&account.fates, &sent.records)).sum();
+        account
+    }
+
+    pub fn count(&self, fate: Fate) -> usize {
+        self.fates.iter().filter(|this| **this == fate).count()
+    }
+}
+
+/// A number beside those that are used in its epoch.
+#[derive(PartialEq)]
+enum Standing {
+    Used,
+    Behind,
+    Beyond,
+    Fresh,
+}
+
+/// The numbers used in a receive epoch.
+#[derive(Default)]
+struct Used {
+    numbers: HashSet<u64>,
+    highest: Option<u64>,
+}
+
+/// A number more than this below the highest is behind the window.
+pub const REACH: u64 = 63;
+
+impl Used {
+    /// Fresh is: unused, at most 63 below the highest, under 32,768 above the highest plus one.
+    fn standing(&self, number: u64) -> Standing {
+        let low = self.highest.unwrap_or(0).saturating_sub(REACH);
+        let next = self.highest.map_or(0, |highest| highest + 1);
+        if self.numbers.contains(&number) {
+            Standing::Used
+        } else if number < low {
+            Standing::Behind
+        } else if number >= next + 32_768 {
+            Standing::Beyond
+        } else {
+            Standing::Fresh
+        }
+    }
+
+    fn mark(&mut self, number: u64) {
+        self.numbers.insert(number);
+        self.highest = self.highest.max(Some(number));
+    }
+}
+
+/// Whether a sending of this record was handed over.
+fn was_handed(ledger: &Ledger, fates: &[Fate], a: &Record) -> bool {
+    let same = |r: &Record| r.epoch == a.epoch && r.content_type == a.content_type && r.content == a.content;
+    ledger.sealed.iter().zip(fates).any(|(record, fate)| *fate == Fate::HandedOver && same(record))
+}
+
+/// Of the records of a datagram, those lost or damaged but for one.
+fn beside(fates: &[Fate], records: &Range<usize>) -> usize {
+    let here = fates.get(records.clone()).unwrap_or(&[]);
+    here.iter().filter(|fate| matches!(fate, Fate::Lost | Fate::Damaged)).count().saturating_sub(1)
+}
+
+/// On the way through what was read.
+struct Judge<'a> {
+    sealed: &'a [Record],
+    index: HashMap<(u16, u64), usize>,
+    used: HashMap<u16, Used>,
+    delivered: slice::Iter<'a, Delivery>,
+    /// Those handed over from the datagram that is being read.
+    here: Vec<usize>,
+    account: Account,
+}
+
+impl Judge<'_> {
+    fn new(ledger: &Ledger) -> Judge<'_> {
+        let mut fates = vec![Fate::OnItsWay; ledger.sealed.len()];
+        for sent in ledger.sent.iter().filter(|sent| sent.lost) {
+            // The log of an end that broke off may lack what it had sent.
+            fates.iter_mut().take(sent.records.end).skip(sent.records.start).for_each(|fate| *fate = Fate::Lost);
+        }
+        Judge {
+            sealed: &ledger.sealed,
+            index: ledger.sealed.iter().enumerate().map(|(i, r)| ((r.epoch, r.number), i)).collect(),
+            used: HashMap::new(),
+            delivered: ledger.delivered.iter(),
+            here: Vec::new(),
+            account: Account { fates, ..Account::default() },
+        }
+    }
+
+    fn meets(&mut self, i: usize, fate: Fate) {
+        self.account.fates[i] = self.account.fates[i].max(fate);
+    }
+
+    fn hand(&mut self, record: &Record) {
+        let Some(&i) = self.index.get(&(record.epoch, record.number)) else {
+            self.account.invented += 1;
+            return;
+        };
+        let sealed = &self.sealed[i];
+        let same = sealed.content_type == record.content_type && sealed.content == record.content;
+        self.account.changed += usize::from(!same);
+        self.account.twice += usize::from(self.account.fates[i] == Fate::HandedOver);
+        self.meets(i, Fate::HandedOver);
+        self.here.push(i);
+    }
+
+    /// A datagram is read: the records in it that were not handed over are looked at.
+    fn read(&mut self, check: u64) {
+        if let Some(delivery) = self.delivered.find(|delivery| delivery.check == check) {
+            let records = delivery.records.start..delivery.records.end.min(self.sealed.len());
+            match delivery.kind {
+                Kind::Intact | Kind::Replayed => self.read_whole(records, delivery.kind == Kind::Replayed),
+                Kind::Damaged => records.for_each(|i| self.meets(i, Fate::Damaged)),
+                Kind::Forged => {}
+            }
+        }
+        for i in std::mem::take(&mut self.here) {
+            let record = &self.sealed[i];
+            self.used.entry(record.epoch).or_default().mark(record.number);
+        }
+    }
+
+    fn read_whole(&mut self, records: Range<usize>, replayed: bool) {
+        // At most 16 readings from one datagram.
+        for i in records.take(16).filter(|i| !self.here.contains(i)).collect::<Vec<_>>() {
+            match self.standing(i) {
+                None => self.meets(i, Fate::BeforeKeys),
+                Some(Standing::Used) => self.account.doubles += 1,
+                Some(Standing::Behind) => {
+                    self.account.late += 1;
+                    if !replayed {
+                        self.meets(i, Fate::TooLate);
+                    }
+                }
+                Some(Standing::Beyond) => {}
+                Some(Standing::Fresh) => {
+                    self.account.left_out += 1;
+                    self.meets(i, Fate::LeftOut);
+                }
+            }
+        }
+    }
+
+    /// How a record stood when it was read. Records of its datagram that were handed over before it count as used.
+    fn standing(&self, i: usize) -> Option<Standing> {
+        let record = &self.sealed[i];
+        let standing = self.used.get(&record.epoch)?.standing(record.number);
+        let before = self.here.iter().filter(|before| **before < i).map(|before| &self.sealed[*before]);
+        let passed = before.filter(|b| b.epoch == record.epoch).map(|b| b.number).max();
+        let late = passed.is_some_and(|highest| record.number + REACH < highest);
+        Some(if standing == Standing::Fresh && late { Standing::Behind } else { standing })
+    }
+}
+
+#[cfg(test)]
+mod tests {
+    use super::*;
+    use crate::link::{Datagram, Sent};
+
+    /// A direction whose records are numbered from 0 in epoch 3.
+    struct Scene {
+        ledger: Ledger,
+        datagrams: Vec<Datagram>,
+    }
+
+    impl Scene {
+        /// Each datagram is sent with so many records.
+        fn new(counts: &[usize]) -> Scene {
+            let mut scene = Scene { ledger: Ledger::default(), datagrams: Vec::new() };
+            scene.ledger.reads("k", &mut "3".split_ascii_whitespace());
+            for (i, count) in counts.iter().enumerate() {
+                let first = scene.ledger.sealed.len();
+                for number in first..first + count {
+                    scene.ledger.seals(&mut line(number).split_ascii_whitespace());
+                }
+                let records = first..first + count;
+                scene.ledger.sends(Sent { records: records.clone(), lost: false });
+                scene.datagrams.push(Datagram { bytes: i.to_be_bytes().to_vec(), records, kind: Kind::Intact });
+            }
+            scene
+        }
+
+        fn lose(&mut self, i: usize) {
+            self.ledger.sent[i].lost = true;
+        }
+
+        /// A datagram is delivered and read, and these records of it are handed over.
+        fn read(&mut self, i: usize, kind: Kind, handed: &[usize]) {
+            let datagram = Datagram { kind, ..self.datagrams[i].clone() };
+            self.ledger.delivers(&datagram);
+            for number in handed {
+                self.ledger.reads("r", &mut line(*number).split_ascii_whitespace());
+            }
+            let check = crate::ledger::check(&datagram.bytes).to_string();
+            self.ledger.reads("g", &mut check.split_ascii_whitespace());
+        }
+
+        fn account(&self) -> Account {
+            Account::of(&self.ledger)
+        }
+    }
+
+    fn line(number: usize) -> String {
+        format!("3 {number} 23 {}", hex::encode(number.to_be_bytes()))
+    }
+
+    fn findings(account: &Account) -> [usize; 5] {
+        [account.twice, account.changed, account.invented, account.left_out, account.unacknowledged]
+    }
+
+    #[test]
+    fn each_record_has_one_fate() {
+        let mut scene = Scene::new(&[1, 1, 1, 1]);
+        scene.read(0, Kind::Intact, &[0]);
+        scene.lose(1);
+        scene.read(2, Kind::Damaged, &[]);
+        let account = scene.account();
+        assert_eq!(account.fates, [Fate::HandedOver, Fate::Lost, Fate::Damaged, Fate::OnItsWay]);
+        assert_eq!(findings(&account), [0; 5]);
+    }
+
+    #[test]
+    fn a_double_is_told_from_one_that_is_late() {
+        let mut scene = Scene::new(&[1; 66]);
+        scene.read(1, Kind::Intact, &[1]);
+        scene.read(65, Kind::Intact, &[65]);
+        scene.read(1, Kind::Intact, &[]);
+        scene.read(0, Kind::Intact, &[]);
+        let account = scene.account();
+        assert_eq!((account.doubles, account.late), (1, 1));
+        assert_eq!(account.fates[..2], [Fate::TooLate, Fate::HandedOver]);
+        assert_eq!(findings(&account), [0; 5]);
+    }
+
+    #[test]
+    fn the_last_in_reach_must_not_be_left_out() {
+        let mut scene = Scene::new(&[1; 64]);
+        scene.read(63, Kind::Intact, &[63]);
+        scene.read(0, Kind::Intact, &[]);
+        let account = scene.account();
+        assert_eq!(account.fates[0], Fate::LeftOut);
+        assert_eq!(findings(&account), [0, 0, 0, 1, 0]);
+    }
+
+    #[test]
+    fn a_lost_one_stays_lost_when_it_is_replayed_late() {
+        let mut scene = Scene::new(&[1; 100]);
+        scene.lose(0);
+        scene.read(99, Kind::Intact, &[99]);
+        scene.read(0, Kind::Replayed, &[]);
+        let account = scene.account();
+        assert_eq!((account.fates[0], account.late), (Fate::Lost, 1));
+    }
+
+    #[test]
+    fn before_its_keys_is_no_finding() {
+        let mut scene = Scene::new(&[1]);
+        scene.ledger.events.clear();
+        scene.read(0, Kind::Intact, &[]);
+        let account = scene.account();
+        assert_eq!((account.fates[0], findings(&account)), (Fate::BeforeKeys, [0; 5]));
+    }
+
+    #[test]
+    fn packing_costs_what_goes_along() {
+        let mut scene = Scene::new(&[4, 4, 4]);
+        scene.lose(0);
+        scene.read(1, Kind::Damaged, &[4, 5]);
+        scene.read(2, Kind::Intact, &[8, 9, 10, 11]);
+        let account = scene.account();
+        assert_eq!((account.count(Fate::Lost), account.count(Fate::Damaged), account.beside), (4, 2, 3 + 1));
+    }
+
+    #[test]
+    fn twice_changed_and_invented_are_findings() {
+        let mut scene = Scene::new(&[1, 1]);
+        scene.read(0, Kind::Intact, &[0]);
+        scene.read(0, Kind::Intact, &[0]);
+        scene.read(1, Kind::Intact, &[7]);
+        scene.ledger.reads("r", &mut "3 1 23 00".split_ascii_whitespace());
+        let account = scene.account();
+        assert_eq!((account.twice, account.changed, account.invented), (1, 1, 1));
+    }
+
+    #[test]
+    fn a_log_that_breaks_off_is_read_as_far_as_it_goes() {
+        let mut scene = Scene::new(&[1, 2]);
+        scene.ledger.sealed.truncate(1);
+        scene.lose(1);
+        scene.read(0, Kind::Intact, &[0]);
+        scene.read(1, Kind::Damaged, &[]);
+        assert_eq!(scene.account().fates, [Fate::HandedOver]);
+    }
+}

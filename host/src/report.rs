@@ -1,0 +1,238 @@
+//! What a run came to, in numbers: the page and the JSON object are written from it.
+
+use serde::Serialize;
+
+use crate::account::{Account, Fate};
+use crate::advice;
+use crate::ledger::{Ledger, Record};
+use crate::link::Tally;
+use crate::meter::Word;
+use crate::options::Options;
+use crate::verdict::{Ending, Verdict};
+
+/// What the two ends told of themselves, the post first.
+#[derive(Clone, Debug, Default)]
+pub struct Told {
+    pub orders_given: usize,
+    pub orders_obeyed: Vec<usize>,
+    pub counted: usize,
+    pub energy: u64,
+    /// Records sent again and records marked acknowledged.
+    pub resent: [usize; 2],
+    pub marked: [usize; 2],
+    /// Why an end stopped by itself.
+    pub stopped: [Option<String>; 2],
+    /// Whether an end said all that it had to say.
+    pub done: [bool; 2],
+}
+
+#[derive(Serialize)]
+pub struct Report {
+    pub cipher: &'static str,
+    pub seed: u64,
+    pub seconds: f64,
+    pub post_to_gateway: Way,
+    pub gateway_to_post: Way,
+    pub meter: Meter,
+    pub orders: Orders,
+    #[serde(flatten)]
+    pub verdict: Verdict,
+    pub advice: String,
+}
+
+/// One direction.
+#[derive(Clone, Serialize)]
+pub struct Way {
+    pub datagrams: Datagrams,
+    pub records: Records,
+    pub readings: Readings,
+}
+
+#[derive(Clone, Serialize)]
+pub struct Datagrams {
+    #[serde(flatten)]
+    pub link: Tally,
+    pub unread: usize,
+}
+
+/// Records sealed, by what became of them; each is counted once in the fields up to `left_out`.
+#[derive(Clone, Default, Serialize)]
+pub struct Records {
+    pub sealed: usize,
+    pub handed_over: usize,
+    pub lost: usize,
+    pub damaged: usize,
+    pub too_late: usize,
+    pub before_keys: usize,
+    pub on_their_way: usize,
+    pub left_out: usize,
+    /// Of those lost and damaged, the ones that shared a datagram with another one.
+    pub beside_another: usize,
+    pub sent_again: usize,
+    pub acknowledged: usize,
+}
+
+#[derive(Clone, Serialize)]
+pub struct Readings {
+    pub plaintext: usize,
+    pub unopened: usize,
+    pub doubles: usize,
+    pub too_late: usize,
+    /// By refusal: how often.
+    pub dropped: Vec<Dropped>,
+}
+
+#[derive(Clone, Serialize)]
+pub struct Dropped {
+    pub refusal: usize,
+    pub count: usize,
+}
+
+#[derive(Clone, Default, PartialEq, Serialize)]
+pub struct Meter {
+    pub to_send: usize,
+    pub sent: usize,
+    pub sent_wh: u64,
+    pub handed_over: usize,
+    pub handed_over_wh: u64,
+    pub counted: usize,
+    pub counted_wh: u64,
+}
+
+#[derive(Clone, Serialize)]
+pub struct Orders {
+    pub to_give: usize,
+    pub given: usize,
+    pub obeyed: usize,
+}
+
+impl Way {
+    fn new(side: usize, tally: &Tally, ledger: &Ledger, account: &Account, told: &Told) -> Way {
+        let dropped = ledger.dropped.iter().enumerate().filter(|(_, count)| **count > 0);
+        Way {
+            datagrams: Datagrams { link: tally.clone(), unread: account.unread },
+            records: Records {
+                sealed: ledger.sealed.len(),
+                handed_over: account.count(Fate::HandedOver),
+                lost: account.count(Fate::Lost),
+                damaged: account.count(Fate::Damaged),
+                too_late: account.count(Fate::TooLate),
+                before_keys: account.count(Fate::BeforeKeys),
+                on_their_way: account.count(Fate::OnItsWay),
+                left_out: account.count(Fate::LeftOut),
+                beside_another: account.beside,
+                sent_again: told.resent[side],
+                acknowledged: told.marked[side],
+            },
+            readings: Readings {
+                plaintext: ledger.plaintext,
+                unopened: ledger.unopened,
+                doubles: account.doubles,
+                too_late: account.late,
+                dropped: dropped.map(|(refusal, count)| Dropped { refusal, count: *count }).collect(),
+            },
+        }
+    }
+}
+
+impl Readings {
+    pub fn dropped_by(&self, refusal: usize) -> usize {
+        self.dropped.iter().filter(|dropped| dropped.refusal == refusal).map(|dropped| dropped.count).sum()
+    }
+}
+
+/// How many of these are meter records, and their energy.
+fn energy<'a>(records: impl Iterator<Item = &'a Record>) -> (usize, u64) {
+    records.fold((0, 0), |(count, sum), record| match Word::of(&record.content) {
+        Some(Word::Meter { wh, .. }) if record.content_type == 23 => (count + 1, sum + u64::from(wh)),
+        _ => (count, sum),
+    })
+}
+
+impl Meter {
+    fn new(options: &Options, up: &Ledger, account: &Account, told: &Told) -> Meter {
+        let handed = up.sealed.iter().zip(&account.fates).filter(|(_, fate)| **fate == Fate::HandedOver);
+        let (sent, sent_wh) = energy(up.sealed.iter());
+        let (handed_over, handed_over_wh) = energy(handed.map(|(record, _)| record));
+        let (counted, counted_wh) = (told.counted, told.energy);
+        Meter { to_send: options.records, sent, sent_wh, handed_over, handed_over_wh, counted, counted_wh }
+    }
+}
+
+impl Report {
+    pub fn new(options: &Options, tallies: [&Tally; 2], ledgers: &[Ledger; 2], told: &Told, ending: Ending, seconds: f64) -> Report {
+        let accounts = [Account::of(&ledgers[0]), Account::of(&ledgers[1])];
+        let meter = Meter::new(options, &ledgers[0], &accounts[0], told);
+        let verdict = Verdict::new(ending, &accounts, told, &meter);
+        let way = |side: usize| Way::new(side, tallies[side], &ledgers[side], &accounts[side], told);
+        let mut report = Report {
+            cipher: options.suite.name(),
+            seed: options.seed,
+            seconds: (seconds * 1000.0).round() / 1000.0,
+            post_to_gateway: way(0),
+            gateway_to_post: way(1),
+            meter,
+            orders: Orders { to_give: options.orders + 1, given: told.orders_given, obeyed: told.orders_obeyed.len() },
+            verdict,
+            advice: String::new(),
+        };
+        report.advice = advice::on(options, &report);
+        report
+    }
+
+    /// One object, for programs.
+    pub fn json(&self) -> String {
+        serde_json::to_string_pretty(self).expect("a report has only what JSON can say") + "\n"
+    }
+}
+
+#[cfg(test)]
+mod tests {
+    use clap::Parser;
+    use serde_json::Value;
+
+    use super::*;
+    use crate::page::Page;
+
+    /// A run of one meter record of 14 Wh, which was handed over.
+    fn report(ending: Ending) -> Report {
+        let options = Options::parse_from(["host/run", "--records", "1", "--orders", "0"]);
+        let content = Word::Meter { index: 0, wh: 14 }.bytes();
+        let line = format!("3 0 23 {}", hex::encode(content));
+        let mut up = Ledger::default();
+        up.seals(&mut line.split_ascii_whitespace());
+        up.reads("r", &mut line.split_ascii_whitespace());
+        up.reads("x", &mut "9".split_ascii_whitespace());
+        let told = Told { counted: 1, energy: 14, orders_given: 1, orders_obeyed: vec![1], done: [true, true], ..Told::default() };
+        let tally = Tally { sent: 1, delivered: 1, ..Tally::default() };
+        Report::new(&options, [&tally, &Tally::default()], &[up, Ledger::default()], &told, ending, 0.25)
+    }
+
+    #[test]
+    fn json_is_one_object_with_the_page_in_it() {
+        let json: Value = serde_json::from_str(&report(Ending::Ended).json()).expect("JSON");
+        assert_eq!(json["verdict"], "holds");
+        assert_eq!(json["exit_status"], 0);
+        assert_eq!(json["unfinished"], Value::Null);
+        assert_eq!(json["post_to_gateway"]["datagrams"]["sent"], 1);
+        assert_eq!(json["post_to_gateway"]["records"]["handed_over"], 1);
+        assert_eq!(json["post_to_gateway"]["readings"]["dropped"][0]["refusal"], 9);
+        assert_eq!(json["meter"]["counted_wh"], 14);
+    }
+
+    #[test]
+    fn json_says_what_is_not_finished() {
+        let json: Value = serde_json::from_str(&report(Ending::TimeOver(1)).json()).expect("JSON");
+        assert_eq!(json["verdict"], "not finished");
+        assert_eq!(json["exit_status"], 2);
+        assert_eq!(json["unfinished"], "the time was over after 1 s");
+    }
+
+    #[test]
+    fn the_page_ends_with_verdict_and_advice() {
+        let page = Page(&report(Ending::Interrupted)).to_string();
+        assert!(page.contains("not finished: it was interrupted; 1 of 1 meter records sent, 1 of 1 orders obeyed\n"), "{page}");
+        assert!(!page.contains("HOLD"), "{page}");
+        assert!(page.lines().last().is_some_and(|line| line.starts_with("advice: ")), "{page}");
+    }
+}

@@ -1,0 +1,187 @@
+//! Whether a run is as it must be: it holds, it does not, or it was not finished. What is only missing is never held against it.
+
+use indicatif::HumanCount;
+use serde::Serialize;
+
+use crate::account::Account;
+use crate::report::{Meter, Told};
+
+/// How a run came to its end.
+#[derive(Clone, Copy, PartialEq)]
+pub enum Ending {
+    /// An end ended by itself, and the other was told to.
+    Ended,
+    /// After so many seconds.
+    TimeOver(u64),
+    Interrupted,
+}
+
+#[derive(Clone, Copy, Debug, PartialEq, Serialize)]
+pub enum Word {
+    #[serde(rename = "holds")]
+    Holds,
+    #[serde(rename = "does not hold")]
+    DoesNotHold,
+    #[serde(rename = "not finished")]
+    NotFinished,
+}
+
+#[derive(Serialize)]
+pub struct Verdict {
+    #[serde(rename = "verdict")]
+    pub word: Word,
+    pub exit_status: i32,
+    /// What must not be, and is.
+    pub findings: Vec<String>,
+    /// Why the run was not finished.
+    pub unfinished: Option<String>,
+    #[serde(skip)]
+    pub ending: Ending,
+    /// Whether both ends said all that they had to say.
+    #[serde(skip)]
+    pub whole: bool,
+}
+
+impl Verdict {
+    pub fn new(ending: Ending, accounts: &[Account; 2], told: &Told, meter: &Meter) -> Verdict {
+        let mut findings = wrong_records(accounts, told.done);
+        findings.extend(wrong_counts(told, meter));
+        let unfinished = unfinished(ending, told);
+        let (word, exit_status) = match (findings.is_empty(), &unfinished) {
+            (false, _) => (Word::DoesNotHold, 1),
+            (true, Some(_)) => (Word::NotFinished, 2),
+            (true, None) => (Word::Holds, 0),
+        };
+        Verdict { word, exit_status, findings, unfinished, ending, whole: told.done == [true, true] }
+    }
+}
+
+/// The log of an end that broke off lacks its last lines: what such lines would explain is no finding.
+fn wrong_records(accounts: &[Account; 2], done: [bool; 2]) -> Vec<String> {
+    let sum = |count: fn(&Account) -> usize, told: [bool; 2]| -> usize {
+        accounts.iter().zip(told).filter(|(_, told)| *told).map(|(account, _)| count(account)).sum()
+    };
+    let [post, gateway] = done;
+    let (always, by_sender, by_receiver) = ([true, true], [post, gateway], [gateway, post]);
+    let counts = [
+        (sum(|a| a.twice, always), "handed over twice"),
+        (sum(|a| a.changed, always), "handed over changed"),
+        (sum(|a| a.invented, by_sender), "handed over that was not sealed"),
+        (sum(|a| a.left_out, always), "left out though undamaged and in reach"),
+        (sum(|a| a.unacknowledged, by_receiver), "marked acknowledged of which no sending was handed over"),
+    ];
+    let found = counts.into_iter().filter(|(n, _)| *n > 0);
+    found.map(|(n, what)| format!("{}: a record {what}", HumanCount(n as u64))).collect()
+}
+
+fn wrong_counts(told: &Told, meter: &Meter) -> Vec<String> {
+    let mut wrong = Vec::new();
+    let handed_over = (meter.handed_over, meter.handed_over_wh);
+    if told.done == [true, true] && handed_over != (meter.counted, meter.counted_wh) {
+        wrong.push("the gateway counted other meter records than were sent".to_string());
+    }
+    let in_order = told.orders_obeyed.iter().enumerate().all(|(i, order)| *order == i + 1);
+    if !in_order || (told.done[1] && told.orders_obeyed.len() > told.orders_given) {
+        wrong.push("an order was obeyed that was not given, or twice".to_string());
+    }
+    wrong
+}
+
+fn unfinished(ending: Ending, told: &Told) -> Option<String> {
+    match ending {
+        Ending::TimeOver(seconds) => return Some(format!("the time was over after {seconds} s")),
+        Ending::Interrupted => return Some("it was interrupted".to_string()),
+        Ending::Ended => {}
+    }
+    let side = told.done.iter().position(|done| !done)?;
+    let why = told.stopped[side].as_deref().unwrap_or("it did not say why");
+    Some(format!("{} ended before its time: {why}", ["the post", "the gateway"][side]))
+}
+
+#[cfg(test)]
+mod tests {
+    use super::*;
+
+    fn told() -> Told {
+        Told { orders_given: 2, orders_obeyed: vec![1, 2], counted: 3, energy: 30, done: [true, true], ..Told::default() }
+    }
+
+    fn meter() -> Meter {
+        Meter { to_send: 3, sent: 3, sent_wh: 30, handed_over: 3, handed_over_wh: 30, counted: 3, counted_wh: 30 }
+    }
+
+    fn verdict(ending: Ending, up: Account, told: &Told) -> Verdict {
+        Verdict::new(ending, &[up, Account::default()], told, &meter())
+    }
+
+    #[test]
+    fn a_whole_run_holds() {
+        let verdict = verdict(Ending::Ended, Account::default(), &told());
+        assert_eq!((verdict.word, verdict.exit_status), (Word::Holds, 0));
+        assert!(verdict.findings.is_empty() && verdict.unfinished.is_none());
+    }
+
+    #[test]
+    fn time_and_interruption_are_not_finished() {
+        for (ending, why) in [(Ending::TimeOver(1), "the time was over after 1 s"), (Ending::Interrupted, "it was interrupted")] {
+            let verdict = verdict(ending, Account::default(), &told());
+            assert_eq!((verdict.word, verdict.exit_status), (Word::NotFinished, 2));
+            assert_eq!(verdict.unfinished.as_deref(), Some(why));
+        }
+    }
+
+    #[test]
+    fn an_end_that_stops_is_not_finished() {
+        let stopped = [None, Some("refusal 20".to_string())];
+        let verdict = verdict(Ending::Ended, Account::default(), &Told { stopped, done: [true, false], ..told() });
+        assert_eq!((verdict.word, verdict.exit_status), (Word::NotFinished, 2));
+        assert_eq!(verdict.unfinished.as_deref(), Some("the gateway ended before its time: refusal 20"));
+    }
+
+    #[test]
+    fn each_finding_does_not_hold() {
+        let accounts = [
+            Account { twice: 1, ..Account::default() },
+            Account { changed: 1, ..Account::default() },
+            Account { invented: 1, ..Account::default() },
+            Account { left_out: 1, ..Account::default() },
+            Account { unacknowledged: 1, ..Account::default() },
+        ];
+        for account in accounts {
+            let verdict = verdict(Ending::Ended, account, &told());
+            assert_eq!((verdict.word, verdict.exit_status, verdict.findings.len()), (Word::DoesNotHold, 1, 1));
+        }
+    }
+
+    #[test]
+    fn wrong_counts_and_orders_do_not_hold() {
+        let wrong = [
+            (told(), Meter { counted: 2, ..meter() }),
+            (told(), Meter { counted_wh: 31, ..meter() }),
+            (Told { orders_obeyed: vec![1, 1], ..told() }, meter()),
+            (Told { orders_given: 1, ..told() }, meter()),
+        ];
+        for (told, meter) in wrong {
+            let verdict = Verdict::new(Ending::Ended, &[Account::default(), Account::default()], &told, &meter);
+            assert_eq!((verdict.word, verdict.exit_status, verdict.findings.len()), (Word::DoesNotHold, 1, 1));
+        }
+    }
+
+    #[test]
+    fn a_finding_stays_one_in_a_run_not_finished() {
+        let verdict = verdict(Ending::TimeOver(1), Account { twice: 1, ..Account::default() }, &told());
+        assert_eq!((verdict.word, verdict.exit_status), (Word::DoesNotHold, 1));
+    }
+
+    #[test]
+    fn what_a_broken_log_lacks_is_no_finding() {
+        let post_broke = Told { done: [false, true], ..told() };
+        let gateway_broke = Told { done: [true, false], orders_given: 0, counted: 0, energy: 0, ..told() };
+        let invented = Account { invented: 1, ..Account::default() };
+        let unacknowledged = Account { unacknowledged: 1, ..Account::default() };
+        for (account, told) in [(invented, post_broke), (unacknowledged, gateway_broke)] {
+            let verdict = verdict(Ending::Interrupted, account, &told);
+            assert_eq!((verdict.word, verdict.exit_status), (Word::NotFinished, 2));
+        }
+    }
+}
