@@ -1,36 +1,20 @@
-/* The record link's C interface: `rt staticlib huskelapse` makes its static library, target/staticlib/libhuskelapse.a.
- * Plain functions over memory that the host lends: no allocation, no global state, no requirement on the caller but that each pointer
- * leads to what its type or the length beside it says, and that no two of them overlap. A state is words whose meaning the library
- * keeps; whatever stands in them, a call ends with an answer, and refuses by 12 what is no state. Refusals have the numbers of the
- * specification. A refused call leaves words that calls made, and every buffer, as they are, but for link_receiving and
- * link_sending, which begin them; words that no call made it may write anew with the same meaning.
+/* The record layer of DTLS 1.3 (RFC 9147) for charging posts and gateways, proved: the C interface of libhuskelapse.a.
  *
- * Refusals
- *  1 a datagram over 16,384 bytes
- *  2 a header or a length reaches beyond the datagram, which ends there
- *  3 a seventeenth reading; the datagram ends there
- *  4 a plaintext record's type, version or epoch is not allowed
- *  5 a sealed record with epoch bits 0 or 1 before peer encryption is on
- *  6 no keys for the record's epoch
- *  7 the protected part is too short
- *  8 the record's number would be above 2^48 - 1
- *  9 the record's number is used or too old
- * 10 the cipher did not open the record
- * 11 the opened record has no content type; its number is used
- * 12 a setting or a state is out of its range, or a buffer too short for them
- * 13 the epoch cannot be used so
- * 14 the content type is not allowed, the body over 16,384 bytes or the record over the MTU
- * 15 no such question waits, or the reply has the wrong length
- * 16 the buffer is too small for the datagram
- * 17 no keys to send in the epoch
- * 18 the flight would have a thirteenth record
- * 19 a new datagram is needed and the queue has no room for one
- * 20 the epoch's record numbers are spent
- * 21 the handshake message numbers are spent
- * 22 a handshake record remembers 32 numbers
- * 23 the front datagram is not wholly sealed, four application epochs are keyed to receive, or a sealing waits under the application
- *    epoch that would be replaced
- * Each call is told with its own; 12 can come from all but link_flight. */
+ * Plain functions over memory that the host lends: no allocation, no global state, no thread, and nothing asked of the caller but that
+ * each pointer leads to what its type or the length beside it says, and that no two of them overlap. A state is words whose meaning the
+ * library keeps. Whatever stands in them, a call ends with an answer. The host keeps keys, cipher, timers and sockets.
+ *
+ * Four objects, each begun by its _init call: HuskReceiving and HuskSending are the two directions of one end; HuskFlight holds the
+ * records that go out again until they are acknowledged; HuskNotes the records to acknowledge. Names are husk_OBJECT_VERB.
+ *
+ * Answers. A call that answers a uint8_t answers 0 (HUSK_DONE), or the number of a refusal. Others answer a struct with a field
+ * `refusal`, 0 where nothing is refused. A refused call leaves every buffer, and words that calls made, as they are, but for the _init
+ * calls, which begin them; words that no call made it may write anew with the same meaning.
+ *
+ * What 12 covers: a setting outside its range; words that are no state (a flag above 1, a count or a place beyond its limit, a number
+ * above 2^48 - 1, a waiting question or sealing that lies outside the datagram or the queue); a queue under limit times mtu bytes, a
+ * flight's memory under 12 times mtu bytes. What 12 does not cover: whether words are those that the last call at this end left, whether
+ * a buffer is the one lent before, and fields that a call does not use. */
 #ifndef HUSKELAPSE_H
 #define HUSKELAPSE_H
 
@@ -41,22 +25,110 @@
 extern "C" {
 #endif
 
+#define HUSK_VERSION_MAJOR 0
+#define HUSK_VERSION_MINOR 5
+#define HUSK_VERSION_PATCH 0
+#define HUSK_VERSION "0.5.0"
+
+/* ---- refusals */
+
+enum {
+    HUSK_DONE = 0,
+    /* The far end or a stranger causes these. */
+    HUSK_DATAGRAM_TOO_LONG = 1, /* a datagram over 16,384 bytes */
+    HUSK_TRUNCATED = 2,         /* a header or a length reaches beyond the datagram, which ends there */
+    HUSK_TOO_MANY_READINGS = 3, /* a seventeenth reading; the datagram ends there */
+    HUSK_BAD_PLAINTEXT = 4,     /* a plaintext record's type, version or epoch is not allowed */
+    HUSK_BEFORE_ENCRYPTION = 5, /* a sealed record with epoch bits 0 or 1 before peer encryption is on */
+    HUSK_NO_KEYS = 6,           /* no keys for the record's epoch */
+    HUSK_TOO_SHORT = 7,         /* the protected part is too short */
+    HUSK_NUMBER_TOO_LARGE = 8,  /* the record's number would be above 2^48 - 1 */
+    HUSK_NOT_FRESH = 9,         /* the record's number is used or too old */
+    HUSK_NOT_OPENED = 10,       /* the cipher did not open the record */
+    HUSK_NO_CONTENT_TYPE = 11,  /* the opened record has no content type; its number is used */
+    /* The host causes these. */
+    HUSK_OUT_OF_RANGE = 12,     /* a setting or a state is out of its range, or a buffer too short for them */
+    HUSK_BAD_EPOCH = 13,        /* the epoch cannot be used so */
+    HUSK_BAD_RECORD = 14,       /* the content type is not allowed, the body over 16,384 bytes or the record over the MTU */
+    HUSK_NO_QUESTION = 15,      /* no such question waits, or the reply has the wrong length */
+    HUSK_BUFFER_TOO_SMALL = 16, /* the buffer is too small for the datagram; the answer says what is needed */
+    HUSK_KEYS_ABSENT = 17,      /* no keys to send in the epoch */
+    /* Use causes these. */
+    HUSK_FLIGHT_FULL = 18,      /* the flight would have a thirteenth record */
+    HUSK_QUEUE_FULL = 19,       /* a new datagram is needed and the queue has no room for one */
+    HUSK_NUMBERS_SPENT = 20,    /* the epoch's record numbers are spent */
+    HUSK_MESSAGES_SPENT = 21,   /* the handshake message numbers are spent */
+    HUSK_RESENDS_SPENT = 22,    /* a handshake record remembers 32 numbers */
+    HUSK_WAITING = 23           /* the front datagram is not wholly sealed, four application epochs are keyed to receive, or a sealing
+                                   waits under the application epoch that would be replaced */
+};
+
+/* What a refusal means, for a log. */
+static inline const char *husk_refusal_text(uint8_t refusal) {
+    static const char *const text[] = {
+        "done",
+        "the datagram has more than 16,384 bytes",
+        "a header or a length reaches beyond the datagram",
+        "the datagram has a seventeenth reading",
+        "a plaintext record's type, version or epoch is not allowed",
+        "a sealed record with epoch bits 0 or 1 before peer encryption",
+        "no keys for the record's epoch",
+        "the protected part is too short",
+        "the record's number is above 2^48 - 1",
+        "the record's number is used or too old",
+        "the cipher did not open the record",
+        "the opened record has no content type",
+        "a setting or a state is out of its range, or a buffer too short for it",
+        "the epoch cannot be used so",
+        "the type is not allowed, the body over 16,384 bytes or the record over the MTU",
+        "the reply answers no waiting question or has the wrong length",
+        "the buffer is too small for the datagram",
+        "no keys to send in this epoch",
+        "the flight is full",
+        "the queue is full",
+        "the record numbers of this epoch are spent",
+        "the message numbers are spent",
+        "a record was sent again 32 times",
+        "a sealing still waits, or four application epochs are keyed to receive",
+    };
+    return refusal < sizeof text / sizeof *text ? text[refusal] : "no refusal of this version";
+}
+
+/* Content types of records. */
+enum {
+    HUSK_ALERT = 21,
+    HUSK_HANDSHAKE = 22,
+    HUSK_APPLICATION_DATA = 23, /* in sealed records only */
+    HUSK_ACK = 26
+};
+
+/* A tag has 16 bytes; a sealed record is content, its type and the tag. */
+enum { HUSK_TAG = 16 };
+
+/* Answer of a call that tells one thing besides its refusal. */
+typedef struct {
+    uint8_t refusal;
+    uint8_t told;
+} HuskTold;
+
 /* ---- receiving */
 
 /* The receive side: epochs with their IVs and windows, the begun datagram, the question that waits. */
 typedef struct {
     uint64_t word[39];
-} LinkReceiving;
+} HuskReceiving;
 
 enum {
-    LINK_REFUSED = 0,   /* refusal 1, 12 or 15: nothing has changed */
-    LINK_END = 1,       /* the datagram ends; refusal 0, 2 or 3 */
-    LINK_DROPPED = 2,   /* one record is dropped; refusal 4 to 11 */
-    LINK_PLAINTEXT = 3, /* content_type, number; content at start, length bytes */
-    LINK_UNOPENED = 4,  /* epoch (its two bits), number; protected part at start, length bytes */
-    LINK_OPENED = 5,    /* epoch, number, content_type; content at start, length bytes */
-    LINK_MASK = 6,      /* asked: the mask for epoch of the 16 bytes at start */
-    LINK_OPENING = 7    /* asked: the opening for epoch and number under nonce; header at start, header_len bytes, then length bytes */
+    HUSK_READING_REFUSED = 0,   /* refusal 1, 12 or 15: nothing has changed */
+    HUSK_READING_END = 1,       /* the datagram ends; refusal 0, 2 or 3 */
+    HUSK_READING_DROPPED = 2,   /* one record is dropped; refusal 4 to 11 */
+    HUSK_READING_PLAINTEXT = 3, /* content_type, number; content at start, length bytes. Anyone can have written it */
+    HUSK_READING_UNOPENED = 4,  /* before peer encryption: epoch (its two bits), number (its bytes as they lie, masked); protected part
+                                   at start, length bytes */
+    HUSK_READING_OPENED = 5,    /* epoch, number, content_type; content at start, length bytes */
+    HUSK_READING_MASK = 6,      /* asked: the mask by the number key of epoch of the 16 bytes at start (length is 16) */
+    HUSK_READING_OPENING = 7    /* asked: the opening for epoch and number under nonce; header at start, header_len bytes (its number
+                                   unmasked), behind it the protected part, length bytes */
 };
 
 /* What a call says of the record at the cursor. Fields that a kind does not use are zeros. */
@@ -66,132 +138,217 @@ typedef struct {
     uint64_t number;
     size_t start, header_len, length;
     uint8_t nonce[12];
-} LinkReading;
+} HuskReading;
 
-/* A call that answers a uint8_t answers 0, or the number of the refusal. */
-
-/* Nothing keyed, no datagram begun, whatever stood in the words. A protected part has at least min_protected bytes, 0 to 17. Refused by
- * 12, and then so is every call on it. */
-uint8_t link_receiving(LinkReceiving *s, size_t min_protected);
+/* Nothing keyed, no datagram begun, whatever stood in the words. A protected part has at least 16 and at least min_protected bytes, 0 to
+ * 17: give 17 (a content type and the tag) for AES-GCM and ChaCha20-Poly1305; 16 lets a record without a content type come to the cipher,
+ * as the Rust does. Refused by 12, and then so is every call on it. */
+uint8_t husk_receiving_init(HuskReceiving *s, size_t min_protected);
 /* Keys an epoch to receive, 2 or above and above every earlier one, with its IV. Refused by 12, 13, 23. */
-uint8_t link_key_receive(LinkReceiving *s, uint16_t epoch, const uint8_t iv[12]);
-/* Removes an epoch that is keyed. Refused by 12, 13; 6 where it is done, and the record under a question is dropped with its epoch. */
-uint8_t link_remove_receive(LinkReceiving *s, uint16_t epoch);
-/* From the next record read on sealed records are opened. Refused by 12. */
-uint8_t link_enable_peer_encryption(LinkReceiving *s);
-/* From the next record read on epoch bits 2 mean an application epoch before they mean epoch 2. Refused by 12. */
-uint8_t link_release_application_data(LinkReceiving *s);
-/* Begins a datagram of n bytes; a question that waits is cancelled. Refused by 1, 12. */
-uint8_t link_begin(LinkReceiving *s, size_t n);
+uint8_t husk_receiving_key(HuskReceiving *s, uint16_t epoch, const uint8_t iv[12]);
+/* Removes an epoch that is keyed. told is 1 where a question waited under it: its record is dropped, and the cut goes on behind it.
+ * Refused by 12, 13. */
+HuskTold husk_receiving_remove(HuskReceiving *s, uint16_t epoch);
+/* From the next record read on sealed records are opened. This is not undone. Refused by 12. */
+uint8_t husk_receiving_enable_encryption(HuskReceiving *s);
+/* From the next record read on epoch bits 2 mean an application epoch before they mean epoch 2. This is not undone. Refused by 12. */
+uint8_t husk_receiving_release_application_data(HuskReceiving *s);
 
 /* One record after the other: read; where asked, mask; where asked, opened. The same datagram, of the length begun, goes into each
- * call. The mask is XORed onto the number bytes in place. opened is 1 if the host put the plaintext, length bytes (16 fewer than the
- * protected part), at the start of the protected part, else 0. */
+ * call. d is not const where a call may write the number bytes of a record (mask does; read and begin_read will for epochs whose masks
+ * the library makes itself). */
 
+/* Begins a datagram of n bytes; a question that waits is cancelled. Refused by 1, 12. */
+uint8_t husk_receiving_begin(HuskReceiving *s, size_t n);
 /* The next record, or the question that waits again. Refused by 12, 15; ended by 2, 3; dropped by 4, 5, 6, 7. */
-LinkReading link_read(LinkReceiving *s, const uint8_t *d, size_t n);
-/* Begins a datagram and reads its first record in one call; a refused beginning is kind 0 with 1 or 12. Else as link_read. */
-LinkReading link_begin_read(LinkReceiving *s, const uint8_t *d, size_t n);
-/* The reply to LINK_MASK. Refused by 12, 15; dropped by 8, 9. */
-LinkReading link_mask(LinkReceiving *s, uint8_t mask_0, uint8_t mask_1, uint8_t *d, size_t n);
-/* The reply to LINK_OPENING. Refused by 12, 15; ended by 3; dropped by 10, 11. */
-LinkReading link_opened(LinkReceiving *s, uint8_t opened, size_t length, const uint8_t *d, size_t n);
+HuskReading husk_receiving_read(HuskReceiving *s, uint8_t *d, size_t n);
+/* Begins a datagram and reads its first record in one call; a refused beginning is kind 0 with 1 or 12. Else as husk_receiving_read. */
+HuskReading husk_receiving_begin_read(HuskReceiving *s, uint8_t *d, size_t n);
+/* The reply to HUSK_READING_MASK: the first two bytes of the mask, XORed onto the number bytes in place (onto one byte the first alone).
+ * Refused by 12, 15; dropped by 8, 9. */
+HuskReading husk_receiving_mask(HuskReceiving *s, uint8_t mask_0, uint8_t mask_1, uint8_t *d, size_t n);
+/* The reply to HUSK_READING_OPENING. opened is exactly 1 if the host put the plaintext, length bytes (16 fewer than the protected part),
+ * at the start of the protected part, and exactly 0 if the tag was wrong; anything else is 12, and the question waits on. Refused by
+ * 12, 15; ended by 3; dropped by 10, 11. */
+HuskReading husk_receiving_opened(HuskReceiving *s, uint8_t opened, size_t length, const uint8_t *d, size_t n);
 
 /* ---- sending */
 
 /* The sending side: settings, the queue's lengths, the oldest sealing that waits, epochs with their IVs and next numbers. */
 typedef struct {
     uint64_t word[39];
-} LinkSending;
+} HuskSending;
+
+/* The flight: twelve saved records, and 32 remembered numbers for each. The contents are in a buffer of the host with at least 12 times
+ * mtu bytes, the same in every call. */
+typedef struct {
+    uint64_t word[73], numbers[384];
+} HuskFlight;
+
+/* The records noted for the outgoing ACK, at most 32. */
+typedef struct {
+    uint64_t count[1], epochs[32], numbers[32];
+} HuskNotes;
 
 enum {
-    LINK_NO_SEALING = 1, /* none waits */
-    LINK_SEAL = 2        /* seal length bytes of the queue from start on, for epoch and number under nonce, header beside them */
+    HUSK_SEALING_REFUSED = 0, /* refusal 12 */
+    HUSK_SEALING_NONE = 1,    /* none waits */
+    HUSK_SEALING_SEAL = 2     /* seal length bytes of the queue from start on, for epoch and number under nonce, header beside them */
 };
 
-/* Kind 0 is refused. The part to seal is the content, its type and room for the tag of 16. */
+/* The part to seal is the content, its type and room for the tag of 16. The header has 5 bytes; with connection IDs it will have up to
+ * 25, and this struct a length for it: read it by sizeof. */
 typedef struct {
     uint8_t kind, refusal;
     uint16_t epoch;
     uint64_t number;
     size_t start, length;
     uint8_t nonce[12], header[5];
-} LinkSealing;
+} HuskSealing;
 
 enum {
-    LINK_EMPTY = 1, /* the queue is empty */
-    LINK_TAKEN = 2  /* a datagram of length bytes is at the start of the buffer, or at start in the queue */
+    HUSK_TAKE_REFUSED = 0, /* refusal 12, 16 or 23 */
+    HUSK_TAKE_EMPTY = 1,   /* the queue is empty */
+    HUSK_TAKE_TAKEN = 2    /* a datagram of length bytes is at the start of the buffer, or at start in the queue */
 };
 
-/* Kind 0 is refused; by 16, length bytes are needed. */
+/* By 16, length bytes are needed. */
 typedef struct {
     uint8_t kind, refusal;
     size_t length;
-} LinkTake;
+} HuskTake;
 
-/* Kind 0 is refused. */
 typedef struct {
     uint8_t kind, refusal;
     size_t start, length;
-} LinkPart;
+} HuskPart;
+
+/* Datagrams queued, and records among them that wait to be sealed. */
+typedef struct {
+    uint8_t refusal, queued;
+    size_t waiting;
+} HuskQueued;
 
 /* Nothing keyed, nothing queued, whatever stood in the words: MTU 576 to 1,500, at most limit datagrams, 1 to 16. The queue is a buffer
  * of the host with at least limit times mtu bytes, the same in every call. Refused by 12, and then so is every call on it. */
-uint8_t link_sending(LinkSending *s, size_t mtu, size_t limit);
+uint8_t husk_sending_init(HuskSending *s, size_t mtu, size_t limit);
 /* Keys an epoch to send, 2 or above and above every earlier one, with its IV; an application epoch replaces the one before. Refused by
  * 12, 13, 23. */
-uint8_t link_key_send(LinkSending *s, uint16_t epoch, const uint8_t iv[12]);
-/* A record: in plaintext in epoch 0, else to be sealed. Refused by 12, 13, 14, 17, 19, 20. */
-uint8_t link_send(LinkSending *s, uint16_t epoch, uint8_t content_type, const uint8_t *content, size_t content_len, uint8_t *queue,
-    size_t queue_len);
+uint8_t husk_sending_key(HuskSending *s, uint16_t epoch, const uint8_t iv[12]);
+/* A record that is not saved: in plaintext in epoch 0, else to be sealed. Refused by 12, 13, 14, 17, 19, 20. */
+uint8_t husk_sending_send(HuskSending *s, uint16_t epoch, uint8_t content_type, const uint8_t *content, size_t content_len,
+    uint8_t *queue, size_t queue_len);
 /* The oldest sealing that waits; the host seals it in place in the queue, then says so. Refused by 12. */
-LinkSealing link_sealing(const LinkSending *s);
-/* It is sealed, length bytes, and this is the mask of its two number bytes. Refused by 12, 15. */
-uint8_t link_sealed(LinkSending *s, size_t length, uint8_t mask_0, uint8_t mask_1, uint8_t *queue, size_t queue_len);
+HuskSealing husk_sending_sealing(const HuskSending *s);
 /* The front datagram, copied to the start of a buffer. Refused by 12, 16, 23. */
-LinkTake link_take(LinkSending *s, uint8_t *buffer, size_t buffer_len, const uint8_t *queue, size_t queue_len);
+HuskTake husk_sending_take(HuskSending *s, uint8_t *buffer, size_t buffer_len, const uint8_t *queue, size_t queue_len);
 /* The front datagram taken without a copy: it is the length bytes of the queue from start on, and stays there until the next call that
  * is lent the queue to write to. Refused by 12, 23. */
-LinkPart link_take_in_place(LinkSending *s, const uint8_t *queue, size_t queue_len);
+HuskPart husk_sending_take_in_place(HuskSending *s, const uint8_t *queue, size_t queue_len);
+/* What is queued and waits to be sealed. Refused by 12. */
+HuskQueued husk_sending_status(const HuskSending *s);
+
+/* ---- functions of the library over the parts of flight and notes: hosts call the inline functions below, which take one pointer each */
+
+uint8_t husk_sending_sealed_words(HuskSending *s, size_t length, uint8_t mask_0, uint8_t mask_1, uint8_t *queue, size_t queue_len);
+
+/* What an ACK did: how many saved records it acknowledged that were not before, and what is left: records not acknowledged, and saved
+ * ones (0: the flight is empty). */
+typedef struct {
+    uint8_t refusal, marked, unacknowledged, saved;
+} HuskAcked;
+
+/* Records saved, and those of them not acknowledged. */
+typedef struct {
+    uint8_t refusal, saved, unacknowledged;
+} HuskSaved;
+
+void husk_flight_init_words(uint64_t word[73], uint64_t numbers[384]);
+uint8_t husk_flight_begin_words(uint64_t word[73]);
+uint8_t husk_flight_send_words(HuskSending *s, uint64_t word[73], uint64_t numbers[384], uint16_t epoch, uint8_t content_type,
+    const uint8_t *content, size_t content_len, uint8_t *queue, size_t queue_len, uint8_t *kept, size_t kept_len);
+uint8_t husk_flight_message_words(HuskSending *s, uint64_t word[73], uint64_t numbers[384], uint8_t msg_type, const uint8_t *body,
+    size_t body_len, uint8_t *queue, size_t queue_len, uint8_t *kept, size_t kept_len);
+HuskTold husk_flight_resend_words(HuskSending *s, uint64_t word[73], uint64_t numbers[384], const uint8_t *kept, size_t kept_len,
+    uint8_t *queue, size_t queue_len);
+HuskAcked husk_flight_ack_words(uint64_t word[73], uint64_t numbers[384], const uint8_t *content, size_t content_len);
+HuskSaved husk_flight_status_words(const uint64_t word[73]);
+void husk_notes_init_words(uint64_t count[1], uint64_t epochs[32], uint64_t numbers[32]);
+HuskTold husk_notes_add_words(uint64_t count[1], uint64_t epochs[32], uint64_t numbers[32], uint64_t epoch, uint64_t number);
+HuskTold husk_notes_send_words(HuskSending *s, uint64_t count[1], uint64_t epochs[32], uint64_t numbers[32], uint8_t *queue,
+    size_t queue_len);
+
+/* The oldest sealing is sealed, length bytes, and this is the mask of its two number bytes: of the first 16 sealed bytes. f is the flight
+ * of this end; it is not used until the release in which keys are renewed. Refused by 12, 15. */
+static inline uint8_t husk_sending_sealed(HuskSending *s, HuskFlight *f, size_t length, uint8_t mask_0, uint8_t mask_1, uint8_t *queue,
+    size_t queue_len) {
+    (void)f;
+    return husk_sending_sealed_words(s, length, mask_0, mask_1, queue, queue_len);
+}
 
 /* ---- saved records and handshake messages */
 
-/* The flight: twelve saved records, and 32 remembered numbers for each. The contents are in a buffer of the host with at least 12 times
- * mtu bytes, the same in every call. */
-typedef struct {
-    uint64_t word[73], numbers[384];
-} LinkFlight;
-
 /* Nothing saved, whatever stood in the words. */
-void link_flight(uint64_t word[73], uint64_t numbers[384]);
-/* A new flight: it is empty. Refused by 12. */
-uint8_t link_begin_flight(uint64_t word[73]);
+static inline void husk_flight_init(HuskFlight *f) {
+    husk_flight_init_words(f->word, f->numbers);
+}
+
+/* A new flight: it is empty. s is not used until the release in which keys are renewed. Refused by 12. */
+static inline uint8_t husk_flight_begin(HuskFlight *f, HuskSending *s) {
+    (void)s;
+    return husk_flight_begin_words(f->word);
+}
+
 /* A record sent and saved. Refused by 12, 13, 14, 17, 18, 19, 20. */
-uint8_t link_send_saved(LinkSending *s, uint64_t word[73], uint64_t numbers[384], uint16_t epoch, uint8_t content_type,
-    const uint8_t *content, size_t content_len, uint8_t *queue, size_t queue_len, uint8_t *kept, size_t kept_len);
-/* A handshake message of a type, cut, sent and saved, wholly or not at all. Refused by 12, 14, 17, 18, 19, 20, 21. */
-uint8_t link_create_handshake(LinkSending *s, uint64_t word[73], uint64_t numbers[384], uint8_t msg_type, const uint8_t *body,
-    size_t body_len, uint8_t *queue, size_t queue_len, uint8_t *kept, size_t kept_len);
+static inline uint8_t husk_flight_send(HuskFlight *f, HuskSending *s, uint16_t epoch, uint8_t content_type, const uint8_t *content,
+    size_t content_len, uint8_t *queue, size_t queue_len, uint8_t *kept, size_t kept_len) {
+    return husk_flight_send_words(s, f->word, f->numbers, epoch, content_type, content, content_len, queue, queue_len, kept, kept_len);
+}
 
-/* ---- resends and ACKs */
+/* A handshake message of a type, cut, sent and saved, wholly or not at all: ClientHello (1) and ServerHello (2) in epoch 0, others in
+ * epoch 2. Refused by 12, 14, 17, 18, 19, 20, 21. */
+static inline uint8_t husk_flight_message(HuskFlight *f, HuskSending *s, uint8_t msg_type, const uint8_t *body, size_t body_len,
+    uint8_t *queue, size_t queue_len, uint8_t *kept, size_t kept_len) {
+    return husk_flight_message_words(s, f->word, f->numbers, msg_type, body, body_len, queue, queue_len, kept, kept_len);
+}
 
-/* The records noted for the outgoing ACK: how many, at most 32, and their epochs and numbers. It begins as zeros. */
-typedef struct {
-    uint64_t count[1], epochs[32], numbers[32];
-} LinkNotes;
+/* The saved records that are not acknowledged, sent again under new numbers in new datagrams, wholly or not at all. told is how many:
+ * with 0 a retransmission timer has nothing to do. Refused by 12, 13, 14, 17, 19, 20, 22. */
+static inline HuskTold husk_flight_resend(HuskFlight *f, HuskSending *s, const uint8_t *kept, size_t kept_len, uint8_t *queue,
+    size_t queue_len) {
+    return husk_flight_resend_words(s, f->word, f->numbers, kept, kept_len, queue, queue_len);
+}
 
-/* The saved records that are not acknowledged, sent again under new numbers in new datagrams, wholly or not at all. Refused by
- * 12, 13, 14, 17, 19, 20, 22. */
-uint8_t link_resend(LinkSending *s, uint64_t word[73], uint64_t numbers[384], const uint8_t *kept, size_t kept_len, uint8_t *queue,
-    size_t queue_len);
 /* Acts on an ACK with this content: marks the saved records that it names. The flight empties if it has records of epoch 2 and all of
- * these are marked. A content without the form of an ACK marks nothing and is not refused. Refused by 12. */
-uint8_t link_process_ack(uint64_t word[73], uint64_t numbers[384], const uint8_t *content, size_t content_len);
-/* Notes a record for the outgoing ACK. Where 32 are noted, nothing changes, and the answer is 0. Refused by 12. */
-uint8_t link_note(uint64_t count[1], uint64_t epochs[32], uint64_t numbers[32], uint64_t epoch, uint64_t number);
-/* The ACK of all that is noted, sent in the application epoch if keyed, else in 2; then nothing is noted. With nothing noted, nothing
- * is sent, and the answer is 0. Refused by 12, 13, 17, 19, 20. */
-uint8_t link_send_ack(LinkSending *s, uint64_t count[1], uint64_t epochs[32], uint64_t numbers[32], uint8_t *queue, size_t queue_len);
+ * these are marked. A content without the form of an ACK marks nothing and is not refused. s is not used until the release in which
+ * keys are renewed. Refused by 12. */
+static inline HuskAcked husk_flight_ack(HuskFlight *f, HuskSending *s, const uint8_t *content, size_t content_len) {
+    (void)s;
+    return husk_flight_ack_words(f->word, f->numbers, content, content_len);
+}
+
+/* What is saved and not acknowledged. Refused by 12. */
+static inline HuskSaved husk_flight_status(const HuskFlight *f) {
+    return husk_flight_status_words(f->word);
+}
+
+/* ---- ACKs */
+
+/* Nothing noted, whatever stood in the words. */
+static inline void husk_notes_init(HuskNotes *n) {
+    husk_notes_init_words(n->count, n->epochs, n->numbers);
+}
+
+/* Notes a record for the outgoing ACK. told is 1, or 0 where 32 are noted already: then nothing changes. Refused by 12. */
+static inline HuskTold husk_notes_add(HuskNotes *n, uint64_t epoch, uint64_t number) {
+    return husk_notes_add_words(n->count, n->epochs, n->numbers, epoch, number);
+}
+
+/* The ACK of all that is noted, sent in the application epoch if keyed, else in 2; then nothing is noted. told is 1, or 0 where nothing
+ * was noted and nothing is sent. Refused by 12, 13, 17, 19, 20. */
+static inline HuskTold husk_notes_send(HuskNotes *n, HuskSending *s, uint8_t *queue, size_t queue_len) {
+    return husk_notes_send_words(s, n->count, n->epochs, n->numbers, queue, queue_len);
+}
 
 #ifdef __cplusplus
 }
