@@ -81,7 +81,7 @@ impl Suite {
 #[derive(Debug)]
 #[non_exhaustive]
 pub enum KeyError {
-    /// The epoch has keys: they are not replaced, as nonces would be used twice.
+    /// The epoch has keys, and an epoch's keys do not change.
     Known,
     /// A key has another length than the suite's.
     Length {
@@ -124,7 +124,7 @@ const FAILED: CipherError = CipherError::new("OpenSSL failed");
 
 /// The keys of one direction, by epoch.
 ///
-/// OpenSSL keeps them, in two contexts for each epoch; no record allocates.
+/// OpenSSL keeps them, in two contexts for each epoch that all of its records use.
 pub struct Keys {
     suite: Suite,
     seals: bool,
@@ -138,7 +138,7 @@ struct Epoch {
     mask: CipherCtx,
 }
 
-/// Records of datagrams over Ethernet are copied at once.
+/// Bytes that go to OpenSSL at once: all of a record that a datagram of 1,500 bytes holds.
 const SCRATCH: usize = 2048;
 
 impl Keys {
@@ -162,7 +162,7 @@ impl Keys {
         if key.len() != needed || number_key.len() != needed {
             return Err(KeyError::Length { needed });
         }
-        if self.epoch(epoch).is_some() {
+        if of(&mut self.epochs, epoch).is_some() {
             return Err(KeyError::Known);
         }
         let mut record = CipherCtx::new()?;
@@ -184,11 +184,11 @@ impl Keys {
         self.epochs.retain(|e| e.epoch != epoch);
         self.epochs.len() < before
     }
+}
 
-    /// The newest epoch is asked for most.
-    fn epoch(&mut self, epoch: u16) -> Option<&mut Epoch> {
-        self.epochs.iter_mut().rev().find(|e| e.epoch == epoch)
-    }
+/// An epoch's contexts. The newest epoch is asked for most.
+fn of(epochs: &mut [Epoch], epoch: u16) -> Option<&mut Epoch> {
+    epochs.iter_mut().rev().find(|e| e.epoch == epoch)
 }
 
 impl fmt::Debug for Keys {
@@ -200,25 +200,24 @@ impl fmt::Debug for Keys {
 
 impl crate::Cipher for Keys {
     fn mask(&mut self, epoch: u16, sample: &[u8; 16]) -> Result<[u8; 2], CipherError> {
-        let suite = self.suite;
-        let mask = &mut self.epoch(epoch).ok_or(NO_KEYS)?.mask;
-        match suite {
+        let Epoch { mask, .. } = of(&mut self.epochs, epoch).ok_or(NO_KEYS)?;
+        let made = match self.suite {
             Suite::ChaCha20Poly1305 => chacha_mask(mask, sample),
-            _ => aes_mask(mask, sample),
-        }
-        .map_err(|_| FAILED)
+            Suite::Aes128Gcm | Suite::Aes256Gcm => aes_mask(mask, sample),
+        };
+        made.map_err(|_| FAILED)
     }
 
     fn open(&mut self, epoch: u16, _: u64, nonce: &[u8; 12], header: &[u8], part: &mut [u8]) -> bool {
         let Keys { seals: false, epochs, scratch, .. } = self else { return false };
-        let Some(Epoch { record, .. }) = epochs.iter_mut().rev().find(|e| e.epoch == epoch) else { return false };
+        let Some(Epoch { record, .. }) = of(epochs, epoch) else { return false };
         let Some((text, tag)) = text_and_tag(part) else { return false };
         open(record, scratch, nonce, header, text, tag).is_ok()
     }
 
     fn seal(&mut self, epoch: u16, _: u64, nonce: &[u8; 12], header: &[u8], part: &mut [u8]) -> Result<(), CipherError> {
         let Keys { seals: true, epochs, scratch, .. } = self else { return Err(NOT_TO_SEAL) };
-        let Epoch { record, .. } = epochs.iter_mut().rev().find(|e| e.epoch == epoch).ok_or(NO_KEYS)?;
+        let Epoch { record, .. } = of(epochs, epoch).ok_or(NO_KEYS)?;
         let (text, tag) = text_and_tag(part).ok_or(NO_ROOM)?;
         seal(record, scratch, nonce, header, text, tag).map_err(|_| FAILED)
     }

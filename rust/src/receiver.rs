@@ -22,6 +22,7 @@ use crate::{Cipher, Refusal};
 /// datagram.extend([0x2F, 0, 1, 0, 20]);
 /// datagram.extend([0; 20]);
 /// datagram.push(22);
+/// // `Toy` stands for a cipher with the keys of this direction.
 /// let readings: Vec<Reading> = receiver.read(&mut datagram, &mut Toy(5))?.collect();
 /// assert_eq!(
 ///     readings,
@@ -79,7 +80,7 @@ impl Receiver {
     /// Refused with [`Refusal::BadEpoch`] (13).
     pub fn remove(&mut self, epoch: u16) -> Result<bool, Refusal> {
         let answer = self.state.remove(epoch);
-        Refusal::or(answer.refusal, answer.told == 1)
+        Refusal::answer(answer.refusal, answer.told == 1)
     }
 
     /// From now on sealed records are opened. This is not undone.

@@ -126,7 +126,7 @@ impl Refusal {
     }
 
     /// What is told where the number is 0, else the refusal with this number.
-    pub(crate) fn or<T>(number: u8, told: T) -> Result<T, Refusal> {
+    pub(crate) fn answer<T>(number: u8, told: T) -> Result<T, Refusal> {
         match number {
             0 => Ok(told),
             _ => Err(Refusal::of(number, 0)),
@@ -140,7 +140,7 @@ impl Refusal {
 
     /// Nothing where the number is 0, else the refusal with this number.
     pub(crate) fn done(number: u8) -> Result<(), Refusal> {
-        Refusal::or(number, ())
+        Refusal::answer(number, ())
     }
 }
 

@@ -25,7 +25,7 @@ use crate::{Cipher, CipherError, Error, Refusal, SealFailed};
 ///
 /// let mut buffer = [0; 1200];
 /// assert_eq!(sender.take(&mut buffer), Err(Error::Refused(Refusal::Waiting))); // not sealed yet
-/// assert_eq!(sender.seal(&mut Toy(5))?, 2);
+/// assert_eq!(sender.seal(&mut Toy(5))?, 2); // `Toy` stands for a cipher with the keys of this direction
 /// assert_eq!(sender.take(&mut buffer[..10]), Err(Error::Refused(Refusal::BufferTooSmall { needed: 60 })));
 /// let datagram = sender.take(&mut buffer)?.expect("one datagram");
 /// assert_eq!(datagram.len(), 60); // both records
@@ -261,7 +261,7 @@ impl<Q: AsRef<[u8]> + AsMut<[u8]>, F: AsRef<[u8]> + AsMut<[u8]>> Sender<Q, F> {
     /// [`Refusal::NumbersSpent`] (20) and [`Refusal::ResendsSpent`] (22); then nothing has changed.
     pub fn resend(&mut self) -> Result<usize, Refusal> {
         let answer = self.flight.resend(&mut self.state, self.kept.as_ref(), self.queue.as_mut());
-        Refusal::or(answer.refusal, answer.told.into())
+        Refusal::answer(answer.refusal, answer.told.into())
     }
 
     /// Acts on the content of an ACK that was opened: the saved records that it names are not sent again. If the flight has records of
@@ -274,7 +274,7 @@ impl<Q: AsRef<[u8]> + AsMut<[u8]>, F: AsRef<[u8]> + AsMut<[u8]>> Sender<Q, F> {
         let answer = self.flight.ack(&mut self.state, content);
         let acked =
             Acked { marked: answer.marked.into(), unacknowledged: answer.unacknowledged.into(), saved: answer.saved.into() };
-        Refusal::or(answer.refusal, acked)
+        Refusal::answer(answer.refusal, acked)
     }
 
     /// Notes a record that was handed over for the next ACK. False where 32 are noted already: then it is not.
@@ -284,7 +284,7 @@ impl<Q: AsRef<[u8]> + AsMut<[u8]>, F: AsRef<[u8]> + AsMut<[u8]>> Sender<Q, F> {
     /// None with a state that calls made; a later release may refuse.
     pub fn note(&mut self, epoch: u16, number: u64) -> Result<bool, Refusal> {
         let answer = self.notes.add(epoch.into(), number);
-        Refusal::or(answer.refusal, answer.told == 1)
+        Refusal::answer(answer.refusal, answer.told == 1)
     }
 
     /// Queues an ACK of all that is noted, in the application epoch if it is keyed, else in epoch 2; then nothing is noted. False where
@@ -296,7 +296,7 @@ impl<Q: AsRef<[u8]> + AsMut<[u8]>, F: AsRef<[u8]> + AsMut<[u8]>> Sender<Q, F> {
     /// [`Refusal::NumbersSpent`] (20); then nothing has changed.
     pub fn send_ack(&mut self) -> Result<bool, Refusal> {
         let answer = self.notes.send(&mut self.state, self.queue.as_mut());
-        Refusal::or(answer.refusal, answer.told == 1)
+        Refusal::answer(answer.refusal, answer.told == 1)
     }
 
     /// What is queued, waits to be sealed, is saved and is not acknowledged.

@@ -151,3 +151,41 @@ fn a_cipher_can_be_a_trait_object() {
     let cipher: &mut dyn Cipher = &mut Toy(5);
     assert_eq!(receiver().read(&mut bytes, cipher).unwrap().next(), Some(opened(0, b"one")));
 }
+
+/// Numbers from a seed (SplitMix64).
+struct Random(u64);
+
+impl Random {
+    fn below(&mut self, n: usize) -> usize {
+        self.0 = self.0.wrapping_add(0x9E37_79B9_7F4A_7C15);
+        let z = (self.0 ^ (self.0 >> 30)).wrapping_mul(0xBF58_476D_1CE4_E5B9);
+        let z = (z ^ (z >> 27)).wrapping_mul(0x94D0_49BB_1331_11EB);
+        ((z ^ (z >> 31)) % n as u64) as usize
+    }
+}
+
+/// Datagrams changed and cut off anywhere: each is read to its end, and what is opened is what was sealed, once.
+#[test]
+fn any_bytes_are_read() {
+    let contents: [&[u8]; 3] = [b"one", b"two", b"three"];
+    let original = datagram(&contents);
+    let mut random = Random(1);
+    for _ in 0..200 {
+        let (mut receiver, mut handed) = (receiver(), [false; 3]);
+        for _ in 0..100 {
+            let mut bytes = original.clone();
+            for _ in 0..random.below(4) {
+                let i = random.below(bytes.len());
+                bytes[i] ^= random.below(256) as u8;
+            }
+            bytes.truncate(random.below(2 * bytes.len()));
+            for reading in receiver.read(&mut bytes, &mut Toy(5)).unwrap() {
+                if let Reading::Opened { epoch, number, content, .. } = reading {
+                    assert_eq!((epoch, content), (3, contents[number as usize]));
+                    assert!(!std::mem::replace(&mut handed[number as usize], true));
+                }
+            }
+        }
+        assert_eq!(handed, [true; 3]);
+    }
+}
