@@ -93,14 +93,16 @@ impl Receiver {
         Refusal::never(self.state.release_application_data());
     }
 
-    /// Reads a datagram, at most 16,384 bytes, and says of each record in it what became of it.
+    /// Reads a datagram, at most 16,384 bytes, record by record, and says of each record what became of it.
     ///
-    /// All of it is read before this returns: each record asks the cipher for one mask and one opening at most. Number bytes are
-    /// unmasked and protected parts opened in place, so a datagram is read from the same memory only once. What is handed over borrows
-    /// the datagram and neither receiver nor cipher.
+    /// A record is read when the iterator comes to it, and asks the cipher for one mask and one opening at most. What is left unread
+    /// when the iterator is dropped is not read. Number bytes are unmasked and protected parts opened in place, so a datagram is read
+    /// from the same memory only once. What is handed over borrows the datagram, and neither the iterator nor receiver and cipher.
+    ///
+    /// At most 16 readings hand over bytes. Records are dropped without a limit: a datagram that a stranger made can have thousands.
     ///
     /// A record whose mask the cipher cannot make is dropped with [`Refusal::NotOpened`] (10). If the cipher panics the rest of the
-    /// datagram is not read, and nothing of it is handed over; the next one is read as ever.
+    /// datagram is not read; the next one is read as ever.
     ///
     /// # Errors
     ///
@@ -108,20 +110,17 @@ impl Receiver {
     ///
     /// # Examples
     ///
-    /// Contents stay where they are while the receiver goes on:
+    /// Contents stay where they are while records behind are read, and while the receiver goes on:
     ///
     /// ```
     /// # use huskelapse::{Reading, Receiver, Refusal};
     /// # mod toy { include!(concat!(env!("CARGO_MANIFEST_DIR"), "/tests/toy/mod.rs")); }
     /// # use toy::Toy;
     /// let mut receiver = Receiver::new(Receiver::MIN_PROTECTED)?;
-    /// let mut hello = [22, 0xFE, 0xFD, 0, 0, 0, 0, 0, 0, 0, 0, 0, 2, 1, 0];
-    /// for reading in receiver.read(&mut hello, &mut Toy(5))? {
-    ///     if let Reading::Plaintext { content, .. } = reading {
-    ///         receiver.key(2, &[7; 12])?;
-    ///         assert_eq!(content, [1, 0]);
-    ///     }
-    /// }
+    /// let mut hellos = [[22, 0xFE, 0xFD, 0, 0, 0, 0, 0, 0, 0, 0, 0, 2, 1, 0]; 2];
+    /// let readings: Vec<Reading> = receiver.read(hellos.as_flattened_mut(), &mut Toy(5))?.collect();
+    /// receiver.key(2, &[7; 12])?;
+    /// assert_eq!(readings, [Reading::Plaintext { number: 0, content_type: 22, content: &[1, 0] }; 2]);
     /// # Ok::<(), Refusal>(())
     /// ```
     ///
@@ -136,55 +135,26 @@ impl Receiver {
     /// datagram[0] = 1;
     /// println!("{readings:?}");
     /// ```
-    pub fn read<'d, C: Cipher + ?Sized>(&mut self, datagram: &'d mut [u8], cipher: &mut C) -> Result<Readings<'d>, Refusal> {
-        let mut found = [Found::NONE; MOST];
-        let mut count = 0;
-        let mut r = self.state.begin_read(datagram);
-        if r.kind == ffi::READING_REFUSED {
-            return Err(Refusal::of(r.refusal, 0));
+    ///
+    /// While it is read the receiver does nothing else:
+    ///
+    /// ```compile_fail,E0499
+    /// # mod toy { include!(concat!(env!("CARGO_MANIFEST_DIR"), "/tests/toy/mod.rs")); }
+    /// # use toy::Toy;
+    /// let mut receiver = huskelapse::Receiver::new(17).unwrap();
+    /// for reading in receiver.read(&mut [0; 100], &mut Toy(5)).unwrap() {
+    ///     receiver.key(2, &[7; 12]).unwrap();
+    /// }
+    /// ```
+    pub fn read<'r, 'd, C: Cipher + ?Sized>(
+        &'r mut self,
+        datagram: &'d mut [u8],
+        cipher: &'r mut C,
+    ) -> Result<Readings<'r, 'd, C>, Refusal> {
+        match ffi::Datagram::begin_read(&mut self.state, datagram) {
+            Ok((datagram, first)) => Ok(Readings { datagram, first: Some(first), ended: false, cipher }),
+            Err(refusal) => Err(Refusal::of(refusal, 0)),
         }
-        loop {
-            r = self.answered(r, datagram, cipher);
-            let ends = r.kind == ffi::READING_END || r.kind == ffi::READING_REFUSED;
-            if !ends || r.refusal != 0 {
-                found[count] = Found::of(&r);
-                count += 1;
-            }
-            if ends {
-                return Ok(Readings { datagram, found, next: 0, count });
-            }
-            r = self.state.read(datagram);
-        }
-    }
-
-    /// What is said of a record once its questions are answered.
-    fn answered<C: Cipher + ?Sized>(&mut self, mut r: ffi::Reading, datagram: &mut [u8], cipher: &mut C) -> ffi::Reading {
-        if r.kind == ffi::READING_MASK {
-            let sample = datagram[r.start..].first_chunk().expect("the sample is in the datagram");
-            match cipher.mask(r.epoch, sample) {
-                Ok(mask) => r = self.state.mask(mask, datagram),
-                Err(_) => return self.not_opened(datagram),
-            }
-        }
-        if r.kind == ffi::READING_OPENING {
-            let (header, part) = datagram[r.start..][..r.header_len + r.length].split_at_mut(r.header_len);
-            let opened = cipher.open(r.epoch, r.number, &r.nonce, header, part);
-            r = self.state.opened(opened, r.length - ffi::TAG, datagram);
-        }
-        r
-    }
-
-    /// Drops the record that waits for a mask. Without one its number is not known, and the library is told any: the record is not
-    /// opened, so no number is marked, and which reason the library would give for it says nothing.
-    fn not_opened(&mut self, datagram: &mut [u8]) -> ffi::Reading {
-        let mut r = self.state.mask([0, 0], datagram);
-        if r.kind == ffi::READING_OPENING {
-            r = self.state.opened(false, 0, datagram);
-        }
-        if r.kind == ffi::READING_DROPPED {
-            r.refusal = Refusal::NotOpened.number();
-        }
-        r
     }
 }
 
@@ -236,80 +206,82 @@ pub enum Reading<'a> {
     Fault(Refusal),
 }
 
-/// Readings of a datagram at most: 16, and the fault that ends it.
-const MOST: usize = 17;
-
-/// What was said of a record, with the place of its bytes in the datagram: the bytes are borrowed when all is written.
-#[derive(Clone, Copy)]
-struct Found {
-    number: u64,
-    // A datagram has at most 16,384 bytes.
-    start: u16,
-    length: u16,
-    epoch: u16,
-    kind: u8,
-    content_type: u8,
-    refusal: u8,
-}
-
-impl Found {
-    const NONE: Found = Found { number: 0, start: 0, length: 0, epoch: 0, kind: ffi::READING_END, content_type: 0, refusal: 0 };
-
-    fn of(r: &ffi::Reading) -> Found {
-        Found {
-            number: r.number,
-            start: r.start as u16,
-            length: r.length as u16,
-            epoch: r.epoch,
-            kind: r.kind,
-            content_type: r.content_type,
-            refusal: r.refusal,
-        }
-    }
-
-    fn reading<'d>(&self, datagram: &'d [u8]) -> Reading<'d> {
-        let part = &datagram[self.start.into()..][..self.length.into()];
-        let Found { number, epoch, content_type, .. } = *self;
-        match self.kind {
-            ffi::READING_OPENED => Reading::Opened { epoch, number, content_type, content: part },
-            ffi::READING_PLAINTEXT => Reading::Plaintext { number, content_type, content: part },
-            ffi::READING_UNOPENED => Reading::Unopened { epoch_bits: epoch as u8, number: number as u16, protected: part },
-            ffi::READING_DROPPED => Reading::Dropped(Refusal::of(self.refusal, 0)),
-            _ => Reading::Fault(Refusal::of(self.refusal, 0)),
-        }
-    }
-}
-
 /// The readings of one datagram in order, made by [`Receiver::read`].
-#[derive(Clone)]
-pub struct Readings<'d> {
-    datagram: &'d [u8],
-    found: [Found; MOST],
-    next: usize,
-    count: usize,
+pub struct Readings<'r, 'd, C: ?Sized> {
+    datagram: ffi::Datagram<'r, 'd>,
+    /// What the library said of the first record, until it is told.
+    first: Option<ffi::Reading>,
+    /// Set also while the cipher is asked, so that it stays if it panics.
+    ended: bool,
+    cipher: &'r mut C,
 }
 
-impl<'d> Iterator for Readings<'d> {
+impl<C: Cipher + ?Sized> Readings<'_, '_, C> {
+    /// What the library says of the next record once its questions are answered.
+    fn step(&mut self) -> ffi::Reading {
+        let mut r = self.first.take().unwrap_or_else(|| self.datagram.read());
+        if r.kind == ffi::READING_MASK {
+            let sample = self.datagram.lend(r.start, r.length).first_chunk().expect("a sample has 16 bytes");
+            match self.cipher.mask(r.epoch, sample) {
+                Ok(mask) => r = self.datagram.mask(mask),
+                Err(_) => return self.not_opened(),
+            }
+        }
+        if r.kind == ffi::READING_OPENING {
+            let (header, part) = self.datagram.lend(r.start, r.header_len + r.length).split_at_mut(r.header_len);
+            let opened = self.cipher.open(r.epoch, r.number, &r.nonce, header, part);
+            r = self.datagram.opened(opened, r.length - ffi::TAG);
+        }
+        r
+    }
+
+    /// Drops the record that waits for a mask. Without one its number is not known, and the library is told any: the record is not
+    /// opened, so no number is marked, and which reason the library would give for it says nothing.
+    fn not_opened(&mut self) -> ffi::Reading {
+        let mut r = self.datagram.mask([0, 0]);
+        if r.kind == ffi::READING_OPENING {
+            r = self.datagram.opened(false, 0);
+        }
+        if r.kind == ffi::READING_DROPPED {
+            r.refusal = Refusal::NotOpened.number();
+        }
+        r
+    }
+}
+
+impl<'d, C: Cipher + ?Sized> Iterator for Readings<'_, 'd, C> {
     type Item = Reading<'d>;
 
     fn next(&mut self) -> Option<Reading<'d>> {
-        let found = self.found[..self.count].get(self.next)?;
-        self.next += 1;
-        Some(found.reading(self.datagram))
-    }
-
-    fn size_hint(&self) -> (usize, Option<usize>) {
-        let left = self.count - self.next;
-        (left, Some(left))
+        if self.ended {
+            return None;
+        }
+        self.ended = true;
+        let r = self.step();
+        self.ended = matches!(r.kind, ffi::READING_END | ffi::READING_REFUSED);
+        let ffi::Reading { number, epoch, content_type, .. } = r;
+        match r.kind {
+            ffi::READING_OPENED => {
+                Some(Reading::Opened { epoch, number, content_type, content: self.datagram.hand(r.start, r.length) })
+            }
+            ffi::READING_PLAINTEXT => {
+                Some(Reading::Plaintext { number, content_type, content: self.datagram.hand(r.start, r.length) })
+            }
+            ffi::READING_UNOPENED => Some(Reading::Unopened {
+                epoch_bits: epoch as u8,
+                number: number as u16,
+                protected: self.datagram.hand(r.start, r.length),
+            }),
+            ffi::READING_DROPPED => Some(Reading::Dropped(Refusal::of(r.refusal, 0))),
+            _ => (r.refusal != 0).then(|| Reading::Fault(Refusal::of(r.refusal, 0))),
+        }
     }
 }
 
-impl ExactSizeIterator for Readings<'_> {}
+impl<C: Cipher + ?Sized> FusedIterator for Readings<'_, '_, C> {}
 
-impl FusedIterator for Readings<'_> {}
-
-impl fmt::Debug for Readings<'_> {
+impl<C: ?Sized> fmt::Debug for Readings<'_, '_, C> {
     fn fmt(&self, f: &mut fmt::Formatter<'_>) -> fmt::Result {
-        f.debug_list().entries(self.clone()).finish()
+        f.debug_struct("Readings").field("ended", &self.ended).finish_non_exhaustive()
     }
 }

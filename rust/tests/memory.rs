@@ -20,7 +20,8 @@ where
     let mut receiver = Receiver::new(Receiver::MIN_PROTECTED)?;
     receiver.key(3, &[7; 12])?;
     receiver.enable_peer_encryption();
-    let mut readings = receiver.read(datagram, &mut Toy(5))?;
+    let mut cipher = Toy(5);
+    let mut readings = receiver.read(datagram, &mut cipher)?;
     let content = b"14.2 kWh";
     assert_eq!(readings.next(), Some(Reading::Opened { epoch: 3, number: 0, content_type: APPLICATION_DATA, content }));
     assert_eq!(readings.next(), None);

@@ -68,15 +68,26 @@ impl Cipher for Failing {
 fn contents_lie_in_the_datagram() {
     let mut bytes = datagram(&[b"14.2 kWh", b"", b"14.3 kWh"]);
     let range = bytes.as_ptr_range();
-    let readings = receiver().read(&mut bytes, &mut Toy(5)).unwrap();
-    assert_eq!(readings.len(), 3);
-    let kept: Vec<Reading> = readings.clone().collect();
+    let kept: Vec<Reading> = receiver().read(&mut bytes, &mut Toy(5)).unwrap().collect();
     assert_eq!(kept, [opened(0, b"14.2 kWh"), opened(1, b""), opened(2, b"14.3 kWh")]);
-    assert_eq!(format!("{readings:?}"), format!("{kept:?}"));
     for reading in kept {
         let Reading::Opened { content, .. } = reading else { panic!("{reading:?}") };
         assert!(range.contains(&content.as_ptr()));
     }
+}
+
+#[test]
+fn what_is_left_is_not_read() {
+    let original = datagram(&[b"one", b"two", b"three"]);
+    let mut receiver = receiver();
+    let mut bytes = original.clone();
+    let first = receiver.read(&mut bytes, &mut Toy(5)).unwrap().next();
+    let (mut again, mut cipher) = (original.clone(), Toy(5));
+    let mut readings = receiver.read(&mut again, &mut cipher).unwrap();
+    assert_eq!(readings.next(), Some(Reading::Dropped(Refusal::NotFresh)));
+    assert_eq!((readings.next(), readings.next()), (Some(opened(1, b"two")), Some(opened(2, b"three"))));
+    assert_eq!((readings.next(), readings.next()), (None, None));
+    assert_eq!(first, Some(opened(0, b"one")));
 }
 
 #[test]
@@ -109,7 +120,10 @@ fn a_panic_ends_the_datagram() {
         let mut receiver = receiver();
         let mut bytes = original.clone();
         let mut cipher = Failing { mask, panics: true, asked: 0 };
-        assert!(catch_unwind(AssertUnwindSafe(|| receiver.read(&mut bytes, &mut cipher).map(|_| ()))).is_err());
+        let mut readings = receiver.read(&mut bytes, &mut cipher).unwrap();
+        let first = readings.next();
+        assert!(catch_unwind(AssertUnwindSafe(|| readings.next().is_some())).is_err());
+        assert_eq!((first, readings.next()), (Some(opened(0, b"one")), None));
         let mut bytes = original.clone();
         let readings: Vec<_> = receiver.read(&mut bytes, &mut Toy(5)).unwrap().collect();
         assert_eq!(readings, [Reading::Dropped(Refusal::NotFresh), opened(1, b"two"), opened(2, b"three")]);
@@ -121,11 +135,82 @@ fn remove_tells_of_a_question_that_waited() {
     let mut receiver = receiver();
     let mut bytes = datagram(&[b"one", b"two"]);
     let mut cipher = Failing { mask: true, panics: true, asked: 0 };
-    assert!(catch_unwind(AssertUnwindSafe(|| receiver.read(&mut bytes, &mut cipher).map(|_| ()))).is_err());
+    let readings = receiver.read(&mut bytes, &mut cipher).unwrap();
+    assert!(catch_unwind(AssertUnwindSafe(|| readings.count())).is_err());
     assert_eq!(receiver.remove(3), Ok(true));
     assert_eq!(receiver.remove(3), Err(Refusal::BadEpoch));
     receiver.key(4, &[7; 12]).unwrap();
     assert_eq!(receiver.remove(4), Ok(false));
+}
+
+/// A datagram of 16,384 bytes full of one record, cut off at its end.
+fn full_of(record: &[u8]) -> Vec<u8> {
+    record.iter().copied().cycle().take(16_384).collect()
+}
+
+/// A stranger fills a datagram with records that are dropped: each is told.
+#[test]
+fn records_are_dropped_without_a_limit() {
+    let bad_plaintext = [23, 0xFE, 0xFD, 0, 0, 0, 0, 0, 0, 0, 0, 0, 0];
+    // Sealed records without a protected part: a number of one byte in epochs 0 and 3, and of two bytes in epoch 2, which is not keyed.
+    let (early, short, unkeyed) = ([0x24, 0, 0, 0], [0x27, 0, 0, 0], [0x2E, 0, 0, 0, 0]);
+    let before = || Receiver::new(Receiver::MIN_PROTECTED).unwrap();
+    // Each asks for its mask and for its opening.
+    let mut closed = datagram(&[b"x"]);
+    closed[8] ^= 1;
+    for (mut receiver, record, refusal, count) in [
+        (before(), &early[..], Refusal::BeforeEncryption, 4096),
+        (receiver(), &short, Refusal::TooShort, 4096),
+        (receiver(), &unkeyed, Refusal::NoKeys, 3276),
+        (before(), &bad_plaintext, Refusal::BadPlaintext, 1260),
+        (receiver(), &bad_plaintext, Refusal::BadPlaintext, 1260),
+        (receiver(), &closed, Refusal::NotOpened, 712),
+    ] {
+        assert_eq!(count, 16_384 / record.len());
+        let (mut bytes, mut cipher) = (full_of(record), Toy(5));
+        let mut readings = receiver.read(&mut bytes, &mut cipher).unwrap();
+        for i in 0..count {
+            assert_eq!(readings.next(), Some(Reading::Dropped(refusal)), "{i}");
+        }
+        let fault = (16_384 % record.len() > 0).then_some(Reading::Fault(Refusal::Truncated));
+        assert_eq!(readings.next(), fault);
+        assert_eq!(readings.next(), None);
+    }
+}
+
+#[test]
+fn a_record_is_handed_over_once_of_many_copies() {
+    let mut bytes = full_of(&datagram(&[b"x"]));
+    let readings: Vec<_> = receiver().read(&mut bytes, &mut Toy(5)).unwrap().collect();
+    assert_eq!(readings[0], opened(0, b"x"));
+    assert_eq!(readings[1..712], [Reading::Dropped(Refusal::NotFresh); 711]);
+    assert_eq!(readings[712..], [Reading::Fault(Refusal::Truncated)]);
+}
+
+/// Sixteen readings with dropped records between them, all of them kept, then a seventeenth.
+#[test]
+fn dropped_records_lie_between_sixteen_readings() {
+    let dropped = [0x27, 0, 0, 0].repeat(200);
+    let contents: [[u8; 3]; 9] = std::array::from_fn(|i| [i as u8; 3]);
+    let sealed = datagram(&contents.each_ref().map(|content| &content[..]));
+    let mut bytes = Vec::new();
+    let mut expected = Vec::new();
+    for (record, content) in sealed.chunks(5 + 3 + 17).zip(&contents) {
+        let number = u64::from(content[0]);
+        let plaintext = [21, 0xFE, 0xFD, 0, 0, 0, 0, 0, 0, 0, content[0], 0, 3];
+        bytes.extend([&dropped[..], record, &dropped, &plaintext, content].concat());
+        let reading = Reading::Plaintext { number, content_type: 21, content };
+        for reading in [opened(number, content), reading] {
+            expected.extend([Reading::Dropped(Refusal::TooShort); 200]);
+            expected.push(reading);
+        }
+    }
+    assert_eq!(bytes.len(), 9 * (1600 + 25 + 16));
+    // The seventeenth ends the datagram.
+    expected.truncate(16 * 201 + 200);
+    expected.push(Reading::Fault(Refusal::TooManyReadings));
+    let readings: Vec<_> = receiver().read(&mut bytes, &mut Toy(5)).unwrap().collect();
+    assert!(readings == expected);
 }
 
 #[test]
@@ -140,7 +225,7 @@ fn sixteen_readings_and_a_fault() {
 #[test]
 fn lengths() {
     let mut receiver = receiver();
-    assert_eq!(receiver.read(&mut [], &mut Toy(5)).unwrap().len(), 0);
+    assert_eq!(receiver.read(&mut [], &mut Toy(5)).unwrap().next(), None);
     assert_eq!(receiver.read(&mut [0; 16_385], &mut Toy(5)).err(), Some(Refusal::DatagramTooLong));
     assert_eq!(Receiver::new(18).err(), Some(Refusal::OutOfRange));
 }

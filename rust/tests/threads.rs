@@ -1,13 +1,13 @@
 //! Everything can go to another thread and be looked at from several.
 
-use huskelapse::{Acked, CipherError, Error, Reading, Readings, Receiver, Refusal, SealFailed, Sender, Status};
+use huskelapse::{Acked, Cipher, CipherError, Error, Reading, Readings, Receiver, Refusal, SealFailed, Sender, Status};
 
 fn everywhere<T: Send + Sync>() {}
 
 #[test]
 fn send_and_sync() {
     everywhere::<Receiver>();
-    everywhere::<Readings<'_>>();
+    everywhere::<Readings<'_, '_, dyn Cipher + Send + Sync>>();
     everywhere::<Reading<'_>>();
     everywhere::<Sender<&mut [u8]>>();
     everywhere::<Sender<[u8; 1200], [u8; 7200]>>();

@@ -1,13 +1,25 @@
 //! The C functions that include/huskelapse.h declares, and a safe function over each, for the crate `huskelapse` and for drivers that ask
 //! the library call by call. Hosts use `huskelapse`. Names and answers are the header's, and so is what they mean.
 //!
-//! The unsafe code of both crates is in this file, and each unsafe block in it is one call of the library. The library asks two things of
-//! its caller: that each pointer leads to what its type or the length beside it says, and that no two of them overlap. References and
-//! slices have both, where a function takes `&mut` of all that the library writes to. Nothing is asked of the words and the numbers:
-//! whatever they are, a call ends with an answer, and it writes to what it is lent and nowhere else. The library keeps no pointer after a
-//! call and has no state of its own, so calls on different objects can run on different threads.
+//! The unsafe code of both crates is in this file: calls of the library, and the slices that a [`Datagram`] makes. The library asks two
+//! things of its caller: that each pointer leads to what its type or the length beside it says, and that no two of them overlap.
+//! References and slices have both, where a function takes `&mut` of all that the library writes to. Nothing is asked of the words and
+//! the numbers: whatever they are, a call ends with an answer, and it writes to what it is lent and nowhere else. The library keeps no
+//! pointer after a call and has no state of its own, so calls on different objects can run on different threads.
+//!
+//! A [`Datagram`] is lent to the library while parts of it are with the host as `&[u8]`. This holds as nobody writes to those any more:
+//!
+//! - The library reads anywhere in a datagram, and writes only the number bytes of the record at its cursor (docs/HISTORY.md `spared`).
+//!   The cursor is behind every record that was told of. It goes forward only, but for a beginning, which puts it at the start.
+//! - From the beginning on the `Datagram` borrows the words: nobody else changes them, moves the cursor or begins another datagram.
+//!   Words that are no state are refused at the beginning, and then there is no `Datagram`.
+//! - [`Datagram::hand`] gives only bytes of a record that was told of, so before the cursor, and each byte once.
+//!   [`Datagram::lend`] gives only bytes behind all those.
 
 #![no_std]
+
+use core::marker::PhantomData;
+use core::slice;
 
 pub const READING_REFUSED: u8 = 0;
 pub const READING_END: u8 = 1;
@@ -240,7 +252,8 @@ unsafe extern "C" {
     ) -> Told;
 }
 
-// SAFETY of every block below: the pointers and lengths are those of the references and slices that the function takes.
+// SAFETY of every block below but those of Datagram: the pointers and lengths are those of the references and slices that the function
+// takes.
 
 impl Receiving {
     /// Words that no call made.
@@ -276,6 +289,9 @@ impl Receiving {
         unsafe { husk_receiving_begin(self, n) }
     }
 
+    // Reading call by call, for drivers: the whole datagram is lent to each call, any datagram. Datagram has the same calls for hosts,
+    // which keep what is handed over while they read on.
+
     #[inline]
     pub fn read(&mut self, d: &mut [u8]) -> Reading {
         unsafe { husk_receiving_read(self, d.as_mut_ptr(), d.len()) }
@@ -294,6 +310,98 @@ impl Receiving {
     #[inline]
     pub fn opened(&mut self, opened: bool, length: usize, d: &[u8]) -> Reading {
         unsafe { husk_receiving_opened(self, opened.into(), length, d.as_ptr(), d.len()) }
+    }
+}
+
+/// A begun datagram and the words it is read with. Parts of it can be handed on, for as long as the host lent it, while it is read.
+pub struct Datagram<'r, 'd> {
+    state: &'r mut Receiving,
+    start: *mut u8,
+    length: usize,
+    /// Bytes before this are handed on: nobody writes there any more.
+    handed: usize,
+    /// Bytes before this are of records that the library told of: its cursor is at or behind this.
+    told: usize,
+    /// Where the sample of the mask question lies that was asked last.
+    sample: usize,
+    datagram: PhantomData<&'d mut [u8]>,
+}
+
+// SAFETY: it is one reference to the words and one to the datagram, `&mut` both, and these can go to another thread.
+unsafe impl Send for Datagram<'_, '_> {}
+// SAFETY: a shared one does nothing.
+unsafe impl Sync for Datagram<'_, '_> {}
+
+// SAFETY of every block below: `start` and `length` are those of a slice that is borrowed for 'd, and the file's head says why nothing is
+// written to what is handed on.
+impl<'r, 'd> Datagram<'r, 'd> {
+    /// Begins a datagram and reads its first record. An error is the refusal.
+    #[inline]
+    pub fn begin_read(state: &'r mut Receiving, d: &'d mut [u8]) -> Result<(Datagram<'r, 'd>, Reading), u8> {
+        let (start, length) = (d.as_mut_ptr(), d.len());
+        let first = unsafe { husk_receiving_begin_read(state, start, length) };
+        if first.kind == READING_REFUSED {
+            return Err(first.refusal);
+        }
+        let mut begun = Datagram { state, start, length, handed: 0, told: 0, sample: 0, datagram: PhantomData };
+        begun.tell(&first);
+        Ok((begun, first))
+    }
+
+    #[inline]
+    pub fn read(&mut self) -> Reading {
+        let r = unsafe { husk_receiving_read(self.state, self.start, self.length) };
+        self.tell(&r);
+        r
+    }
+
+    #[inline]
+    pub fn mask(&mut self, mask: [u8; 2]) -> Reading {
+        // A sealed record has a first byte and a number byte before its sample.
+        assert!(self.handed + 2 <= self.sample, "no record is unmasked that is handed on");
+        let r = unsafe { husk_receiving_mask(self.state, mask[0], mask[1], self.start, self.length) };
+        self.tell(&r);
+        r
+    }
+
+    #[inline]
+    pub fn opened(&mut self, opened: bool, length: usize) -> Reading {
+        let r = unsafe { husk_receiving_opened(self.state, opened.into(), length, self.start, self.length) };
+        self.tell(&r);
+        r
+    }
+
+    /// Keeps what a reading says of places.
+    #[inline]
+    fn tell(&mut self, r: &Reading) {
+        match r.kind {
+            READING_PLAINTEXT | READING_UNOPENED | READING_OPENED => self.told = self.end(r.start, r.length),
+            READING_MASK => self.sample = r.start,
+            _ => {}
+        }
+    }
+
+    /// Where a part ends that is in the datagram and behind all that is handed on.
+    #[inline]
+    fn end(&self, from: usize, length: usize) -> usize {
+        assert!(self.handed <= from, "the part is behind those handed on");
+        from.checked_add(length).filter(|end| *end <= self.length).expect("the part is in the datagram")
+    }
+
+    /// A part of the record that was told of last, for good.
+    #[inline]
+    pub fn hand(&mut self, from: usize, length: usize) -> &'d [u8] {
+        let end = self.end(from, length);
+        assert!(end <= self.told, "the part is of a record that was told of");
+        self.handed = end;
+        unsafe { slice::from_raw_parts(self.start.add(from), length) }
+    }
+
+    /// A part behind all that is handed on, until the next call.
+    #[inline]
+    pub fn lend(&mut self, from: usize, length: usize) -> &mut [u8] {
+        self.end(from, length);
+        unsafe { slice::from_raw_parts_mut(self.start.add(from), length) }
     }
 }
 
