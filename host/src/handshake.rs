@@ -190,7 +190,7 @@ impl Handshake {
 
     fn message(&mut self, end: &mut End, kind: u8) {
         match (self.is_post, kind) {
-            (false, CLIENT_HELLO) => {
+            (false, CLIENT_HELLO) if self.state == State::Hello => {
                 end.begin_flight();
                 end.message(SERVER_HELLO, &body(SERVER_HELLO, 120));
                 end.key_send(2);
@@ -200,7 +200,7 @@ impl Handshake {
                 }
                 self.state = State::Messages;
             }
-            (true, SERVER_HELLO) => {
+            (true, SERVER_HELLO) if self.state == State::Hello => {
                 end.key_send(2);
                 end.key_receive(2);
                 self.state = State::Messages;

@@ -136,11 +136,13 @@ impl Run {
         let mut buffer = [0; 2048];
         let mut arrived = 0;
         while arrived < PACE {
-            match self.peers[side].socket.recv(&mut buffer) {
-                Ok(n) => {
+            match self.peers[side].socket.recv_from(&mut buffer) {
+                Ok((n, from)) if self.peers[side].address == Some(from) => {
                     self.directions[side].arrive(&buffer[..n], now);
                     arrived += 1;
                 }
+                // Another process wrote it, and the link trusts the headers that it cuts by.
+                Ok(_) => {}
                 Err(why) if why.kind() == ErrorKind::WouldBlock => break,
                 // The other end is gone.
                 Err(_) => break,
