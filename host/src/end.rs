@@ -1,6 +1,7 @@
 //! What both ends have: socket, link, ciphers, and a log of what happens for the process that started them.
 
 use std::collections::VecDeque;
+use std::fmt::Display;
 use std::fs::File;
 use std::io::{self, BufWriter, Read, Stdout, Write};
 use std::net::UdpSocket;
@@ -9,9 +10,10 @@ use std::process;
 use std::time::{Duration, Instant};
 
 use huskelapse::content_type::APPLICATION_DATA;
-use huskelapse::{Cipher, Reading, Receiver, Refusal, Sender};
+use huskelapse::openssl::Keys;
+use huskelapse::{Cipher, CipherError, Reading, Receiver, Refusal, Sender};
 
-use crate::crypto::Keys;
+use crate::crypto::{EpochKeys, Suite};
 use crate::options::Options;
 use crate::system::Sources;
 
@@ -35,6 +37,7 @@ pub struct End {
     sources: Sources<2>,
     pub sender: Sender,
     pub receiver: Receiver,
+    suite: Suite,
     keys_out: Keys,
     keys_in: Keys,
     secrets: [String; 2],
@@ -78,7 +81,7 @@ fn plaintext_records(mut bytes: &[u8]) -> Vec<Record> {
 }
 
 impl Cipher for Logged<'_> {
-    fn mask(&mut self, epoch: u16, sample: &[u8; 16]) -> [u8; 2] {
+    fn mask(&mut self, epoch: u16, sample: &[u8; 16]) -> Result<[u8; 2], CipherError> {
         self.keys.mask(epoch, sample)
     }
 
@@ -86,11 +89,11 @@ impl Cipher for Logged<'_> {
         self.keys.open(epoch, number, nonce, header, part)
     }
 
-    fn seal(&mut self, epoch: u16, number: u64, nonce: &[u8; 12], header: &[u8; 5], part: &mut [u8]) {
+    fn seal(&mut self, epoch: u16, number: u64, nonce: &[u8; 12], header: &[u8], part: &mut [u8]) -> Result<(), CipherError> {
         let n = part.len() - 17;
         log_record(self.log, 's', epoch, number, part[n], &part[..n]);
         self.sealed.push(Record { epoch, number, content_type: part[n], content: part[..n].to_vec() });
-        self.keys.seal(epoch, number, nonce, header, part);
+        self.keys.seal(epoch, number, nonce, header, part)
     }
 }
 
@@ -111,9 +114,10 @@ impl End {
             socket,
             credits,
             sender: Sender::new(MTU, 16).map_err(refused)?,
-            receiver: Receiver::new(16).map_err(refused)?,
-            keys_out: Keys::new(options.suite),
-            keys_in: Keys::new(options.suite),
+            receiver: Receiver::new(Receiver::MIN_PROTECTED).map_err(refused)?,
+            suite: options.suite,
+            keys_out: Keys::to_seal(options.suite.cipher()),
+            keys_in: Keys::to_open(options.suite.cipher()),
             secrets: [secret(name), secret(other)],
             log,
             outstanding: 0,
@@ -127,8 +131,8 @@ impl End {
         })
     }
 
-    /// A refusal that this host never meets.
-    pub fn must<T>(&mut self, answer: Result<T, Refusal>) -> T {
+    /// A refusal or a failure that this host never meets.
+    pub fn must<T>(&mut self, answer: Result<T, impl Display>) -> T {
         answer.unwrap_or_else(|why| self.stop(&why.to_string()))
     }
 
@@ -152,15 +156,19 @@ impl End {
 
     /// Keys an epoch to send.
     pub fn key_send(&mut self, epoch: u16) {
-        let iv = self.keys_out.add(epoch, &self.secrets[0]);
-        let keyed = self.sender.key(epoch, &iv);
+        let keys = EpochKeys::new(epoch, &self.secrets[0]);
+        let added = keys.add_to(&mut self.keys_out, self.suite, epoch);
+        self.must(added);
+        let keyed = self.sender.key(epoch, &keys.iv);
         self.must(keyed);
     }
 
     /// Keys an epoch to receive.
     pub fn key_receive(&mut self, epoch: u16) {
-        let iv = self.keys_in.add(epoch, &self.secrets[1]);
-        let keyed = self.receiver.key(epoch, &iv);
+        let keys = EpochKeys::new(epoch, &self.secrets[1]);
+        let added = keys.add_to(&mut self.keys_in, self.suite, epoch);
+        self.must(added);
+        let keyed = self.receiver.key(epoch, &keys.iv);
         self.must(keyed);
         self.receiver.enable_peer_encryption();
         self.say(format_args!("k {epoch}"));
@@ -169,7 +177,8 @@ impl End {
     /// Seals what waits and sends every queued datagram. The records in them, those in plaintext first.
     pub fn flush(&mut self) -> Vec<Record> {
         let mut sealed = Vec::new();
-        self.sender.seal(&mut Logged { keys: &mut self.keys_out, log: &mut self.log, sealed: &mut sealed });
+        let done = self.sender.seal(&mut Logged { keys: &mut self.keys_out, log: &mut self.log, sealed: &mut sealed });
+        self.must(done);
         let mut records = Vec::new();
         let mut buffer = [0; MTU];
         loop {
@@ -228,6 +237,18 @@ impl End {
         again.is_empty()
     }
 
+    /// Acts on an ACK.
+    pub fn acknowledge(&mut self, content: &[u8]) {
+        let answer = self.sender.acknowledge(content);
+        self.must(answer);
+    }
+
+    /// Notes a record for the next ACK. One that finds no room is sent again, and noted then.
+    pub fn note(&mut self, record: &Record) {
+        let answer = self.sender.note(record.epoch, record.number);
+        self.must(answer);
+    }
+
     /// Acknowledges what is noted.
     pub fn send_ack(&mut self) {
         let answer = self.sender.send_ack();
@@ -259,6 +280,7 @@ impl End {
                     let _ = writeln!(self.log, "x {}", why.number());
                     continue;
                 }
+                _ => continue,
             };
             self.arrived.push_back(record);
         }

@@ -20,7 +20,7 @@ pub fn run(options: &Options, mut end: End) {
         }
         while let Some(record) = end.arrived.pop_front() {
             if record.content_type == ACK && record.epoch >= 3 && given.is_some() {
-                end.sender.process_ack(&record.content);
+                end.acknowledge(&record.content);
             } else if record.content_type != APPLICATION_DATA || record.epoch < 3 {
                 handshake.record(&mut end, &record);
             } else {

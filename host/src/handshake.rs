@@ -152,7 +152,7 @@ impl Handshake {
     pub fn record(&mut self, end: &mut End, record: &Record) {
         if record.content_type == ACK && record.epoch >= 2 {
             if self.state != State::Done {
-                end.sender.process_ack(&record.content);
+                end.acknowledge(&record.content);
                 if end.resend() && self.state == State::LastAck {
                     end.receiver.release_application_data();
                     self.state = State::Done;
@@ -169,7 +169,7 @@ impl Handshake {
             Piece::New => {
                 self.partly = true;
                 if record.epoch >= 2 {
-                    end.sender.note(record.epoch, record.number);
+                    end.note(record);
                 }
             }
         }
@@ -181,7 +181,7 @@ impl Handshake {
     /// The far end sends again what was read: it lacks the answer.
     fn old(&mut self, end: &mut End, record: &Record) {
         if !self.is_post && self.state == State::Done {
-            end.sender.note(record.epoch, record.number);
+            end.note(record);
             end.send_ack();
         } else if self.timer.fires() {
             end.resend();
@@ -190,7 +190,7 @@ impl Handshake {
 
     fn message(&mut self, end: &mut End, kind: u8) {
         match (self.is_post, kind) {
-            (false, CLIENT_HELLO) => {
+            (false, CLIENT_HELLO) if self.state == State::Hello => {
                 end.begin_flight();
                 end.message(SERVER_HELLO, &body(SERVER_HELLO, 120));
                 end.key_send(2);
@@ -200,7 +200,7 @@ impl Handshake {
                 }
                 self.state = State::Messages;
             }
-            (true, SERVER_HELLO) => {
+            (true, SERVER_HELLO) if self.state == State::Hello => {
                 end.key_send(2);
                 end.key_receive(2);
                 self.state = State::Messages;

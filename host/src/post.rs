@@ -33,7 +33,7 @@ pub fn run(options: &Options, mut end: End) {
                     stopped |= stop;
                     end.say(format_args!("o {number}"));
                 }
-                end.sender.note(record.epoch, record.number);
+                end.note(&record);
                 end.send_ack();
             }
         }

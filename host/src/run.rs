@@ -132,7 +132,11 @@ impl<'a> Run<'a> {
         let mut arrived = 0;
         while arrived < PACE {
             // No more for now, or the other end is gone.
-            let Ok(n) = self.peers[side].socket.recv(&mut buffer) else { break };
+            let Ok((n, from)) = self.peers[side].socket.recv_from(&mut buffer) else { break };
+            // Another process wrote it, and the link trusts the headers that it cuts by.
+            if self.peers[side].address != Some(from) {
+                continue;
+            }
             let sent = self.directions[side].arrive(&buffer[..n], now);
             self.ledgers[side].sends(sent);
             arrived += 1;

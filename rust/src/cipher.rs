@@ -1,15 +1,58 @@
+use core::error::Error;
+use core::fmt;
+
 /// The host's cipher with the keys of one direction, asked by epoch.
 ///
-/// A [`Receiver`](crate::Receiver) asks `mask` and `open`, a [`Sender`](crate::Sender) asks `seal` and `mask`. The link keeps the IVs,
-/// it names the nonce; the cipher keeps the keys. Tags have 16 bytes. A cipher that cannot answer at all panics.
+/// A [`Receiver`](crate::Receiver) asks [`mask`](Cipher::mask) and [`open`](Cipher::open), a [`Sender`](crate::Sender) asks
+/// [`seal`](Cipher::seal) and [`mask`](Cipher::mask). The library keeps the IVs and names the nonce; the cipher keeps the keys and
+/// answers at once. Tags have 16 bytes.
+///
+/// The feature `openssl` has a cipher that is ready to use.
 pub trait Cipher {
     /// The first two bytes of the mask that the epoch's number key makes of these 16 bytes (RFC 9147, section 4.2.3).
-    fn mask(&mut self, epoch: u16, sample: &[u8; 16]) -> [u8; 2];
+    ///
+    /// # Errors
+    ///
+    /// The mask cannot be made. A receiver drops the record ([`Refusal::NotOpened`](crate::Refusal::NotOpened)); for a sender the
+    /// record is not sealed ([`SealFailed`](crate::SealFailed)).
+    fn mask(&mut self, epoch: u16, sample: &[u8; 16]) -> Result<[u8; 2], CipherError>;
 
     /// Opens `part`, ciphertext and tag, in place under `nonce` with `header` beside it. If the tag is right the plaintext is at the
     /// start of `part`, 16 bytes fewer, and the answer is true. Else it is false, and what stands in `part` does not matter.
     fn open(&mut self, epoch: u16, number: u64, nonce: &[u8; 12], header: &[u8], part: &mut [u8]) -> bool;
 
     /// Seals `part` in place under `nonce` with `header` beside it: all but its last 16 bytes are plaintext, the tag goes there.
-    fn seal(&mut self, epoch: u16, number: u64, nonce: &[u8; 12], header: &[u8; 5], part: &mut [u8]);
+    ///
+    /// # Errors
+    ///
+    /// The record cannot be sealed. It is not asked for again, whatever stands in `part` then: to seal it twice would use a nonce
+    /// twice ([`SealFailed`](crate::SealFailed)).
+    fn seal(&mut self, epoch: u16, number: u64, nonce: &[u8; 12], header: &[u8], part: &mut [u8]) -> Result<(), CipherError>;
 }
+
+/// A cipher cannot seal a record or make a mask.
+///
+/// ```
+/// use huskelapse::CipherError;
+///
+/// assert_eq!(CipherError::new("no keys for this epoch").to_string(), "no keys for this epoch");
+/// ```
+#[derive(Clone, Copy, Debug, PartialEq, Eq, Hash)]
+pub struct CipherError {
+    why: &'static str,
+}
+
+impl CipherError {
+    /// An error with these words for a log.
+    pub const fn new(why: &'static str) -> CipherError {
+        CipherError { why }
+    }
+}
+
+impl fmt::Display for CipherError {
+    fn fmt(&self, f: &mut fmt::Formatter<'_>) -> fmt::Result {
+        f.write_str(self.why)
+    }
+}
+
+impl Error for CipherError {}

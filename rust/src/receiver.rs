@@ -1,17 +1,18 @@
-use std::fmt;
-use std::iter::FusedIterator;
-use std::marker::PhantomData;
-use std::slice;
+use core::fmt;
+use core::iter::FusedIterator;
 
-use crate::{ffi, Cipher, Refusal};
+use huskelapse_sys as ffi;
+
+use crate::{Cipher, Refusal};
 
 /// The receive side of a link: epochs with their IVs and replay windows.
 ///
 /// ```
 /// use huskelapse::{Reading, Receiver, Refusal};
-/// # use huskelapse::test_cipher::Xor;
+/// # mod toy { include!(concat!(env!("CARGO_MANIFEST_DIR"), "/tests/toy/mod.rs")); }
+/// # use toy::Toy;
 ///
-/// let mut receiver = Receiver::new(16)?;
+/// let mut receiver = Receiver::new(Receiver::MIN_PROTECTED)?;
 /// receiver.key(3, &[7; 12])?;
 /// assert_eq!(receiver.key(3, &[8; 12]), Err(Refusal::BadEpoch));
 /// receiver.enable_peer_encryption();
@@ -21,8 +22,8 @@ use crate::{ffi, Cipher, Refusal};
 /// datagram.extend([0x2F, 0, 1, 0, 20]);
 /// datagram.extend([0; 20]);
 /// datagram.push(22);
-/// let mut cipher = Xor(5);
-/// let readings: Vec<Reading> = receiver.read(&mut datagram, &mut cipher)?.collect();
+/// // `Toy` stands for a cipher with the keys of this direction.
+/// let readings: Vec<Reading> = receiver.read(&mut datagram, &mut Toy(5))?.collect();
 /// assert_eq!(
 ///     readings,
 ///     [
@@ -34,83 +35,126 @@ use crate::{ffi, Cipher, Refusal};
 /// # Ok::<(), Refusal>(())
 /// ```
 ///
-/// The state is private, it comes from [`Receiver::new`] only:
+/// The state is private, it comes from [`Receiver::new`] only, and it is not cloned: a clone would hand over every record once more.
 ///
 /// ```compile_fail,E0451
-/// let receiver = huskelapse::Receiver { state: [0; 39] };
+/// let receiver = huskelapse::Receiver { state: huskelapse_sys::Receiving::BLANK };
 /// ```
 ///
-/// What is read borrows the datagram, nothing else can write there meanwhile:
-///
-/// ```compile_fail,E0506
-/// # use huskelapse::test_cipher::Xor;
-/// let mut receiver = huskelapse::Receiver::new(16).unwrap();
-/// let mut datagram = [0; 100];
-/// let mut cipher = Xor(5);
-/// let readings: Vec<_> = receiver.read(&mut datagram, &mut cipher).unwrap().collect();
-/// datagram[0] = 1;
-/// println!("{readings:?}");
+/// ```compile_fail,E0599
+/// let receiver = huskelapse::Receiver::new(17).unwrap().clone();
 /// ```
 pub struct Receiver {
-    state: [u64; ffi::RECEIVING_WORDS],
+    state: ffi::Receiving,
 }
 
 impl Receiver {
-    /// Nothing keyed, peer encryption off. Protected parts shorter than 16 or `min_protected` bytes are dropped; it is at most 17, else
-    /// the refusal is 12.
+    /// The least length of a protected part for AES-GCM and ChaCha20-Poly1305: a content type and the tag.
+    pub const MIN_PROTECTED: usize = 17;
+
+    /// Nothing keyed, peer encryption off. Protected parts shorter than 16 or `min_protected` bytes are dropped
+    /// ([`Refusal::TooShort`]); give [`Receiver::MIN_PROTECTED`]. With 16 or less a record that has no content type comes to the cipher.
+    ///
+    /// # Errors
+    ///
+    /// Refused with [`Refusal::OutOfRange`] (12) where `min_protected` is above 17.
     pub fn new(min_protected: usize) -> Result<Receiver, Refusal> {
-        let mut state = [0; ffi::RECEIVING_WORDS];
-        Refusal::done(unsafe { ffi::link_receiving(&mut state, min_protected) })?;
+        let mut state = ffi::Receiving::BLANK;
+        Refusal::done(state.init(min_protected))?;
         Ok(Receiver { state })
     }
 
-    /// Keys an epoch, 2 or above and above every earlier one (13). At most four of 3 or above are keyed at once (23).
+    /// Keys an epoch, 2 or above and above every earlier one, with its IV.
+    ///
+    /// # Errors
+    ///
+    /// Refused with [`Refusal::BadEpoch`] (13), and with [`Refusal::Waiting`] (23) where four application epochs, 3 or above, are keyed.
     pub fn key(&mut self, epoch: u16, iv: &[u8; 12]) -> Result<(), Refusal> {
-        Refusal::done(unsafe { ffi::link_key_receive(&mut self.state, epoch, iv) })
+        Refusal::done(self.state.key(epoch, iv))
     }
 
-    /// Removes an epoch that is keyed (13).
-    pub fn remove(&mut self, epoch: u16) -> Result<(), Refusal> {
-        match unsafe { ffi::link_remove_receive(&mut self.state, epoch) } {
-            // Removed, and a record of a datagram that was not read to its end with it.
-            6 => Ok(()),
-            number => Refusal::done(number),
-        }
+    /// Removes an epoch that is keyed. True where a question waited under it, which a cipher left that panicked: the record is dropped.
+    ///
+    /// # Errors
+    ///
+    /// Refused with [`Refusal::BadEpoch`] (13).
+    pub fn remove(&mut self, epoch: u16) -> Result<bool, Refusal> {
+        let answer = self.state.remove(epoch);
+        Refusal::answer(answer.refusal, answer.told == 1)
     }
 
     /// From now on sealed records are opened. This is not undone.
     pub fn enable_peer_encryption(&mut self) {
-        let answer = unsafe { ffi::link_enable_peer_encryption(&mut self.state) };
-        debug_assert_eq!(answer, 0);
+        Refusal::never(self.state.enable_encryption());
     }
 
     /// From now on epoch bits 2 mean an application epoch before they mean epoch 2. This is not undone.
     pub fn release_application_data(&mut self) {
-        let answer = unsafe { ffi::link_release_application_data(&mut self.state) };
-        debug_assert_eq!(answer, 0);
+        Refusal::never(self.state.release_application_data());
     }
 
-    /// Reads a datagram record by record, at most 16,384 bytes (1). What is left when the iterator is dropped is not read. Number bytes
-    /// are unmasked and protected parts opened in place, so a datagram is read from the same memory only once.
+    /// Reads a datagram, at most 16,384 bytes, record by record, and says of each record what became of it.
+    ///
+    /// A record is read when the iterator comes to it, and asks the cipher for one mask and one opening at most. What is left unread
+    /// when the iterator is dropped is not read. Number bytes are unmasked and protected parts opened in place, so a datagram is read
+    /// from the same memory only once. What is handed over borrows the datagram, and neither the iterator nor receiver and cipher.
+    ///
+    /// At most 16 readings hand over bytes. Records are dropped without a limit: a datagram that a stranger made can have thousands.
+    ///
+    /// A record whose mask the cipher cannot make is dropped with [`Refusal::NotOpened`] (10). If the cipher panics the rest of the
+    /// datagram is not read; the next one is read as ever.
+    ///
+    /// # Errors
+    ///
+    /// Refused with [`Refusal::DatagramTooLong`] (1).
+    ///
+    /// # Examples
+    ///
+    /// Contents stay where they are while records behind are read, and while the receiver goes on:
+    ///
+    /// ```
+    /// # use huskelapse::{Reading, Receiver, Refusal};
+    /// # mod toy { include!(concat!(env!("CARGO_MANIFEST_DIR"), "/tests/toy/mod.rs")); }
+    /// # use toy::Toy;
+    /// let mut receiver = Receiver::new(Receiver::MIN_PROTECTED)?;
+    /// let mut hellos = [[22, 0xFE, 0xFD, 0, 0, 0, 0, 0, 0, 0, 0, 0, 2, 1, 0]; 2];
+    /// let readings: Vec<Reading> = receiver.read(hellos.as_flattened_mut(), &mut Toy(5))?.collect();
+    /// receiver.key(2, &[7; 12])?;
+    /// assert_eq!(readings, [Reading::Plaintext { number: 0, content_type: 22, content: &[1, 0] }; 2]);
+    /// # Ok::<(), Refusal>(())
+    /// ```
+    ///
+    /// What is read borrows the datagram, nothing else can write there meanwhile:
+    ///
+    /// ```compile_fail,E0506
+    /// # mod toy { include!(concat!(env!("CARGO_MANIFEST_DIR"), "/tests/toy/mod.rs")); }
+    /// # use toy::Toy;
+    /// let mut receiver = huskelapse::Receiver::new(17).unwrap();
+    /// let mut datagram = [0; 100];
+    /// let readings: Vec<_> = receiver.read(&mut datagram, &mut Toy(5)).unwrap().collect();
+    /// datagram[0] = 1;
+    /// println!("{readings:?}");
+    /// ```
+    ///
+    /// While it is read the receiver does nothing else:
+    ///
+    /// ```compile_fail,E0499
+    /// # mod toy { include!(concat!(env!("CARGO_MANIFEST_DIR"), "/tests/toy/mod.rs")); }
+    /// # use toy::Toy;
+    /// let mut receiver = huskelapse::Receiver::new(17).unwrap();
+    /// for reading in receiver.read(&mut [0; 100], &mut Toy(5)).unwrap() {
+    ///     receiver.key(2, &[7; 12]).unwrap();
+    /// }
+    /// ```
     pub fn read<'r, 'd, C: Cipher + ?Sized>(
         &'r mut self,
         datagram: &'d mut [u8],
         cipher: &'r mut C,
     ) -> Result<Readings<'r, 'd, C>, Refusal> {
-        let first = unsafe { ffi::link_begin_read(&mut self.state, datagram.as_ptr(), datagram.len()) };
-        if first.kind == ffi::REFUSED {
-            Refusal::done(first.refusal)?;
+        match ffi::Datagram::begin_read(&mut self.state, datagram) {
+            Ok((datagram, first)) => Ok(Readings { datagram, first: Some(first), ended: false, cipher }),
+            Err(refusal) => Err(Refusal::of(refusal, 0)),
         }
-        Ok(Readings {
-            state: &mut self.state,
-            first: Some(first),
-            start: datagram.as_mut_ptr(),
-            length: datagram.len(),
-            handed: 0,
-            ended: false,
-            cipher,
-            datagram: PhantomData,
-        })
     }
 }
 
@@ -122,6 +166,7 @@ impl fmt::Debug for Receiver {
 
 /// What is said of one record of a datagram.
 #[derive(Clone, Copy, Debug, PartialEq, Eq)]
+#[non_exhaustive]
 pub enum Reading<'a> {
     /// A sealed record that the cipher opened, handed over once for its epoch and number.
     Opened {
@@ -152,63 +197,55 @@ pub enum Reading<'a> {
         /// Its protected part.
         protected: &'a [u8],
     },
-    /// A record is dropped, by 4 to 11; the records behind it follow.
+    /// A record is dropped, with [`Refusal::BadPlaintext`] (4), [`BeforeEncryption`](Refusal::BeforeEncryption) (5),
+    /// [`NoKeys`](Refusal::NoKeys) (6), [`TooShort`](Refusal::TooShort) (7), [`NumberTooLarge`](Refusal::NumberTooLarge) (8),
+    /// [`NotFresh`](Refusal::NotFresh) (9), [`NotOpened`](Refusal::NotOpened) (10) or [`NoContentType`](Refusal::NoContentType) (11);
+    /// the records behind it follow.
     Dropped(Refusal),
-    /// The datagram ends early, by 2 or 3.
+    /// The datagram ends early, with [`Refusal::Truncated`] (2) or [`Refusal::TooManyReadings`] (3).
     Fault(Refusal),
 }
 
-/// The readings of one datagram, made by [`Receiver::read`]. Each asks the cipher for one mask and one opening at most.
-pub struct Readings<'r, 'd, C: Cipher + ?Sized> {
-    state: &'r mut [u64; ffi::RECEIVING_WORDS],
-    // The link's word on the first record, until it is told.
-    first: Option<ffi::LinkReading>,
-    // The datagram. Bytes before `handed` can be borrowed by readings and are not written any more.
-    start: *mut u8,
-    length: usize,
-    handed: usize,
+/// The readings of one datagram in order, made by [`Receiver::read`].
+pub struct Readings<'r, 'd, C: ?Sized> {
+    datagram: ffi::Datagram<'r, 'd>,
+    /// What the library said of the first record, until it is told.
+    first: Option<ffi::Reading>,
+    /// Set also while the cipher is asked, so that it stays if it panics.
     ended: bool,
     cipher: &'r mut C,
-    datagram: PhantomData<&'d mut [u8]>,
 }
 
-impl<'d, C: Cipher + ?Sized> Readings<'_, 'd, C> {
-    /// Part of the datagram, behind every part handed out.
-    fn part(&mut self, from: usize, length: usize) -> &'d mut [u8] {
-        let end = from.checked_add(length).filter(|end| *end <= self.length).expect("the part is in the datagram");
-        assert!(self.handed <= from, "parts come in order");
-        self.handed = end;
-        // In the datagram, which is borrowed for 'd, and disjoint from every part made before.
-        unsafe { slice::from_raw_parts_mut(self.start.add(from), length) }
-    }
-
-    /// The link's word on the next record, its questions answered.
-    fn step(&mut self) -> ffi::LinkReading {
-        let mut r = match self.first.take() {
-            Some(first) => first,
-            None => unsafe { ffi::link_read(self.state, self.start, self.length) },
-        };
-        if r.kind == ffi::MASK {
-            // The record may be opened in place: the sample is copied and nothing is handed out.
-            let sample = self.peek(r.start);
-            let mask = self.cipher.mask(r.epoch, &sample);
-            r = unsafe { ffi::link_mask(self.state, mask[0], mask[1], self.start, self.length) };
+impl<C: Cipher + ?Sized> Readings<'_, '_, C> {
+    /// What the library says of the next record once its questions are answered.
+    fn step(&mut self) -> ffi::Reading {
+        let mut r = self.first.take().unwrap_or_else(|| self.datagram.read());
+        if r.kind == ffi::READING_MASK {
+            let sample = self.datagram.lend(r.start, r.length).first_chunk().expect("a sample has 16 bytes");
+            match self.cipher.mask(r.epoch, sample) {
+                Ok(mask) => r = self.datagram.mask(mask),
+                Err(_) => return self.not_opened(),
+            }
         }
-        if r.kind == ffi::OPENING {
-            let handed = self.handed;
-            let (header, part) = self.part(r.start, r.header_len + r.length).split_at_mut(r.header_len);
+        if r.kind == ffi::READING_OPENING {
+            let (header, part) = self.datagram.lend(r.start, r.header_len + r.length).split_at_mut(r.header_len);
             let opened = self.cipher.open(r.epoch, r.number, &r.nonce, header, part);
-            self.handed = handed;
-            r = unsafe { ffi::link_opened(self.state, opened.into(), r.length - 16, self.start, self.length) };
+            r = self.datagram.opened(opened, r.length - ffi::TAG);
         }
         r
     }
 
-    fn peek(&self, from: usize) -> [u8; 16] {
-        assert!(from.checked_add(16).is_some_and(|end| end <= self.length), "the sample is in the datagram");
-        let mut sample = [0; 16];
-        unsafe { std::ptr::copy_nonoverlapping(self.start.add(from), sample.as_mut_ptr(), 16) };
-        sample
+    /// Drops the record that waits for a mask. Without one its number is not known, and the library is told any: the record is not
+    /// opened, so no number is marked, and which reason the library would give for it says nothing.
+    fn not_opened(&mut self) -> ffi::Reading {
+        let mut r = self.datagram.mask([0, 0]);
+        if r.kind == ffi::READING_OPENING {
+            r = self.datagram.opened(false, 0);
+        }
+        if r.kind == ffi::READING_DROPPED {
+            r.refusal = Refusal::NotOpened.number();
+        }
+        r
     }
 }
 
@@ -219,32 +256,32 @@ impl<'d, C: Cipher + ?Sized> Iterator for Readings<'_, 'd, C> {
         if self.ended {
             return None;
         }
+        self.ended = true;
         let r = self.step();
+        self.ended = matches!(r.kind, ffi::READING_END | ffi::READING_REFUSED);
+        let ffi::Reading { number, epoch, content_type, .. } = r;
         match r.kind {
-            ffi::OPENED => Some(Reading::Opened {
-                epoch: r.epoch,
-                number: r.number,
-                content_type: r.content_type,
-                content: self.part(r.start, r.length),
-            }),
-            ffi::PLAINTEXT => Some(Reading::Plaintext {
-                number: r.number,
-                content_type: r.content_type,
-                content: self.part(r.start, r.length),
-            }),
-            ffi::UNOPENED => Some(Reading::Unopened {
-                epoch_bits: r.epoch as u8,
-                number: r.number as u16,
-                protected: self.part(r.start, r.length),
-            }),
-            ffi::DROPPED => Some(Reading::Dropped(Refusal::of(r.refusal, 0))),
-            ffi::END | ffi::REFUSED => {
-                self.ended = true;
-                (r.refusal != 0).then(|| Reading::Fault(Refusal::of(r.refusal, 0)))
+            ffi::READING_OPENED => {
+                Some(Reading::Opened { epoch, number, content_type, content: self.datagram.hand(r.start, r.length) })
             }
-            kind => panic!("the library has no reading {kind}"),
+            ffi::READING_PLAINTEXT => {
+                Some(Reading::Plaintext { number, content_type, content: self.datagram.hand(r.start, r.length) })
+            }
+            ffi::READING_UNOPENED => Some(Reading::Unopened {
+                epoch_bits: epoch as u8,
+                number: number as u16,
+                protected: self.datagram.hand(r.start, r.length),
+            }),
+            ffi::READING_DROPPED => Some(Reading::Dropped(Refusal::of(r.refusal, 0))),
+            _ => (r.refusal != 0).then(|| Reading::Fault(Refusal::of(r.refusal, 0))),
         }
     }
 }
 
 impl<C: Cipher + ?Sized> FusedIterator for Readings<'_, '_, C> {}
+
+impl<C: ?Sized> fmt::Debug for Readings<'_, '_, C> {
+    fn fmt(&self, f: &mut fmt::Formatter<'_>) -> fmt::Result {
+        f.debug_struct("Readings").field("ended", &self.ended).finish_non_exhaustive()
+    }
+}

@@ -1,5 +1,5 @@
-use std::error::Error;
-use std::fmt;
+use core::error::Error;
+use core::fmt;
 
 /// Why a call is refused, a record dropped or a datagram ended, with the specification's numbers.
 ///
@@ -11,6 +11,7 @@ use std::fmt;
 /// assert_eq!(Refusal::BufferTooSmall { needed: 74 }.to_string(), "refusal 16: the buffer is too small, 74 bytes are needed");
 /// ```
 #[derive(Clone, Copy, Debug, PartialEq, Eq, Hash)]
+#[non_exhaustive]
 pub enum Refusal {
     /// 1: the datagram has more than 16,384 bytes.
     DatagramTooLong,
@@ -32,9 +33,9 @@ pub enum Refusal {
     NotFresh,
     /// 10: the cipher did not open the record.
     NotOpened,
-    /// 11: the opened record has no content type.
+    /// 11: the opened record has no content type; its number is used.
     NoContentType,
-    /// 12: a setting is outside its range, or a buffer too short for the settings.
+    /// 12: a setting is out of its range, or a buffer too short for the settings.
     OutOfRange,
     /// 13: the epoch cannot be used so.
     BadEpoch,
@@ -47,7 +48,7 @@ pub enum Refusal {
         /// The length that is needed.
         needed: usize,
     },
-    /// 17: no keys to send in epoch 2.
+    /// 17: no keys to send in the epoch.
     KeysAbsent,
     /// 18: the flight would have a thirteenth record.
     FlightFull,
@@ -57,10 +58,10 @@ pub enum Refusal {
     NumbersSpent,
     /// 21: the handshake message numbers are spent.
     MessagesSpent,
-    /// 22: a record was sent again 32 times.
+    /// 22: a handshake record remembers 32 numbers and cannot be sent again.
     ResendsSpent,
-    /// 23: the front datagram is not wholly sealed, four application epochs are keyed to receive, or a sealing under the application
-    /// epoch that would be replaced still waits.
+    /// 23: the front datagram is not wholly sealed, four application epochs are keyed to receive, or a sealing waits under the
+    /// application epoch that would be replaced.
     Waiting,
 }
 
@@ -120,16 +121,26 @@ impl Refusal {
             21 => Refusal::MessagesSpent,
             22 => Refusal::ResendsSpent,
             23 => Refusal::Waiting,
-            _ => panic!("the library has no refusal {number}"),
+            _ => panic!("the library refuses by {number}, it is of another version than this crate"),
         }
     }
 
-    /// Nothing for 0, else the refusal with this number.
-    pub(crate) fn done(number: u8) -> Result<(), Refusal> {
+    /// What is told where the number is 0, else the refusal with this number.
+    pub(crate) fn answer<T>(number: u8, told: T) -> Result<T, Refusal> {
         match number {
-            0 => Ok(()),
+            0 => Ok(told),
             _ => Err(Refusal::of(number, 0)),
         }
+    }
+
+    /// The answer of a call that refuses only words that no call made.
+    pub(crate) fn never(number: u8) {
+        debug_assert_eq!(number, 0, "the library knows its own words");
+    }
+
+    /// Nothing where the number is 0, else the refusal with this number.
+    pub(crate) fn done(number: u8) -> Result<(), Refusal> {
+        Refusal::answer(number, ())
     }
 }
 
@@ -147,7 +158,7 @@ impl fmt::Display for Refusal {
             Refusal::NotFresh => "the record's number is used or too old",
             Refusal::NotOpened => "the cipher did not open the record",
             Refusal::NoContentType => "the opened record has no content type",
-            Refusal::OutOfRange => "a setting is outside its range or a buffer too short for it",
+            Refusal::OutOfRange => "a setting or a state is out of its range, or a buffer too short for it",
             Refusal::BadEpoch => "the epoch cannot be used so",
             Refusal::BadRecord => "the type is not allowed, the body over 16,384 bytes or the record over the MTU",
             Refusal::NoQuestion => "the reply answers no waiting question or has the wrong length",

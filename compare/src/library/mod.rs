@@ -44,7 +44,8 @@ impl Answers for Sending {
     }
 }
 
-/// The kind of an answer where a call that does the work of two, or the same in place, does not do what they do.
+/// The kind of an answer where a call that does the work of two, or the same in place, does not do what they do, or tells
+/// something else than the words have.
 const OTHERWISE: u8 = 255;
 
 /// The bytes of a step, read from the front.

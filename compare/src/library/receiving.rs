@@ -1,6 +1,6 @@
 //! The receive side.
 
-use huskelapse::ffi::{self, LinkReading, RECEIVING_WORDS};
+use huskelapse_sys::{self as ffi, Reading, Receiving, Told};
 
 use super::{Input, OTHERWISE, part};
 use crate::histories::{Answer, DROPPED, END};
@@ -19,18 +19,18 @@ const COUNT: usize = 15;
 
 /// The words of a link, and the begun datagram.
 pub struct Host {
-    state: [u64; RECEIVING_WORDS],
+    state: Receiving,
     datagram: Vec<u8>,
     /// Where the protected part lies that an opening question which waits asks about, and its length.
     opening: Option<(usize, usize)>,
-    /// What `link_begin_read` said of the datagram just begun, and the words that it left.
-    at_once: Option<(LinkReading, [u64; RECEIVING_WORDS])>,
+    /// What `begin_read` said of the datagram just begun, and the words and the datagram that it left.
+    at_once: Option<(Reading, Receiving, Vec<u8>)>,
 }
 
 impl Host {
     pub fn new() -> Self {
         let mut host = Self {
-            state: [0; RECEIVING_WORDS],
+            state: Receiving::BLANK,
             datagram: Vec::new(),
             opening: None,
             at_once: None,
@@ -47,10 +47,10 @@ impl Host {
         let state = &mut self.state;
         match letter {
             'f' => self.fresh(bytes.u8() as usize),
-            'k' => told(unsafe { ffi::link_key_receive(state, bytes.u16(), &bytes.take()) }),
-            'x' => told(unsafe { ffi::link_remove_receive(state, bytes.u16()) }),
-            'e' => told(unsafe { ffi::link_enable_peer_encryption(state) }),
-            'l' => told(unsafe { ffi::link_release_application_data(state) }),
+            'k' => refused(state.key(bytes.u16(), &bytes.take())),
+            'x' => removed(state.remove(bytes.u16())),
+            'e' => refused(state.enable_encryption()),
+            'l' => refused(state.release_application_data()),
             'w' => self.mark(bytes.u16(), bytes.u64()),
             'b' => self.begin(input),
             'r' => self.read(),
@@ -67,12 +67,12 @@ impl Host {
     fn fresh(&mut self, min_protected: usize) -> Answer {
         self.datagram.clear();
         self.opening = None;
-        told(unsafe { ffi::link_receiving(&mut self.state, min_protected) })
+        refused(self.state.init(min_protected))
     }
 
     /// A number marked in the window of an epoch, as opening a record does.
     fn mark(&mut self, epoch: u16, number: u64) -> Answer {
-        let state = &mut self.state;
+        let state = &mut self.state.word;
         let keyed = EPOCHS..EPOCHS + (state[COUNT] as usize).min(5);
         if let Some(i) = keyed.rev().find(|i| state[*i] == epoch as u64) {
             let (highest, marks) = (state[HIGHEST + i], state[MARKS + i]);
@@ -89,40 +89,39 @@ impl Host {
         Answer::default()
     }
 
-    /// A datagram that is refused does not take the place of the one before. What `link_begin_read` does is looked at beside.
+    /// A datagram that is refused does not take the place of the one before. What `begin_read` does is looked at beside.
     fn begin(&mut self, datagram: &[u8]) -> Answer {
-        let (d, n) = (datagram.as_ptr(), datagram.len());
-        let mut state = self.state;
-        let first = unsafe { ffi::link_begin_read(&mut state, d, n) };
-        let answer = unsafe { ffi::link_begin(&mut self.state, n) };
-        let refused = match first.kind {
-            ffi::REFUSED => first.refusal,
+        let (mut state, mut copy) = (self.state.clone(), datagram.to_vec());
+        let first = state.begin_read(&mut copy);
+        let answer = self.state.begin(datagram.len());
+        let refusal = match first.kind {
+            ffi::READING_REFUSED => first.refusal,
             _ => 0,
         };
-        if refused != answer || answer != 0 && state != self.state {
+        if refusal != answer || answer != 0 && state != self.state {
             return Answer::kind(OTHERWISE);
         }
-        if n <= LONGEST {
+        if datagram.len() <= LONGEST {
             self.datagram = datagram.to_vec();
             self.opening = None;
-            self.at_once = Some((first, state));
+            self.at_once = Some((first, state, copy));
         }
-        told(answer)
+        refused(answer)
     }
 
     fn read(&mut self) -> Answer {
-        let d = &self.datagram;
-        let reading = unsafe { ffi::link_read(&mut self.state, d.as_ptr(), d.len()) };
-        let at_once = self.at_once.take();
-        if at_once.is_some_and(|at_once| at_once != (reading, self.state)) {
+        let reading = self.state.read(&mut self.datagram);
+        let alike = self.at_once.take().is_none_or(|(first, state, copy)| {
+            first == reading && state == self.state && copy == self.datagram
+        });
+        if !alike {
             return Answer::kind(OTHERWISE);
         }
         self.reading(reading)
     }
 
     fn mask(&mut self, mask: [u8; 2]) -> Answer {
-        let (d, n) = (self.datagram.as_mut_ptr(), self.datagram.len());
-        let reading = unsafe { ffi::link_mask(&mut self.state, mask[0], mask[1], d, n) };
+        let reading = self.state.mask(mask, &mut self.datagram);
         self.reading(reading)
     }
 
@@ -137,21 +136,19 @@ impl Host {
                 *byte = *text;
             }
         }
-        let d = &self.datagram;
-        let reading =
-            unsafe { ffi::link_opened(&mut self.state, yes as u8, length, d.as_ptr(), d.len()) };
+        let reading = self.state.opened(yes, length, &self.datagram);
         self.reading(reading)
     }
 
     /// What is said of a record, with the bytes that it names: of an opening question the header.
-    fn reading(&mut self, r: LinkReading) -> Answer {
+    fn reading(&mut self, r: Reading) -> Answer {
         let length = match r.kind {
-            ffi::OPENING => r.header_len,
+            ffi::READING_OPENING => r.header_len,
             _ => r.length,
         };
         match r.kind {
-            ffi::OPENING => self.opening = Some((r.start + r.header_len, r.length)),
-            ffi::REFUSED => {}
+            ffi::READING_OPENING => self.opening = Some((r.start + r.header_len, r.length)),
+            ffi::READING_REFUSED => {}
             _ => self.opening = None,
         }
         Answer {
@@ -169,24 +166,29 @@ impl Host {
 /// A kind of reading and its refusal: an end is told by its fault, a reason to drop stands apart.
 fn kind(kind: u8, refusal: u8) -> Answer {
     match (kind, refusal) {
-        (ffi::REFUSED, refusal) => Answer {
+        (ffi::READING_REFUSED, refusal) => Answer {
             refusal,
             ..Answer::default()
         },
-        (ffi::END, 0) => Answer::kind(END),
-        (ffi::END, fault) => Answer::fault(fault),
-        (ffi::DROPPED, reason) => Answer::dropped(reason),
+        (ffi::READING_END, 0) => Answer::kind(END),
+        (ffi::READING_END, fault) => Answer::fault(fault),
+        (ffi::READING_DROPPED, reason) => Answer::dropped(reason),
         (kind, refusal) => Answer {
             refusal,
-            ..Answer::kind(kind.saturating_add(DROPPED - ffi::DROPPED))
+            ..Answer::kind(kind.saturating_add(DROPPED - ffi::READING_DROPPED))
         },
     }
 }
 
-/// The answer of a call that reads nothing. By 6 an epoch is removed, and the record under the question with it.
-fn told(answer: u8) -> Answer {
-    match answer {
-        6 => kind(ffi::DROPPED, 6),
-        _ => kind(ffi::REFUSED, answer),
+/// The answer of a call that reads nothing.
+fn refused(refusal: u8) -> Answer {
+    kind(ffi::READING_REFUSED, refusal)
+}
+
+/// An epoch is removed. A record under a question is dropped with it, by 6.
+fn removed(answer: Told) -> Answer {
+    match answer.told {
+        1 => kind(ffi::READING_DROPPED, 6),
+        _ => refused(answer.refusal),
     }
 }

@@ -1,6 +1,6 @@
 //! The sending side with flight and noted records.
 
-use huskelapse::ffi::{self, FLIGHT_NUMBERS, FLIGHT_WORDS, LinkTake, NOTES, SENDING_WORDS};
+use huskelapse_sys::{self as ffi, Flight, Notes, Sending, Take, Told};
 
 use super::{Input, OTHERWISE, part};
 use crate::sendings::{Answer, NOTHING, QUESTION};
@@ -34,12 +34,9 @@ const REMEMBERED: usize = 32;
 
 /// The words of a link, and the memory lent to it.
 pub struct Host {
-    state: [u64; SENDING_WORDS],
-    flight: [u64; FLIGHT_WORDS],
-    numbers: [u64; FLIGHT_NUMBERS],
-    note_count: [u64; 1],
-    note_epochs: [u64; NOTES],
-    note_numbers: [u64; NOTES],
+    state: Sending,
+    flight: Flight,
+    notes: Notes,
     queue: Vec<u8>,
     kept: Vec<u8>,
 }
@@ -48,15 +45,28 @@ fn refused(refusal: u8) -> Answer {
     Answer::refused(refusal)
 }
 
+/// The answer of a call that tells whether it did anything.
+fn done(answer: Told) -> Answer {
+    let nothing = answer.refusal == 0 && answer.told == 0;
+    Answer {
+        kind: if nothing { NOTHING } else { 0 },
+        ..refused(answer.refusal)
+    }
+}
+
+fn otherwise() -> Answer {
+    Answer {
+        kind: OTHERWISE,
+        ..Answer::default()
+    }
+}
+
 impl Host {
     pub fn new() -> Self {
         Self {
-            state: [0; SENDING_WORDS],
-            flight: [0; FLIGHT_WORDS],
-            numbers: [0; FLIGHT_NUMBERS],
-            note_count: [0],
-            note_epochs: [0; NOTES],
-            note_numbers: [0; NOTES],
+            state: Sending::BLANK,
+            flight: Flight::BLANK,
+            notes: Notes::BLANK,
             queue: Vec::new(),
             kept: Vec::new(),
         }
@@ -72,7 +82,7 @@ impl Host {
             'd' => self.send(bytes),
             'p' => self.send_saved(bytes),
             'h' => self.message(bytes),
-            'b' => refused(unsafe { ffi::link_begin_flight(&mut self.flight) }),
+            'b' => refused(self.flight.begin(&mut self.state)),
             'r' => self.resend(),
             'a' => self.process_ack(input),
             'n' => self.note(bytes.u64(), bytes.u64()),
@@ -90,13 +100,13 @@ impl Host {
         let (mtu, limit) = (bytes.u16() as usize, bytes.u8() as usize);
         self.queue = vec![UNTOUCHED; bytes.u16() as usize];
         self.kept = vec![UNTOUCHED; bytes.u16() as usize];
-        self.note_count = [0];
-        unsafe { ffi::link_flight(&mut self.flight, &mut self.numbers) };
-        refused(unsafe { ffi::link_sending(&mut self.state, mtu, limit) })
+        self.notes.init();
+        self.flight.init();
+        refused(self.state.init(mtu, limit))
     }
 
     fn key(&mut self, epoch: u16, iv: [u8; 12]) -> Answer {
-        refused(unsafe { ffi::link_key_send(&mut self.state, epoch, &iv) })
+        refused(self.state.key(epoch, &iv))
     }
 
     /// The next number of an epoch under which nothing waits, as if those before had been used.
@@ -107,116 +117,73 @@ impl Host {
             _ => &[APPLICATION_NEXT, APPLICATION_SEALED],
         };
         for word in words {
-            self.state[*word] = number;
+            self.state.word[*word] = number;
         }
         Answer::default()
     }
 
     fn set_message(&mut self, number: u16) -> Answer {
-        self.state[MESSAGE] = number as u64;
+        self.state.word[MESSAGE] = number as u64;
         Answer::default()
     }
 
     fn send(&mut self, mut bytes: Input) -> Answer {
         let (epoch, content_type, content) = (bytes.u16(), bytes.u8(), bytes.content());
-        let (queue, room) = (self.queue.as_mut_ptr(), self.queue.len());
-        let (text, n) = (content.as_ptr(), content.len());
-        let state = &mut self.state;
-        refused(unsafe { ffi::link_send(state, epoch, content_type, text, n, queue, room) })
+        let queue = &mut self.queue;
+        refused(self.state.send(epoch, content_type, &content, queue))
     }
 
     fn send_saved(&mut self, mut bytes: Input) -> Answer {
         let (epoch, content_type, content) = (bytes.u16(), bytes.u8(), bytes.content());
-        refused(unsafe {
-            ffi::link_send_saved(
-                &mut self.state,
-                &mut self.flight,
-                &mut self.numbers,
-                epoch,
-                content_type,
-                content.as_ptr(),
-                content.len(),
-                self.queue.as_mut_ptr(),
-                self.queue.len(),
-                self.kept.as_mut_ptr(),
-                self.kept.len(),
-            )
-        })
+        let (state, queue, kept) = (&mut self.state, &mut self.queue, &mut self.kept);
+        let flight = &mut self.flight;
+        refused(flight.send(state, epoch, content_type, &content, queue, kept))
     }
 
     fn message(&mut self, mut bytes: Input) -> Answer {
         let (message_type, body) = (bytes.u8(), bytes.content());
-        refused(unsafe {
-            ffi::link_create_handshake(
-                &mut self.state,
-                &mut self.flight,
-                &mut self.numbers,
-                message_type,
-                body.as_ptr(),
-                body.len(),
-                self.queue.as_mut_ptr(),
-                self.queue.len(),
-                self.kept.as_mut_ptr(),
-                self.kept.len(),
-            )
-        })
+        let (state, queue, kept) = (&mut self.state, &mut self.queue, &mut self.kept);
+        let flight = &mut self.flight;
+        refused(flight.message(state, message_type, &body, queue, kept))
     }
 
+    /// How many are sent again is how many were not acknowledged.
     fn resend(&mut self) -> Answer {
-        refused(unsafe {
-            ffi::link_resend(
-                &mut self.state,
-                &mut self.flight,
-                &mut self.numbers,
-                self.kept.as_ptr(),
-                self.kept.len(),
-                self.queue.as_mut_ptr(),
-                self.queue.len(),
-            )
-        })
+        let before = self.flight.status();
+        let (state, kept, queue) = (&mut self.state, &self.kept, &mut self.queue);
+        let answer = self.flight.resend(state, kept, queue);
+        if answer.refusal == 0 && answer.told != before.unacknowledged {
+            return otherwise();
+        }
+        refused(answer.refusal)
     }
 
+    /// What is left is what the flight says of itself.
     fn process_ack(&mut self, content: &[u8]) -> Answer {
-        let (flight, numbers) = (&mut self.flight, &mut self.numbers);
-        let (text, n) = (content.as_ptr(), content.len());
-        refused(unsafe { ffi::link_process_ack(flight, numbers, text, n) })
+        let answer = self.flight.ack(&mut self.state, content);
+        let after = self.flight.status();
+        let left = (answer.saved, answer.unacknowledged);
+        if answer.refusal == 0 && left != (after.saved, after.unacknowledged) {
+            return otherwise();
+        }
+        refused(answer.refusal)
     }
 
     /// With 32 noted, nothing is noted any more.
     fn note(&mut self, epoch: u64, number: u64) -> Answer {
-        let full = self.note_count[0] == NOTES as u64;
-        let (count, epochs) = (&mut self.note_count, &mut self.note_epochs);
-        let numbers = &mut self.note_numbers;
-        Answer {
-            kind: if full { NOTHING } else { 0 },
-            ..refused(unsafe { ffi::link_note(count, epochs, numbers, epoch, number) })
-        }
+        done(self.notes.add(epoch, number))
     }
 
     /// With none noted, nothing is sent.
     fn send_ack(&mut self) -> Answer {
-        let none = self.note_count[0] == 0;
-        let answer = unsafe {
-            ffi::link_send_ack(
-                &mut self.state,
-                &mut self.note_count,
-                &mut self.note_epochs,
-                &mut self.note_numbers,
-                self.queue.as_mut_ptr(),
-                self.queue.len(),
-            )
-        };
-        Answer {
-            kind: if none && answer == 0 { NOTHING } else { 0 },
-            ..refused(answer)
-        }
+        done(self.notes.send(&mut self.state, &mut self.queue))
     }
 
     fn question(&mut self) -> Answer {
-        let q = unsafe { ffi::link_sealing(&self.state) };
+        let q = self.state.sealing();
         Answer {
             kind: match q.kind {
-                ffi::SEAL => QUESTION,
+                ffi::SEALING_SEAL => QUESTION,
                 kind => kind,
             },
             epoch: q.epoch,
@@ -233,24 +200,26 @@ impl Host {
     /// Sealed bytes are written where the question says, as far as it says; then the length is told.
     fn reply(&mut self, mut bytes: Input) -> Answer {
         let (mask, sealed) = (bytes.take::<2>(), bytes.content());
-        let q = unsafe { ffi::link_sealing(&self.state) };
+        let q = self.state.sealing();
         let lent = self.queue.iter_mut().skip(q.start).take(q.length);
         lent.zip(&sealed).for_each(|(byte, text)| *byte = *text);
-        let (queue, room) = (self.queue.as_mut_ptr(), self.queue.len());
-        let (state, n) = (&mut self.state, sealed.len());
-        refused(unsafe { ffi::link_sealed(state, n, mask[0], mask[1], queue, room) })
+        let (flight, queue) = (&mut self.flight, &mut self.queue);
+        refused(self.state.sealed(flight, sealed.len(), mask, queue))
     }
 
-    /// Whether `link_take_in_place` does the same from the words before; where the buffer was too small, it takes.
-    fn taken_alike(&self, before: &[u64; SENDING_WORDS], t: LinkTake, buffer: &[u8]) -> bool {
-        let mut state = *before;
-        let (queue, room) = (self.queue.as_ptr(), self.queue.len());
-        let p = unsafe { ffi::link_take_in_place(&mut state, queue, room) };
+    /// Whether `take_in_place` does the same from the words before; where the buffer was too small, it takes.
+    fn taken_alike(&self, before: &Sending, t: Take, buffer: &[u8]) -> bool {
+        let mut state = before.clone();
+        let p = state.take_in_place(&self.queue);
         if t.refusal == 16 {
-            return p.kind == ffi::TAKEN && p.length == t.length;
+            return p.kind == ffi::TAKE_TAKEN && p.length == t.length;
         }
         let datagram = part(&self.queue, p.start, p.length);
-        let length = if t.kind == ffi::TAKEN { t.length } else { 0 };
+        let length = if t.kind == ffi::TAKE_TAKEN {
+            t.length
+        } else {
+            0
+        };
         (p.kind, p.refusal) == (t.kind, t.refusal)
             && datagram == part(buffer, 0, length)
             && state == self.state
@@ -258,15 +227,10 @@ impl Host {
 
     fn take(&mut self, length: usize) -> Answer {
         let mut buffer = vec![UNTOUCHED; length];
-        let (queue, room) = (self.queue.as_ptr(), self.queue.len());
-        let before = self.state;
-        let state = &mut self.state;
-        let t = unsafe { ffi::link_take(state, buffer.as_mut_ptr(), length, queue, room) };
+        let before = self.state.clone();
+        let t = self.state.take(&mut buffer, &self.queue);
         if !self.taken_alike(&before, t, &buffer) {
-            return Answer {
-                kind: OTHERWISE,
-                ..Answer::default()
-            };
+            return otherwise();
         }
         Answer {
             kind: t.kind,
@@ -278,7 +242,7 @@ impl Host {
 
     /// Next numbers, the queue's lengths, how many records are saved and noted.
     fn view(&mut self) -> Answer {
-        let word = |i: usize| self.state[i];
+        let word = |i: usize| self.state.word[i];
         let mut shown = Vec::new();
         shown.extend_from_slice(&word(PLAINTEXT_NEXT).to_be_bytes());
         shown.extend_from_slice(&word(HANDSHAKE_NEXT).to_be_bytes());
@@ -290,7 +254,7 @@ impl Host {
             word(LENGTHS + slot as usize)
         });
         let shorts = [word(MESSAGE), word(COUNT), word(CLOSED)].into_iter();
-        let counts = [self.flight[SAVED], self.note_count[0]];
+        let counts = [self.flight.word[SAVED], self.notes.count[0]];
         for short in shorts.chain(lengths).chain(counts) {
             shown.extend_from_slice(&(short as u16).to_be_bytes());
         }
@@ -300,15 +264,15 @@ impl Host {
     /// A saved record.
     fn entry(&mut self, i: usize) -> Answer {
         assert!(i < ENTRIES, "no entry {i}");
-        let row: [u64; ROW] = self.flight[ROW * i..][..ROW].try_into().unwrap();
+        let row: [u64; ROW] = self.flight.word[ROW * i..][..ROW].try_into().unwrap();
         let [content_type, epoch, number, length, marked, remembered] = row;
         let mut shown = (marked as u16).to_be_bytes().to_vec();
         shown.extend_from_slice(&(remembered as u16).to_be_bytes());
         let known = (remembered as usize).min(REMEMBERED);
-        for number in &self.numbers[REMEMBERED * i..][..known] {
+        for number in &self.flight.numbers[REMEMBERED * i..][..known] {
             shown.extend_from_slice(&number.to_be_bytes());
         }
-        let start = i * self.state[MTU] as usize;
+        let start = i * self.state.word[MTU] as usize;
         shown.extend_from_slice(part(&self.kept, start, length as usize));
         Answer {
             kind: content_type as u8,

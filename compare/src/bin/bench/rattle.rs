@@ -2,126 +2,77 @@
 
 use std::hint::black_box;
 
-use huskelapse::ffi::*;
+use huskelapse_sys::{Flight, Part, Receiving, Sealing, Sending, Take};
 
 use crate::clock::{time, time_in_rows};
 use crate::inputs::*;
 
 /// The receive side: epochs 2 and 3 keyed, the peer encrypts, application data released.
-fn receiving() -> [u64; RECEIVING_WORDS] {
-    let mut s = [0; RECEIVING_WORDS];
-    unsafe {
-        link_receiving(&mut s, 16);
-        link_key_receive(&mut s, 2, &IV);
-        link_key_receive(&mut s, 3, &IV);
-        link_enable_peer_encryption(&mut s);
-        link_release_application_data(&mut s);
-    }
+fn receiving() -> Receiving {
+    let mut s = Receiving::BLANK;
+    s.init(16);
+    s.key(2, &IV);
+    s.key(3, &IV);
+    s.enable_encryption();
+    s.release_application_data();
     s
 }
 
 /// The sending side, the flight and their memory.
 pub struct Host {
-    s: [u64; SENDING_WORDS],
-    f: [u64; FLIGHT_WORDS],
-    numbers: [u64; FLIGHT_NUMBERS],
+    s: Sending,
+    f: Flight,
     queue: Vec<u8>,
     kept: Vec<u8>,
 }
 
 impl Host {
     pub fn new() -> Host {
-        let mut s = [0; SENDING_WORDS];
-        let (mut f, mut numbers) = ([0; FLIGHT_WORDS], [0; FLIGHT_NUMBERS]);
-        unsafe {
-            link_sending(&mut s, MTU, QUEUE);
-            link_key_send(&mut s, 2, &IV);
-            link_key_send(&mut s, 3, &IV);
-            link_flight(&mut f, &mut numbers);
-        }
+        let (mut s, mut f) = (Sending::BLANK, Flight::BLANK);
+        s.init(MTU, QUEUE);
+        s.key(2, &IV);
+        s.key(3, &IV);
+        f.init();
         let (queue, kept) = (vec![0xAA; QUEUE * MTU], vec![0; FLIGHT * MTU]);
-        Host {
-            s,
-            f,
-            numbers,
-            queue,
-            kept,
-        }
+        Host { s, f, queue, kept }
     }
 
     #[inline]
     pub fn send_record(&mut self, content: &[u8]) -> u8 {
-        let (q, room) = (self.queue.as_mut_ptr(), self.queue.len());
-        unsafe { link_send(&mut self.s, 3, 23, content.as_ptr(), content.len(), q, room) }
+        self.s.send(3, 23, content, &mut self.queue)
     }
 
     /// A message of type 11.
     #[inline]
     pub fn send_message(&mut self, body: &[u8]) -> u8 {
-        let (q, room) = (self.queue.as_mut_ptr(), self.queue.len());
-        let (k, k_len) = (self.kept.as_mut_ptr(), self.kept.len());
-        let Host { s, f, numbers, .. } = self;
-        unsafe {
-            link_create_handshake(
-                s,
-                f,
-                numbers,
-                11,
-                body.as_ptr(),
-                body.len(),
-                q,
-                room,
-                k,
-                k_len,
-            )
-        }
+        let Host { s, f, queue, kept } = self;
+        f.message(s, 11, body, queue, kept)
     }
 
     #[inline]
     fn begin_flight(&mut self) {
-        unsafe { link_begin_flight(&mut self.f) };
+        self.f.begin(&mut self.s);
     }
 
     /// A new flight, its records sent and saved in epoch 2.
     pub fn send_flight(&mut self, content: &[u8]) {
         self.begin_flight();
-        let (q, room) = (self.queue.as_mut_ptr(), self.queue.len());
-        let (k, k_len) = (self.kept.as_mut_ptr(), self.kept.len());
-        let (c, n) = (content.as_ptr(), content.len());
-        let Host { s, f, numbers, .. } = self;
+        let Host { s, f, queue, kept } = self;
         for _ in 0..FLIGHT {
-            let sent = unsafe { link_send_saved(s, f, numbers, 2, 22, c, n, q, room, k, k_len) };
+            let sent = f.send(s, 2, 22, content, queue, kept);
             assert!(sent == 0, "a saved record is refused by {sent}");
         }
     }
 
     #[inline]
     pub fn resend(&mut self) -> u8 {
-        let (q, room) = (self.queue.as_mut_ptr(), self.queue.len());
-        let (k, k_len) = (self.kept.as_ptr(), self.kept.len());
-        unsafe {
-            link_resend(
-                &mut self.s,
-                &mut self.f,
-                &mut self.numbers,
-                k,
-                k_len,
-                q,
-                room,
-            )
-        }
+        let Host { s, f, queue, kept } = self;
+        f.resend(s, kept, queue).refusal
     }
 
     #[inline]
     pub fn act_on_ack(&mut self, content: &[u8]) -> u8 {
-        unsafe {
-            link_process_ack(
-                &mut self.f,
-                &mut self.numbers,
-                content.as_ptr(),
-                content.len(),
-            )
-        }
+        self.f.ack(&mut self.s, content).refusal
     }
 
     /// Seals all that waits, as the cipher that does nothing does: a tag of 16 zeros.
@@ -137,27 +88,25 @@ impl Host {
     }
 
     #[inline]
-    fn ask(&self) -> LinkSealing {
-        unsafe { link_sealing(&self.s) }
+    fn ask(&self) -> Sealing {
+        self.s.sealing()
     }
 
     #[inline]
-    fn sealed(&mut self, ask: &LinkSealing) -> u8 {
-        self.queue[ask.start + ask.length - 16..ask.start + ask.length].fill(0);
-        let (q, room) = (self.queue.as_mut_ptr(), self.queue.len());
-        unsafe { link_sealed(&mut self.s, ask.length, 0, 0, q, room) }
+    fn sealed(&mut self, ask: &Sealing) -> u8 {
+        let Host { s, f, queue, .. } = self;
+        queue[ask.start + ask.length - 16..ask.start + ask.length].fill(0);
+        s.sealed(f, ask.length, [0, 0], queue)
     }
 
     #[inline]
-    pub fn take(&mut self, out: &mut [u8]) -> LinkTake {
-        let (q, room) = (self.queue.as_ptr(), self.queue.len());
-        unsafe { link_take(&mut self.s, out.as_mut_ptr(), out.len(), q, room) }
+    pub fn take(&mut self, out: &mut [u8]) -> Take {
+        self.s.take(out, &self.queue)
     }
 
     #[inline]
-    fn take_in_place(&mut self) -> LinkPart {
-        let (q, room) = (self.queue.as_ptr(), self.queue.len());
-        unsafe { link_take_in_place(&mut self.s, q, room) }
+    fn take_in_place(&mut self) -> Part {
+        self.s.take_in_place(&self.queue)
     }
 
     /// Seals and takes all that is queued; how many datagrams there were.
@@ -178,14 +127,13 @@ impl Host {
 pub fn read(n: usize, count: u32) -> f64 {
     let mut s = receiving();
     let mut record = sealed(n);
-    let len = record.len();
-    time(count, |i| unsafe {
+    time(count, |i| {
         number(&mut record, i);
-        let d = black_box(&mut record).as_mut_ptr();
-        let asked = link_begin_read(&mut s, d, len);
+        let d = black_box(&mut record);
+        let asked = s.begin_read(d);
         assert!(asked.kind == 6);
-        let opening = link_mask(&mut s, 0, 0, d, len);
-        let r = link_opened(&mut s, 1, opening.length - 16, d, len);
+        let opening = s.mask([0, 0], d);
+        let r = s.opened(true, opening.length - 16, d);
         assert!(r.kind == 5 && r.length == n && r.number == i as u64);
         black_box(&record[r.start..r.start + r.length]);
     })
@@ -255,9 +203,9 @@ fn resent_twice() -> Host {
 
 pub fn act_on_ack(count: u32) -> f64 {
     let mut hosts: Vec<Host> = (0..FLIGHTS).map(|_| resent_twice()).collect();
-    let unmarked = hosts[0].f;
+    let unmarked = hosts[0].f.word;
     let ack = ack_of_32();
-    let prepare = |hosts: &mut Vec<Host>| hosts.iter_mut().for_each(|host| host.f = unmarked);
+    let prepare = |hosts: &mut Vec<Host>| hosts.iter_mut().for_each(|host| host.f.word = unmarked);
     let spent = time_in_rows(&mut hosts, count, FLIGHTS as u32, prepare, |hosts, i| {
         let acted = hosts[i as usize].act_on_ack(black_box(&ack));
         assert!(acted == 0);

@@ -1,0 +1,34 @@
+//! The crate beside the C header: one version, and every function that the library has is declared in sys/src/lib.rs.
+
+const HEADER: &str = include_str!("../../include/huskelapse.h");
+const CALLS: &str = include_str!("../sys/src/lib.rs");
+
+/// The names of functions in a text: what stands before a bracket.
+fn functions(text: &str) -> Vec<&str> {
+    let is_name = |c: char| c.is_ascii_lowercase() || c == '_';
+    let calls = text.split('(').map(|before| &before[before.trim_end_matches(is_name).len()..]);
+    calls.filter(|name| name.starts_with("husk_")).collect()
+}
+
+/// The header without comments and without functions that it defines itself.
+fn declarations() -> String {
+    let code = HEADER.split("/*").map(|part| part.split_once("*/").map_or(part, |(_, code)| code)).collect::<String>();
+    let inline = code.split("static inline ").map(|part| part.split_once("\n}").map_or(part, |(_, rest)| rest));
+    inline.collect()
+}
+
+#[test]
+fn one_version() {
+    assert!(HEADER.contains(&format!("#define HUSK_VERSION \"{}\"", env!("CARGO_PKG_VERSION"))));
+}
+
+#[test]
+fn every_function_is_declared() {
+    let mut declared = functions(&CALLS[CALLS.find("unsafe extern").unwrap()..CALLS.find("// SAFETY").unwrap()]);
+    let text = declarations();
+    let mut library = functions(&text);
+    declared.sort_unstable();
+    library.sort_unstable();
+    assert!(library.len() > 20);
+    assert_eq!(declared, library);
+}
