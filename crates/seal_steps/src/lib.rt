@@ -231,8 +231,8 @@ fn seek_step(w: &[u64; WORDS], d: &[u8], c: Search) -> Search
     sealing::step_of(x, slot, c)
 }
 
-// The first record that waits from where the search is on. 2,000 steps pass every record that 16 datagrams can hold; of the last only
-// the end could be told, so it is not made.
+// The first record that waits from where the search is on. 2,000 steps pass every record that 16 datagrams can hold; what the last of
+// them would find is not told, so it is not made.
 fn seek_from(w: &[u64; WORDS], d: &[u8], from: Search) -> Waiting
     requires { ⌜ InRange (queueOf (now w)) × (from .done ≡ false) ⌝ }
     ensures { λ r. ⌜ r ≡ seek 2000 (queueOf (now (w .entry))) (now (d .entry)) from ⌝ }

@@ -265,7 +265,7 @@ fn put_laid(w: &mut [u64; WORDS], p: Place, slot: usize, epoch: u16, n: usize, n
     put_end(w, slot, p.datagram, p.offset + len);
 }
 
-// A record laid, to which no refusal applies.
+// A record laid, to which no refusal applies. The words go first and the bytes last, so that nothing is kept across the copy.
 pub fn lay(w: &mut [u64; WORDS], p: Place, epoch: u16, t: u8, content: &[u8], d: &mut [u8])
     requires { ⌜ Clear (stateOf (now w)) (length (now d)) epoch (length (now content)) × (p ≡ spotOf (stateOf (now w)) epoch (length (now content))) ⌝ }
     ensures { λ _. ⌜ Partly (laidState (stateOf (now (w .entry))) epoch (length (now (content .entry)))) (now (w .entry)) (now (w .exit)) × (now (d .exit) ≡ laidMemory (stateOf (now (w .entry))) epoch t (now (content .entry)) (now (d .entry))) ⌝ }
