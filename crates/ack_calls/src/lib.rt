@@ -114,7 +114,8 @@ pub fn resend(
     answers::told(12, 0)
 }
 
-// Acts on an ACK with this content: marks the saved records that it names; the flight empties if those of epoch 2 are all marked.
+// Acts on an ACK with this content: marks the saved records that it names; the flight empties if those of epoch 2 are all marked. An ACK
+// without its form marks none and is not refused.
 pub fn process_ack(
     f: &mut [u64; flight_words::WORDS],
     numbers: &mut [u64; 384],
@@ -127,6 +128,7 @@ pub fn process_ack(
         if saved <= 12 {
             let before = status_calls::unmarked(f, saved);
             ack_steps::process_ack(f, numbers, content);
+            // Of those saved before: a flight that empties keeps its marks.
             let behind = status_calls::unmarked(f, saved);
             return left_behind(f, before - behind);
         }

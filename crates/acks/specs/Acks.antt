@@ -19,7 +19,6 @@ use Rattle.send_keys.specs.declared.SendAnswer.the-variants as send
 use Rattle.outgoing.specs.Send.{sendAnswer, sendState, sendMemory}
 use Rattle.send_keys.specs.Answer.{isDone}
 use Rattle.acks.specs.declared.Notes.{Notes}
-use Rattle.acks.specs.declared.NoteAnswer.{NoteAnswer}
 use Rattle.acks.specs.declared.NoteAnswer.the-variants.{Noted, Full, OutOfRange}
 use Rattle.acks.specs.declared.Noting.{Noting}
 use Rattle.acks.specs.declared.AckSent.{AckSent}

@@ -1,11 +1,11 @@
 -- What a host learns without reading its state: after every list of calls, how much is saved, not acknowledged, queued, and waits to be sealed, is
 -- what the account has. Assumes nothing.
-use Prim.Native.Nat.{ℕ, zero, suc, _+_, _*_, _≤_, _<_}
+use Prim.Native.Nat.{ℕ, suc, _+_, _*_, _≤_}
 use borrow.Author.Tests.{eq-eqb, ne-eqb}
 use lib.Dec.{eqb}
 use lib.ListN.{length, length-append}
 use mathlib.Core.Bool.{Bool, true, false}
-use mathlib.Core.List.{List, [], _∷_, _++_}
+use mathlib.Core.List.{List, [], _∷_}
 use mathlib.Core.Logic.{⊎-elim}
 use mathlib.Core.Path.{_≡_, refl, sym, ap, _∙_}
 use native.Mathlib.Nat.{mul-le-mul, suc-mul}
@@ -22,7 +22,7 @@ use Rattle.waiting_laws.specs.Queued.{Queued, plain, waits, sealed, bytesOf, by
 use Rattle.history_theorem.specs.Claim.{Masks}
 use Rattle.ends_theorem.specs.Claim.{Startable}
 use Rattle.ends_theorem.specs.Counting.{unacked-is}
-use Rattle.ends_theorem.specs.Ledger.{Item, Kept, Ledger, Going, items, waiting, withSaved, unacked, sendsAgain, again, passes, closes, resent}
+use Rattle.ends_theorem.specs.Ledger.{Kept, Ledger, Going, items, waiting, withSaved, unacked, sendsAgain, again, passes, closes, resent}
 use Rattle.ends_theorem.specs.Matches.{itemsIn, itemsOf, Matches}
 use Rattle.ends_theorem.specs.Matching.{items-flat}
 use Rattle.ends_theorem.specs.Proof.{always-matches}

@@ -2,6 +2,6 @@
 use Prim.Native.Nat.{ℕ, _+_, _-_}
 use Rattle.outgoing.specs.declared.Sending.{Sending}
 
--- of each epoch that is sealed, the numbers from the first that may wait up to the next one to send
+-- how many records wait: in epoch 2 and in the application epoch, those from the first number not sealed yet up to the next to be used
 unfoldable pub toSeal : Sending → ℕ
 toSeal s = (s .keys .handshake .next - s .keys .handshake .sealed) + (s .keys .application .next - s .keys .application .sealed)

@@ -1,5 +1,5 @@
 -- How many saved records an ACK marks: what it tells a host that resends. Assumes nothing.
-use mathlib.Core.Bool.{Bool, true, false, false≢true}
+use mathlib.Core.Bool.{true, false≢true}
 use mathlib.Core.List.{List}
 use mathlib.Core.Logic.{⊎-elim}
 use mathlib.Core.Path.{_≡_, refl, sym, ap, _∙_}
@@ -11,10 +11,10 @@ use lib.Seq.{getD-set-other, getD-set-same}
 use Rattle.base.specs.Choose.{choose, if-true, if-false, by-test, test-cases, eq-or-ne, lt-or-ge}
 use Rattle.flight.specs.declared.Entry.{Entry}
 use Rattle.flight.specs.declared.Flight.{Flight}
-use Rattle.flight.specs.Flight.{noEntry, entryAt, withSaved}
+use Rattle.flight.specs.Flight.{noEntry, entryAt}
 use Rattle.flight.specs.Status.{unmarkedAfter, unacknowledged}
 use Rattle.process_ack.specs.declared.Acked.{Acked}
-use Rattle.process_ack.specs.Ack.{isFormed, pairsIn, isAcked, withMark, markAt, marksAfter, emptied, acked, tallyAfter, marks-saved}
+use Rattle.process_ack.specs.Ack.{isFormed, pairsIn, isAcked, withMark, markAt, marksAfter, emptied, acked, marks-saved}
 
 -- how many saved records an ACK marks that were not marked; those of a flight that it then empties count
 unfoldable pub newlyMarked : Flight → List ℕ → ℕ

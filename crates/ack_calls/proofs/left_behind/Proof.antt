@@ -1,7 +1,6 @@
 -- `ack_calls::left_behind` meets its contract. Assumes nothing.
 use mathlib.Core.Path.{ap}
 use Prim.Native.Nat.{ℕ}
-use Rattle.ack_calls.specs.declared.HuskAcked.{HuskAcked}
 use Rattle.flight_words.specs.Words.{saved-at}
 use lib.ListN.{getD}
 use borrow.Author.Needs.{needs}
