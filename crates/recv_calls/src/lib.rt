@@ -8,7 +8,7 @@ ghost use Rattle.incoming.specs.declared.Inner.the-variants as Inner;
 ghost use Rattle.mask_reply.specs.Mask.{judged, maskedAt, maskedBy, maskStep};
 ghost use Rattle.opening_reply.specs.Opening.{typed, openedAt, openedBy, openedStep};
 ghost use Rattle.opening_reply.specs.declared.Opening.the-variants as Opening;
-ghost use Rattle.recv_keys.specs.Keys.{entryAt, find};
+ghost use Rattle.recv_keys.specs.Keys.{mostEpochs, entryAt, find};
 ghost use Rattle.recv_words.specs.Words.{entriesOf, keysOf, askOf, askNumber, datagramOf, isFlat};
 ghost use Rattle.records.specs.Records.{readStep};
 ghost use Rattle.recv_steps.specs.Goes.{Goes};
@@ -38,6 +38,7 @@ use incoming::Inner;
 use receiving::Answer;
 use record::TAG_LEN;
 use recv_keys::Found;
+use recv_keys::MOST_LEAST;
 use recv_words::ASK_EPOCH;
 use recv_words::ASK_FLAG;
 use recv_words::ASK_NUMBER;
@@ -243,7 +244,7 @@ pub fn fresh(w: &mut [u64; WORDS], min_protected: usize) -> u8
     ensures { λ r. ⌜ FreshCall r (now (w .exit)) «min_protected» ⌝ }
 {
     recv_words::put_fresh(w, min_protected);
-    if 17 < min_protected {
+    if MOST_LEAST < min_protected as u64 {
         return 12;
     }
     0
@@ -380,7 +381,7 @@ fn no_reply(kind: u8, refusal: u8) -> Reply
 
 // The opening of the record at the cursor is asked for, under the entry at i.
 fn open_question(w: &[u64; WORDS], i: usize, number: u64) -> Reply
-    requires { ⌜ i < 5 ⌝ }
+    requires { ⌜ i < mostEpochs ⌝ }
     ensures { λ r. ⌜ laid r ≡ askedAt (now (w .entry)) i number ⌝ }
 {
     let front = IV_FRONT + i;
@@ -419,7 +420,7 @@ fn lay(r: Reply) -> HuskReading
 
 // The number, tested between mask and opening.
 fn judge(w: &mut [u64; WORDS], i: usize, number: u64) -> Reply
-    requires { ⌜ (i < 5) × (isFlat (now w) ≡ true) × Fits (now w) ⌝ }
+    requires { ⌜ (i < mostEpochs) × (isFlat (now w) ≡ true) × Fits (now w) ⌝ }
     ensures { λ r. ⌜ Stepped (laid r) (now (w .exit)) (now (w .entry)) (judged (entryAt (keysOf (now (w .entry))) i) (datagramOf (now (w .entry))) (askOf (now (w .entry))) number) ⌝ }
 {
     if 0xFFFF_FFFF_FFFF < number {
@@ -532,7 +533,7 @@ fn type_step(w: &mut [u64; WORDS], inner: Inner) -> HuskReading
 
 // Yes: the number is marked.
 fn open_yes(w: &mut [u64; WORDS], i: usize, length: usize, d: &[u8]) -> HuskReading
-    requires { ⌜ OpeningWaits (now w) × (i < 5) ⌝ }
+    requires { ⌜ OpeningWaits (now w) × (i < mostEpochs) ⌝ }
     ensures { λ r. ⌜ Marked-as r (now (w .exit)) (openedAt i (Opening.Yes length) (keysOf (now (w .entry))) (datagramOf (now (w .entry))) (askOf (now (w .entry))) (askNumber (now (w .entry))) (now (d .entry))) ⌝ }
 {
     let a = recv_words::ask_of(w);
@@ -547,7 +548,7 @@ fn open_yes(w: &mut [u64; WORDS], i: usize, length: usize, d: &[u8]) -> HuskRead
 }
 
 fn open_at(w: &mut [u64; WORDS], i: usize, opened: u8, length: usize, d: &[u8]) -> HuskReading
-    requires { ⌜ OpeningWaits (now w) × (i < 5) ⌝ }
+    requires { ⌜ OpeningWaits (now w) × (i < mostEpochs) ⌝ }
     ensures { λ r. ⌜ Marked-as r (now (w .exit)) (openedAt i (openingOf opened length) (keysOf (now (w .entry))) (datagramOf (now (w .entry))) (askOf (now (w .entry))) (askNumber (now (w .entry))) (now (d .entry))) ⌝ }
 {
     if opened == 1 {

@@ -86,10 +86,20 @@ unfoldable pub windowsSound : List RecvEpochEntry → ℕ → Bool
 windowsSound l zero = true
 windowsSound l (suc i) = choose (ltb 0xFFFF_FFFF_FFFF (getD l i noEntry .replay .«max_seq»)) false (windowsSound l i)
 
+-- epoch 2 and four of 3 or above; "at most 17 for every suite used"
+abbrev pub mostEpochs : ℕ
+mostEpochs = 5
+
+abbrev pub mostApps : ℕ
+mostApps = 4
+
+abbrev pub mostLeast : ℕ
+mostLeast = 17
+
 -- at most five epochs, four of them 3 or above, and the setting at most 17
 unfoldable pub keysSound : RecvKeys → Bool
 keysSound k =
-    both (leb (k .count) 5) (both (leb (k .«min_protected») 17)
+    both (leb (k .count) mostEpochs) (both (leb (k .«min_protected») mostLeast)
     (both (leb (apps (k .entries) (k .count)) 4) (windowsSound (k .entries) (k .count))))
 
 -- ---- keying and removing
@@ -129,7 +139,7 @@ released k = record {
 
 -- 23, a fifth application epoch; no place is left where five epochs are keyed
 unfoldable pub isFull : RecvKeys → ℕ → Bool
-isFull k epoch = choose (leb 5 (k .count)) true (choose (leb 3 epoch) (leb 4 (apps (k .entries) (k .count))) false)
+isFull k epoch = choose (leb mostEpochs (k .count)) true (choose (leb 3 epoch) (leb mostApps (apps (k .entries) (k .count))) false)
 
 -- behind the others, with nothing marked
 unfoldable pub installed : RecvKeys → ℕ → List ℕ → RecvKeys

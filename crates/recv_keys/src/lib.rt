@@ -5,6 +5,13 @@ ghost use Rattle.window.specs.Used.{expected};
 ghost use Rattle.recv_keys.specs.Keys.{fits, orElse, appOne};
 use window::ReplayWindow;
 
+// At most five epochs are keyed: epoch 2, and four of 3 or above.
+pub const EPOCHS: usize = 5;
+
+pub const APPS: usize = 4;
+// The least length of a protected part is at most 17.
+pub const MOST_LEAST: u64 = 17;
+
 // The keys of an epoch: its number, its IV, and the window over the numbers received in it.
 pub struct RecvEpochEntry {
     pub epoch: u16,
@@ -15,7 +22,7 @@ pub struct RecvEpochEntry {
 // The epochs keyed to receive, in order of keying; the highest ever keyed; whether the peer encrypts and application data is
 // released; the least length of a protected part.
 pub struct RecvKeys {
-    pub entries: [RecvEpochEntry; 5],
+    pub entries: [RecvEpochEntry; EPOCHS],
     pub count: usize,
     pub highest: u16,
     pub peer_encryption: bool,

@@ -7,7 +7,7 @@ ghost use Rattle.datagram.specs.Datagram.{isSound};
 ghost use Rattle.opening_reply.specs.Opening.{cancelled};
 ghost use Rattle.record.specs.Record.{parsed};
 ghost use Rattle.records.specs.Records.{lockedStep, sealedStep, stepOf, askedAgain, asking, readStep};
-ghost use Rattle.recv_keys.specs.Keys.{find, resolve, isFull};
+ghost use Rattle.recv_keys.specs.Keys.{mostEpochs, find, resolve, isFull};
 ghost use Rattle.recv_words.specs.Words.{keysOf, datagramOf};
 ghost use Rattle.recv_steps.specs.Goes.{goesOn, Goes};
 use datagram::Ask;
@@ -20,6 +20,8 @@ use opening_reply::Cancelled;
 use record::Ciphertext;
 use record::PLAINTEXT_HEADER_LEN;
 use record::Parsed;
+use recv_keys::APPS;
+use recv_keys::EPOCHS;
 use recv_keys::Found;
 use recv_words::COUNT;
 use recv_words::ENCRYPTED;
@@ -30,7 +32,7 @@ use recv_words::WORDS;
 
 // A sealed record while the peer encrypts: its epoch is resolved, before its mask is asked for.
 fn locked_step(w: &[u64; WORDS], b: Datagram, c: Ciphertext) -> Step
-    requires { ⌜ (keysOf (now w) .count ≤ 5) × (b .at + c .«header_len» + c .length ≤ 16384) ⌝ }
+    requires { ⌜ (keysOf (now w) .count ≤ mostEpochs) × (b .at + c .«header_len» + c .length ≤ 16384) ⌝ }
     ensures { λ t. ⌜ t ≡ lockedStep (resolve (keysOf (now (w .entry))) (c .«epoch_bits»)) (keysOf (now (w .entry))) b c ⌝ }
 {
     let next = b.at + c.header_len + c.length;
@@ -51,7 +53,7 @@ fn locked_step(w: &[u64; WORDS], b: Datagram, c: Ciphertext) -> Step
 }
 
 fn sealed_step(w: &[u64; WORDS], b: Datagram, c: Ciphertext) -> Step
-    requires { ⌜ (keysOf (now w) .count ≤ 5) × (b .at + c .«header_len» + c .length ≤ 16384) ⌝ }
+    requires { ⌜ (keysOf (now w) .count ≤ mostEpochs) × (b .at + c .«header_len» + c .length ≤ 16384) ⌝ }
     ensures { λ t. ⌜ t ≡ sealedStep (keysOf (now (w .entry))) b c ⌝ }
 {
     if w[ENCRYPTED] == 1 {
@@ -77,7 +79,7 @@ fn sealed_step(w: &[u64; WORDS], b: Datagram, c: Ciphertext) -> Step
 
 // One record, at the start of the rest of a datagram.
 fn one_record(w: &[u64; WORDS], b: Datagram, d: &[u8]) -> Step
-    requires { ⌜ (keysOf (now w) .count ≤ 5) × (b .at + length (now d) ≤ 16384) ⌝ }
+    requires { ⌜ (keysOf (now w) .count ≤ mostEpochs) × (b .at + length (now d) ≤ 16384) ⌝ }
     ensures { λ t. ⌜ t ≡ stepOf (parsed (now (d .entry))) (keysOf (now (w .entry))) b ⌝ }
 {
     let p = record::parse(d);
@@ -101,7 +103,7 @@ fn one_record(w: &[u64; WORDS], b: Datagram, d: &[u8]) -> Step
 }
 
 fn ask_again(w: &[u64; WORDS], b: Datagram, a: Ask, number: u64) -> Step
-    requires { ⌜ keysOf (now w) .count ≤ 5 ⌝ }
+    requires { ⌜ keysOf (now w) .count ≤ mostEpochs ⌝ }
     ensures { λ t. ⌜ t ≡ askedAgain (find (keysOf (now (w .entry)) .entries) (a .epoch) (keysOf (now (w .entry)) .count)) (keysOf (now (w .entry))) b a number ⌝ }
 {
     let f = recv_words::find_epoch(w, w[COUNT] as usize, a.epoch);
@@ -113,7 +115,7 @@ fn ask_again(w: &[u64; WORDS], b: Datagram, a: Ask, number: u64) -> Step
 
 // The record at the cursor, where no question waits.
 pub fn go_on(w: &[u64; WORDS], b: Datagram, d: &[u8]) -> Step
-    requires { ⌜ (keysOf (now w) .count ≤ 5) × (b .at ≤ length (now d)) × (length (now d) ≤ 16384) ⌝ }
+    requires { ⌜ (keysOf (now w) .count ≤ mostEpochs) × (b .at ≤ length (now d)) × (length (now d) ≤ 16384) ⌝ }
     ensures { λ t. ⌜ t ≡ asking Question.Nothing (keysOf (now (w .entry))) b (now (d .entry)) ⌝ }
 {
     one_record(w, b, base::behind(d, b.at))
@@ -170,15 +172,15 @@ pub fn wait_step(w: &[u64; WORDS], b: Datagram, d: &[u8]) -> Step
 
 // Whether there is no place for one epoch more.
 pub fn is_full(w: &[u64; WORDS], epoch: u16) -> bool
-    requires { ⌜ keysOf (now w) .count ≤ 5 ⌝ }
+    requires { ⌜ keysOf (now w) .count ≤ mostEpochs ⌝ }
     ensures { λ r. ⌜ r ≡ isFull (keysOf (now (w .entry))) epoch ⌝ }
 {
     let count = w[COUNT] as usize;
-    if 5 <= count {
+    if EPOCHS <= count {
         return true;
     }
     if 3 <= epoch {
-        return 4 <= recv_words::count_apps(w, count);
+        return APPS <= recv_words::count_apps(w, count);
     }
     false
 }

@@ -4,7 +4,7 @@ ghost use mathlib.Core.Path.{_≡_};
 ghost use Prim.Native.Nat.{_≤_, _<_};
 ghost use lib.Dec.{leb};
 ghost use lib.ListN.{length, getD};
-ghost use Rattle.recv_keys.specs.Keys.{noEntry, lastFit, find, two, resolve, isKeyed, apps, windowsSound, keysSound, installed, leftAt, left};
+ghost use Rattle.recv_keys.specs.Keys.{mostEpochs, noEntry, lastFit, find, two, resolve, isKeyed, apps, windowsSound, keysSound, installed, leftAt, left};
 ghost use Rattle.datagram.specs.Datagram.{askKeyed, questionSound, isSound, moved, endAsked};
 ghost use Rattle.recv_words.specs.Words.{
   words,
@@ -23,7 +23,10 @@ ghost use Rattle.recv_words.specs.Entries.{Written, Beside, freshWords};
 use datagram::Ask;
 use datagram::Datagram;
 use datagram::Question;
+use recv_keys::APPS;
+use recv_keys::EPOCHS;
 use recv_keys::Found;
+use recv_keys::MOST_LEAST;
 use recv_keys::RecvEpochEntry;
 use window::ReplayWindow;
 
@@ -83,14 +86,14 @@ pub fn sized(w: &[u64; WORDS]) -> usize
 // ---- the keys
 
 pub fn epoch_at(w: &[u64; WORDS], i: usize) -> u16
-    requires { ⌜ i < 5 ⌝ }
+    requires { ⌜ i < mostEpochs ⌝ }
     ensures { λ r. ⌜ r ≡ getD (entriesOf (now (w .entry))) i noEntry .epoch ⌝ }
 {
     words::low(w[i])
 }
 
 pub fn iv_at(w: &[u64; WORDS], i: usize) -> [u8; 12]
-    requires { ⌜ i < 5 ⌝ }
+    requires { ⌜ i < mostEpochs ⌝ }
     ensures { λ r. ⌜ r ≡ ivAt (now (w .entry)) i ⌝ }
 {
     let f = IV_FRONT + i;
@@ -99,7 +102,7 @@ pub fn iv_at(w: &[u64; WORDS], i: usize) -> [u8; 12]
 }
 
 pub fn window_at(w: &[u64; WORDS], i: usize) -> ReplayWindow
-    requires { ⌜ i < 5 ⌝ }
+    requires { ⌜ i < mostEpochs ⌝ }
     ensures { λ r. ⌜ r ≡ getD (entriesOf (now (w .entry))) i noEntry .replay ⌝ }
 {
     let m = HIGHEST_NUMBER + i;
@@ -111,7 +114,7 @@ pub fn window_at(w: &[u64; WORDS], i: usize) -> ReplayWindow
 }
 
 pub fn entry_at(w: &[u64; WORDS], i: usize) -> RecvEpochEntry
-    requires { ⌜ i < 5 ⌝ }
+    requires { ⌜ i < mostEpochs ⌝ }
     ensures { λ r. ⌜ r ≡ getD (entriesOf (now (w .entry))) i noEntry ⌝ }
 {
     let iv = iv_at(w, i);
@@ -125,7 +128,7 @@ pub fn entry_at(w: &[u64; WORDS], i: usize) -> RecvEpochEntry
 
 // The last application epoch with these bits.
 fn last_fit(w: &[u64; WORDS], count: usize, bits: u8) -> Found
-    requires { ⌜ count ≤ 5 ⌝ }
+    requires { ⌜ count ≤ mostEpochs ⌝ }
     ensures { λ r. ⌜ r ≡ lastFit (entriesOf (now (w .entry))) bits count ⌝ }
 {
     let mut i = count;
@@ -141,7 +144,7 @@ fn last_fit(w: &[u64; WORDS], count: usize, bits: u8) -> Found
 
 // Where an epoch is.
 pub fn find_epoch(w: &[u64; WORDS], count: usize, epoch: u16) -> Found
-    requires { ⌜ count ≤ 5 ⌝ }
+    requires { ⌜ count ≤ mostEpochs ⌝ }
     ensures { λ r. ⌜ r ≡ find (entriesOf (now (w .entry))) epoch count ⌝ }
 {
     let mut i = count;
@@ -158,7 +161,7 @@ pub fn find_epoch(w: &[u64; WORDS], count: usize, epoch: u16) -> Found
 
 // Epoch 2, for bits 2.
 fn epoch_two(w: &[u64; WORDS], count: usize, bits: u8) -> Found
-    requires { ⌜ (count ≤ 5) × (count ≡ keysOf (now w) .count) ⌝ }
+    requires { ⌜ (count ≤ mostEpochs) × (count ≡ keysOf (now w) .count) ⌝ }
     ensures { λ r. ⌜ r ≡ two (keysOf (now (w .entry))) bits ⌝ }
 {
     if bits == 2 {
@@ -169,7 +172,7 @@ fn epoch_two(w: &[u64; WORDS], count: usize, bits: u8) -> Found
 
 // The keyed epoch that epoch bits mean: epoch 2 first until application data is released, then last.
 pub fn resolve_epoch(w: &[u64; WORDS], bits: u8) -> Found
-    requires { ⌜ keysOf (now w) .count ≤ 5 ⌝ }
+    requires { ⌜ keysOf (now w) .count ≤ mostEpochs ⌝ }
     ensures { λ r. ⌜ r ≡ resolve (keysOf (now (w .entry))) bits ⌝ }
 {
     let count = w[COUNT] as usize;
@@ -183,7 +186,7 @@ pub fn resolve_epoch(w: &[u64; WORDS], bits: u8) -> Found
 
 // Whether an epoch is keyed.
 pub fn is_keyed(w: &[u64; WORDS], epoch: u16) -> bool
-    requires { ⌜ keysOf (now w) .count ≤ 5 ⌝ }
+    requires { ⌜ keysOf (now w) .count ≤ mostEpochs ⌝ }
     ensures { λ r. ⌜ r ≡ isKeyed (keysOf (now (w .entry))) epoch ⌝ }
 {
     let f = find_epoch(w, w[COUNT] as usize, epoch);
@@ -197,7 +200,7 @@ pub fn is_keyed(w: &[u64; WORDS], epoch: u16) -> bool
 
 // How many application epochs are keyed.
 pub fn count_apps(w: &[u64; WORDS], count: usize) -> usize
-    requires { ⌜ count ≤ 5 ⌝ }
+    requires { ⌜ count ≤ mostEpochs ⌝ }
     ensures { λ r. ⌜ r ≡ apps (entriesOf (now (w .entry))) count ⌝ }
 {
     let mut n: usize = 0;
@@ -211,7 +214,7 @@ pub fn count_apps(w: &[u64; WORDS], count: usize) -> usize
 
 // No window is above the last number of 48 bits.
 fn windows_sound(w: &[u64; WORDS], count: usize) -> bool
-    requires { ⌜ count ≤ 5 ⌝ }
+    requires { ⌜ count ≤ mostEpochs ⌝ }
     ensures { λ r. ⌜ r ≡ windowsSound (entriesOf (now (w .entry))) count ⌝ }
 {
     let mut i = count;
@@ -228,13 +231,13 @@ fn windows_sound(w: &[u64; WORDS], count: usize) -> bool
 
 // At most four application epochs are keyed; with at most four epochs there is nothing to count.
 fn apps_fit(w: &[u64; WORDS], count: usize) -> bool
-    requires { ⌜ count ≤ 5 ⌝ }
+    requires { ⌜ count ≤ mostEpochs ⌝ }
     ensures { λ r. ⌜ r ≡ leb (apps (entriesOf (now (w .entry))) count) 4 ⌝ }
 {
-    if count <= 4 {
+    if count <= APPS {
         return true;
     }
-    count_apps(w, count) <= 4
+    count_apps(w, count) <= APPS
 }
 
 // The fields that a call indexes or adds with are in range.
@@ -242,10 +245,10 @@ fn keys_sound(w: &[u64; WORDS]) -> bool
     ensures { λ r. ⌜ r ≡ keysSound (keysOf (now (w .entry))) ⌝ }
 {
     let count = w[COUNT] as usize;
-    if 5 < count {
+    if EPOCHS < count {
         return false;
     }
-    if 17 < w[LEAST] {
+    if MOST_LEAST < w[LEAST] {
         return false;
     }
     if apps_fit(w, count) {
@@ -256,7 +259,7 @@ fn keys_sound(w: &[u64; WORDS]) -> bool
 
 // Whether the record that a question is about has its place in a room, under an epoch that is keyed.
 fn ask_keyed(w: &[u64; WORDS], room: usize) -> bool
-    requires { ⌜ keysOf (now w) .count ≤ 5 ⌝ }
+    requires { ⌜ keysOf (now w) .count ≤ mostEpochs ⌝ }
     ensures { λ r. ⌜ r ≡ askKeyed (keysOf (now (w .entry))) (askOf (now (w .entry))) room ⌝ }
 {
     let a = ask_of(w);
@@ -267,7 +270,7 @@ fn ask_keyed(w: &[u64; WORDS], room: usize) -> bool
 }
 
 fn question_sound(w: &[u64; WORDS], room: usize) -> bool
-    requires { ⌜ keysOf (now w) .count ≤ 5 ⌝ }
+    requires { ⌜ keysOf (now w) .count ≤ mostEpochs ⌝ }
     ensures { λ r. ⌜ r ≡ questionSound (keysOf (now (w .entry))) (questionOf (now (w .entry))) room ⌝ }
 {
     let kind = w[QUESTION];
@@ -433,7 +436,7 @@ pub fn ask_opening(w: &mut [u64; WORDS], number: u64)
 
 // The window of the entry at i written.
 pub fn put_window(w: &mut [u64; WORDS], i: usize, v: ReplayWindow)
-    requires { ⌜ i < 5 ⌝ }
+    requires { ⌜ i < mostEpochs ⌝ }
     ensures { λ _. ⌜ now (w .exit) ≡ putWindow i v (now (w .entry)) ⌝ }
 {
     let m = HIGHEST_NUMBER + i;
@@ -444,7 +447,7 @@ pub fn put_window(w: &mut [u64; WORDS], i: usize, v: ReplayWindow)
 
 // A number marked in the window of the entry at i.
 pub fn mark(w: &mut [u64; WORDS], i: usize, number: u64)
-    requires { ⌜ i < 5 ⌝ }
+    requires { ⌜ i < mostEpochs ⌝ }
     ensures { λ _. ⌜ Marks i number (now (w .entry)) (now (w .exit)) ⌝ }
 {
     sized(w);
@@ -456,7 +459,7 @@ pub fn mark(w: &mut [u64; WORDS], i: usize, number: u64)
 
 // The entry at i written.
 pub fn put_entry(w: &mut [u64; WORDS], i: usize, e: RecvEpochEntry)
-    requires { ⌜ i < 5 ⌝ }
+    requires { ⌜ i < mostEpochs ⌝ }
     ensures { λ _. ⌜ Written i e (now (w .entry)) (now (w .exit)) ⌝ }
 {
     let iv = e.iv;
@@ -479,7 +482,7 @@ pub fn put_fresh(w: &mut [u64; WORDS], min_protected: usize)
 
 // An epoch keyed, behind the others.
 pub fn install(w: &mut [u64; WORDS], count: usize, epoch: u16, iv: [u8; 12])
-    requires { ⌜ (count < 5) × (keysOf (now w) .count ≡ count) ⌝ }
+    requires { ⌜ (count < mostEpochs) × (keysOf (now w) .count ≡ count) ⌝ }
     ensures { λ _. ⌜ (keysOf (now (w .exit)) ≡ installed (keysOf (now (w .entry))) epoch iv) × Beside (now (w .entry)) (now (w .exit)) ⌝ }
 {
     let v = ReplayWindow::new();
