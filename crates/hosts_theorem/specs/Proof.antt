@@ -1,7 +1,7 @@
 -- Every list of calls of the C library is a list of events of the claim, and the hosts saw the world that it leads to. Assumes nothing.
 use Prim.Native.Nat.{ℕ, suc, _+_, _≤_, _<_}
 use lib.Dec.{leb, ltb}
-use lib.ListN.{length, replicate}
+use lib.ListN.{length}
 use mathlib.Core.Bool.{Bool, true, false}
 use mathlib.Core.List.{List, [], _∷_, _++_}
 use mathlib.Core.Option.{none}
@@ -9,8 +9,6 @@ use mathlib.Core.Path.{_≡_, refl, sym, ap, subst, _∙_}
 use Rattle.base.specs.Choose.{choose, by-test, if-false}
 use Rattle.outgoing.specs.State.{started, freshSending, noWaiting}
 use Rattle.outgoing.specs.declared.Sending.{Sending}
-use Rattle.acks.specs.Acks.{freshNotes}
-use Rattle.ack_calls.specs.Calls as acks
 use Rattle.recv_calls.specs.Flat.{openingOf}
 use Rattle.sealing.specs.Sealing.{questionOf}
 use Rattle.sealing.specs.declared.Question as asked
@@ -238,10 +236,6 @@ fresh-state : (mtu limit : ℕ) → started mtu limit .state ≡ freshSending mt
 unfolding started
 fresh-state mtu limit = refl
 
-fresh-notes : acks.notesOf (replicate 1 0) (replicate 32 0) (replicate 32 0) ≡ freshNotes
-unfolding freshNotes
-fresh-notes = refl
-
 -- a fresh state asks nothing
 fresh-lent : (mtu limit : ℕ) (q : List ℕ) → none ≡ world.lends (freshSending mtu limit) q none
 unfolding world.lends questionOf freshSending noWaiting
@@ -254,9 +248,7 @@ fresh-lent mtu limit q =
 starts : (s : Setting) (h : Host) → Started s h → Stands h
 starts s h t =
     let e = sym (t .seen) in
-    let z = t .sending .1 ∙ fresh-state (s .mtu) (s .limit) in
-    let n : acks.notesOf (h .outgoing .count) (h .outgoing .epochs) (h .outgoing .noted) ≡ freshNotes =
-    (λ i. acks.notesOf (t .count i) (t .epochs i) (t .noted i)) ∙ fresh-notes in record {
+    let z = t .sending .1 ∙ fresh-state (s .mtu) (s .limit) in record {
       incoming = record {
         flat = t .receiving .2;
         state = t .receiving .1 ∙ ap (λ (x : End). x .into .into .state) e;
@@ -265,7 +257,7 @@ starts s h t =
       outgoing = record {
         flat = t .sending .2;
         flat-flight = t .flight .1;
-        stores = (λ i. record { state = z i; queue = t .queue i; flight = t .flight .0 i; kept = t .kept i; notes = n i }) ∙ ap (λ (x : End). x .out .stores) e;
+        stores = (λ i. record { state = z i; queue = t .queue i; flight = t .flight .0 i; kept = t .kept i; notes = t .notes i }) ∙ ap (λ (x : End). x .out .stores) e;
         shown = (
           none,
           sym (ap (λ (x : End). x .out .lent) e) ∙ fresh-lent (s .mtu) (s .limit) (h .outgoing .queue)

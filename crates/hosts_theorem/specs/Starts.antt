@@ -15,6 +15,8 @@ use Rattle.send_words.specs.Words.{words, mtu-at, limit-at}
 use Rattle.send_calls.specs.Calls.{starts-done}
 use Rattle.flight_words.specs.Words as flightWords
 use Rattle.flight_calls.specs.Calls as flights
+use Rattle.acks.specs.Acks.{freshNotes}
+use Rattle.ack_calls.specs.Calls as acks
 use Rattle.ends_theorem.specs.Claim.{Startable}
 use Rattle.ends_theorem.specs.Starting.{ranges-setting}
 use Rattle.ends_theorem.specs.World.{Setting, newEnd}
@@ -46,6 +48,10 @@ fresh-is : (min : ℕ) → min ≤ 17 → freshOf min ≡ made answers.Done (fre
 unfolding freshOf
 fresh-is min h = if-false _ _ (le-ltb 17 min h)
 
+fresh-notes : acks.FreshNotesCall (acks.notesOf (replicate 1 0) (replicate 32 0) (replicate 32 0))
+unfolding freshNotes
+fresh-notes = refl
+
 pub starts : (s : Setting) → Startable s → Started s (firstHost s)
 starts s o = record {
   receiving = starts-as (s .min) (freshWords (s .min)) answers.Done (freshOf (s .min)) refl (fresh-is (s .min) (o .min));
@@ -55,8 +61,6 @@ starts s o = record {
   room = o .room;
   flight = flights.starts;
   kept = refl;
-  count = refl;
-  epochs = refl;
-  noted = refl;
+  notes = fresh-notes;
   seen = refl;
 }
