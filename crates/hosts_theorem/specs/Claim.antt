@@ -35,17 +35,18 @@ use Rattle.recv_calls.specs.Removed.{removedTold}
 use Rattle.send_calls.specs.Calls as sends
 use Rattle.send_calls.specs.declared.HuskSealing.{HuskSealing}
 use Rattle.flight_calls.specs.Calls as flights
+use Rattle.status_calls.specs.Calls as status
 use Rattle.ack_calls.specs.Calls as acks
 use Rattle.waiting_laws.specs.Calls.{Stores, ack·, fill·}
 use Rattle.history_theorem.specs.Account.{sealedHead, nothing, keyOwed}
 use Rattle.history_theorem.specs.Claim.{Masks, Proper, nonceFor}
 use Rattle.history_theorem.specs.Receiver.{aRead, aMaskReply, anOpenReply, removeOwed, beginOwed, Inbound, Call, key·, remove·, encrypt·, release·, begin·, read·, mask·, write·, open·, readOver·, maskOver·, openOver·}
 use Rattle.ends_theorem.specs.Claim.{Holds}
-use Rattle.ends_theorem.specs.Ledger.{Item, Ledger, items, oldest, unacked, owed, shortReply, after as accountAfter}
+use Rattle.ends_theorem.specs.Ledger.{Item, Ledger, waiting, items, oldest, unacked, owed, shortReply, after as accountAfter}
 use Rattle.ends_theorem.specs.Sender.{Lent, sealedHeader}
 use Rattle.ends_theorem.specs.World.{Side, post, gateway, far, End, Deed, sending, over, receiving, Event, World, run, Setting, newEnd, fresh-pair, FairDeed, Honest}
 use Rattle.hosts_theorem.specs.Memory.{Incoming, Outgoing, InCall, «husk_receiving_key», «husk_receiving_remove», «husk_receiving_enable_encryption», «husk_receiving_release_application_data», «husk_receiving_begin», «husk_receiving_begin_read», «husk_receiving_read», «husk_receiving_mask», «husk_receiving_opened», «husk_receiving_read_over», «husk_receiving_mask_over», «husk_receiving_opened_over», «host_writes», OutCall, «husk_sending_key», «husk_sending_send», «husk_sending_sealed», «husk_sending_take», «husk_sending_take_in_place», «husk_flight_begin», «husk_flight_send», «husk_flight_message», «husk_flight_resend», «husk_flight_ack», «husk_notes_add», «husk_notes_send», behindOut, lends}
-use Rattle.hosts_theorem.specs.Log.{flatRead, readingOf, replyOf, Host, Act, inward, «husk_sending_sealing», outward, outwardOver, «host_seals», Made, behind, storesOf, sealingOf, showsNow, sendOf}
+use Rattle.hosts_theorem.specs.Log.{flatRead, readingOf, replyOf, Host, Act, inward, «husk_sending_sealing», «husk_flight_status», «husk_sending_status», outward, outwardOver, «host_seals», Made, behind, storesOf, sealingOf, showsNow, sendOf}
 
 -- ---- two hosts and a list of calls
 
@@ -142,8 +143,10 @@ hearing (c ∷ cs) = receiving c ∷ hearing cs
 -- any call
 abbrev pub deedsOf : Act → List Deed
 deedsOf (inward c) = hearing (callsOf c)
--- only shows
+-- only ask
 deedsOf («husk_sending_sealing» r) = []
+deedsOf («husk_flight_status» r) = []
+deedsOf («husk_sending_status» r) = []
 deedsOf (outward c) = sending (sendOf c) ∷ []
 deedsOf (outwardOver c q k) = over (sendOf c) q k ∷ []
 deedsOf («host_seals» r bytes) = sending (fill· bytes) ∷ []
@@ -209,6 +212,8 @@ Shows (some l) r =
 abbrev pub Answered : Host → Act → Type 0
 Answered h (inward c) = AnsweredIn (h .incoming) c
 Answered h («husk_sending_sealing» r) = Shows (h .seen .out .lent) r
+Answered h («husk_flight_status» r) = r ≡ status.savedOf (storesOf (h .outgoing) .flight)
+Answered h («husk_sending_status» r) = r ≡ status.queuedOf (storesOf (h .outgoing) .state)
 Answered h (outward c) = AnsweredOut (storesOf (h .outgoing)) c
 Answered h (outwardOver c q k) = AnsweredOut (storesOf (lends (h .outgoing) q k)) c
 Answered h («host_seals» r bytes) = Shows (h .seen .out .lent) r
@@ -262,7 +267,7 @@ abbrev pub kindOwed : List (List Item) → ℕ → ℕ
 kindOwed [] n = 1
 kindOwed (d ∷ ds) n = choose (eqb n 0) 2 0
 
--- a take tells its kind besides; an ACK how many saved records are not acknowledged behind it, and how many are saved; no other sending call tells more
+-- a take tells its kind besides; an ACK how many records are saved behind it and how many of these not acknowledged; no other call tells more
 abbrev pub OwedMore : Ledger → OutCall → Type 0
 OwedMore l («husk_sending_take» r v b c) = r .kind ≡ kindOwed (l .queue) (r .refusal)
 OwedMore l («husk_sending_take_in_place» r v) = r .kind ≡ kindOwed (l .queue) (r .refusal)
@@ -282,6 +287,11 @@ OwedMore l («husk_notes_send» r v x y z p) = Unit {0}
 abbrev pub Owed : Host → Act → Type 0
 Owed h (inward c) = OwedIn (h .seen .into) c
 Owed h («husk_sending_sealing» r) = OwedSealing (h .seen .out .ivs) (oldest (items (h .seen .ledger .queue))) r
+-- never refused: how many records are saved, how many of these not acknowledged; how many datagrams are queued, how many records wait to be sealed
+Owed h («husk_flight_status» r) =
+    r ≡ record { refusal = 0; saved = length (h .seen .ledger .saved); unacknowledged = unacked (h .seen .ledger .saved) }
+Owed h («husk_sending_status» r) =
+    r ≡ record { refusal = 0; queued = length (h .seen .ledger .queue); waiting = waiting (items (h .seen .ledger .queue)) }
 Owed h (outward c) = (replyOf c ≡ owed (h .seen .ledger) (sendOf c)) × OwedMore (h .seen .ledger) c
 Owed h (outwardOver c q k) =
     let m = lends (h .outgoing) q k in

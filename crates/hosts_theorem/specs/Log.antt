@@ -27,6 +27,9 @@ use Rattle.send_calls.specs.declared.HuskSealing.{HuskSealing}
 use Rattle.send_calls.specs.declared.HuskTake.{HuskTake}
 use Rattle.send_calls.specs.declared.HuskPart.{HuskPart}
 use Rattle.flight_words.specs.Words.{flightOf}
+use Rattle.status_calls.specs.Calls as status
+use Rattle.status_calls.specs.declared.HuskSaved.{HuskSaved}
+use Rattle.status_calls.specs.declared.HuskQueued.{HuskQueued}
 use Rattle.ack_calls.specs.Calls as acks
 use Rattle.ack_calls.specs.declared.HuskAcked.{HuskAcked}
 use Rattle.waiting_laws.specs.Calls.{Stores, SendCall, keySend·, send·, save·, message·, beginFlight·, resend·, note·, sendAck·, ack·, fill·, sealed·, take·, Reply, only}
@@ -375,10 +378,12 @@ countsTo e («husk_receiving_mask_over» r v m n b d) = count e (e .into .serial
 countsTo e («husk_receiving_opened_over» r v o len d) = choose (leb o 1) (count e (e .into .serial) (e .counts)) (e .counts)
 countsTo e («host_writes» r p) = e .counts
 
--- a call at a host: receiving; sending over the host's own memory; sending over another queue q and other memory k for saved contents
+-- a call at a host: receiving; only asking; sending over the host's own memory; sending over another queue q and other memory k for saved contents
 pub data Act : Type 0 where
   inward : InCall → Act
   «husk_sending_sealing» : (r : HuskSealing) → Act
+  «husk_flight_status» : (r : HuskSaved) → Act
+  «husk_sending_status» : (r : HuskQueued) → Act
   outward : OutCall → Act
   outwardOver : (c : OutCall) (q k : List ℕ) → Act
   -- no call: r is what husk_sending_sealing answers, and the host writes as many bytes as it names into the part of the queue that it names
@@ -388,6 +393,8 @@ pub data Act : Type 0 where
 abbrev pub Made : Host → Act → Type 0
 Made h (inward c) = MadeIn (h .incoming) c
 Made h («husk_sending_sealing» r) = sends.SealingCall r (h .outgoing .words)
+Made h («husk_flight_status» r) = status.FlightStatusCall r (h .outgoing .flight)
+Made h («husk_sending_status» r) = status.SendingStatusCall r (h .outgoing .words)
 Made h (outward c) = MadeOut (h .outgoing) c
 Made h (outwardOver c q k) = MadeOut (lends (h .outgoing) q k) c
 Made h («host_seals» r bytes) = sends.SealingCall r (h .outgoing .words) × (r .kind ≡ 2) × (length bytes ≡ r .length)
@@ -408,6 +415,8 @@ behind f h (inward c) = record {
   seen = takesIn (h .seen) (enteredIn (f .seen .out .sealed) (h .seen .into) c) (countsTo (h .seen) c);
 }
 behind f h («husk_sending_sealing» r) = h
+behind f h («husk_flight_status» r) = h
+behind f h («husk_sending_status» r) = h
 behind f h (outward c) = record {
   incoming = h .incoming;
   outgoing = behindOut (h .outgoing) c;

@@ -1,5 +1,5 @@
 -- Each answer is the one that the host's account owes: by what holds of the log behind the call, in which the answer stands first. Assumes nothing.
-use Prim.Native.Nat.{ℕ, _+_, _*_, _≤_}
+use Prim.Native.Nat.{ℕ, _+_, _*_, _≤_, min}
 use borrow.Author.Tests.{le-leb, lt-leb, le-ltb, lt-ltb}
 use native.Mathlib.Omega.{arith}
 use lib.Dec.{eqb, leb, ltb}
@@ -8,11 +8,13 @@ use mathlib.Core.Bool.{true, false, false≢true}
 use mathlib.Core.List.{List, [], _∷_, List·Memᴰ as Mem, List·Memᴰ·head as here}
 use mathlib.Core.Option.{Option, none, some}
 use mathlib.Core.Path.{_≡_, refl, sym, ap, subst, _∙_}
-use Rattle.base.specs.Choose.{choose, by-test, if-true, if-false}
+use Rattle.base.specs.Choose.{choose, by-test, if-true, if-false, both-true}
 use Rattle.datagram.specs.declared.Reading.the-variants as says
 use Rattle.recv_calls.specs.Flat.{openingOf}
 use Rattle.record.specs.Record.{unifiedHeader}
+use Rattle.queue.specs.Queue.{isSound}
 use Rattle.outgoing.specs.declared.Sending.{Sending}
+use Rattle.outgoing.specs.Status.{toSeal}
 use Rattle.sealing.specs.Sealing.{questionOf}
 use Rattle.sealing.specs.declared.Question.{Question}
 use Rattle.send_keys.specs.Answer.{isDone}
@@ -21,6 +23,9 @@ use Rattle.process_ack.specs.Ack.{acked}
 use Rattle.process_ack.specs.Status.{newlyMarked}
 use Rattle.process_ack.specs.declared.Acked.{Acked}
 use Rattle.flight_words.specs.Words.{flightOf}
+use Rattle.status_calls.specs.Calls as status
+use Rattle.status_calls.specs.declared.HuskSaved.{HuskSaved}
+use Rattle.status_calls.specs.declared.HuskQueued.{HuskQueued}
 use Rattle.ack_calls.specs.Calls.{leftBehind}
 use Rattle.ack_calls.specs.declared.HuskAcked.{HuskAcked}
 use Rattle.send_calls.specs.Calls.{flatSealing, noSealing, flatTake, flatPart, SealingCall}
@@ -37,14 +42,14 @@ use Rattle.history_theorem.specs.Account.{sealedHead, nothing}
 use Rattle.history_theorem.specs.Claim.{Masks, Proper, Turned, nonceFor}
 use Rattle.history_theorem.specs.Receiver.{Sealed, Spoken, Stray, Told, aRead, anOpenReply, beginOwed, Inbound}
 use Rattle.history_theorem.specs.Sound.{Sound}
-use Rattle.ends_theorem.specs.Ledger.{Item, items, oldest, after}
+use Rattle.ends_theorem.specs.Ledger.{Item, waiting, items, oldest, unacked, after}
 use Rattle.ends_theorem.specs.Matches.{itemsOf, Matches}
 use Rattle.ends_theorem.specs.Proof.{Good, holds}
-use Rattle.ends_theorem.specs.Status.{status-is}
+use Rattle.ends_theorem.specs.Status.{StatusIs, status-is}
 use Rattle.ends_theorem.specs.Sender.{Lent, AskedFor, sealedHeader}
 use Rattle.ends_theorem.specs.World.{Side, post, gateway, Said, Over, End, World}
 use Rattle.hosts_theorem.specs.Memory.{Incoming, Outgoing, InCall, «husk_receiving_key», «husk_receiving_remove», «husk_receiving_enable_encryption», «husk_receiving_release_application_data», «husk_receiving_begin», «husk_receiving_begin_read», «husk_receiving_read», «husk_receiving_mask», «husk_receiving_opened», «husk_receiving_read_over», «husk_receiving_mask_over», «husk_receiving_opened_over», «host_writes», OutCall, «husk_sending_key», «husk_sending_send», «husk_sending_sealed», «husk_sending_take», «husk_sending_take_in_place», «husk_flight_begin», «husk_flight_send», «husk_flight_message», «husk_flight_resend», «husk_flight_ack», «husk_notes_add», «husk_notes_send», MadeIn, MadeOut, behindOut}
-use Rattle.hosts_theorem.specs.Log.{readingOf, enteredIn, storesOf, sendOf, enteredOut, Host, Act, inward, «husk_sending_sealing», outward, outwardOver, «host_seals», Made, behind}
+use Rattle.hosts_theorem.specs.Log.{readingOf, enteredIn, storesOf, sendOf, enteredOut, Host, Act, inward, «husk_sending_sealing», «husk_flight_status», «husk_sending_status», outward, outwardOver, «host_seals», Made, behind}
 use Rattle.hosts_theorem.specs.Claim.{Stands, StandsIn, StandsOut, Shows, removalTold, OwedIn, OwedSealing, kindOwed, OwedMore, Owed}
 use Rattle.hosts_theorem.specs.In.{long-answer, opened-answer, remove-answer}
 use Rattle.hosts_theorem.specs.Out.{out-answer, sealing-answer}
@@ -220,11 +225,41 @@ module _ (h : Outgoing) (e : End) (o : StandsOut h e) (i : Matches (e .out .stor
   more-owed («husk_notes_add» r y₀ y₁ y₂ u n) m b′ = tt
   more-owed («husk_notes_send» r v y₀ y₁ y₂ p) m b′ = tt
 
+-- ---- what only asks
+
+module _ (h : Outgoing) (e : End) (o : StandsOut h e) (i : Matches (e .out .stores) (e .ledger)) where
+  -- what the account has
+  abbrev is : StatusIs (e .out .stores) (e .ledger)
+  is = status-is (e .out .stores) (e .ledger) i
+
+  -- the definition's answer: the saved count is in its range
+  pub saved-answer : (r : HuskSaved) → status.FlightStatusCall r (h .flight) → r ≡ status.savedOf (storesOf h .flight)
+  saved-answer r m =
+      let few : storesOf h .flight .saved ≤ 12 = omega (arith, is .few, ap (λ (w : Stores). w .flight .saved) (o .stores)) in
+      m (h .numbers) ∙ if-true _ _ (both-true (o .flat-flight) ∙ le-leb _ _ few)
+
+  -- and the ring in its
+  pub queued-answer : (r : HuskQueued) → status.SendingStatusCall r (h .words) → r ≡ status.queuedOf (storesOf h .state)
+  queued-answer r m = m ∙ if-true _ _ (both-true (o .flat) ∙ ap (λ (w : Stores). isSound (w .state .queue)) (o .stores) ∙ is .sound)
+
+  -- and the account's
+  saved-owed : (r : HuskSaved) → status.FlightStatusCall r (h .flight) → r ≡ record { refusal = 0; saved = length (e .ledger .saved); unacknowledged = unacked (e .ledger .saved) }
+  saved-owed r m =
+      saved-answer r m ∙ ap (λ (w : Stores). status.savedOf (w .flight)) (o .stores) ∙ (λ j. record { refusal = 0; saved = is .saved j; unacknowledged = is .unacked j })
+
+  -- no more wait than a word can tell
+  queued-owed : (r : HuskQueued) → status.SendingStatusCall r (h .words) → r ≡ record { refusal = 0; queued = length (e .ledger .queue); waiting = waiting (items (e .ledger .queue)) }
+  queued-owed r m =
+      let w : min (toSeal (e .out .stores .state)) status.most ≡ waiting (items (e .ledger .queue)) = omega (arith, is .to-seal, is .most) in
+      queued-answer r m ∙ ap (λ (w : Stores). status.queuedOf (w .state)) (o .stores) ∙ (λ j. record { refusal = 0; queued = is .queued j; waiting = w j })
+
 -- ---- every call: g holds of the log before it, k of the log behind it
 
 pub owed-now : (f h : Host) → Stands h → Sound (h .seen .into .into) → Fine (h .seen) → (a : Act) → Made h a → Fine (behind f h a .seen) → Owed h a
 owed-now f h o z g (inward c) m k = in-owed (h .incoming) (h .seen .into) (o .incoming) z (f .seen .out .sealed) c m (k .into)
 owed-now f h o z g («husk_sending_sealing» r) m k = sealing-now h o g r m
+owed-now f h o z g («husk_flight_status» r) m k = saved-owed (h .outgoing) (h .seen) (o .outgoing) (g .matches) r m
+owed-now f h o z g («husk_sending_status» r) m k = queued-owed (h .outgoing) (h .seen) (o .outgoing) (g .matches) r m
 owed-now f h o z g (outward c) m k = (k .said _ (here refl), more-owed (h .outgoing) (h .seen) (o .outgoing) (g .matches) c m (k .matches))
 owed-now f h o z g (outwardOver c q j) m k = (k .said _ (here refl), k .overs _ (here refl) .0, k .overs _ (here refl) .1)
 owed-now f h o z g («host_seals» r bytes) m k = sealing-now h o g r (m .0)

@@ -21,16 +21,17 @@ use Rattle.history_theorem.specs.Sound.{Sound}
 use Rattle.ends_theorem.specs.Claim.{Holds, Startable}
 use Rattle.ends_theorem.specs.Every.{every-does}
 use Rattle.ends_theorem.specs.Ledger.{applicationData, lastNumber, owed}
+use Rattle.ends_theorem.specs.Matches.{Matches}
 use Rattle.ends_theorem.specs.Proof.{Good, run-keeps, new-good, every-list, stop-order-sent as stop-order}
 use Rattle.ends_theorem.specs.Sender as world
 use Rattle.ends_theorem.specs.Sender.{lentBy}
 use Rattle.ends_theorem.specs.Starting.{sending-starts, receiving-starts}
 use Rattle.ends_theorem.specs.World.{Side, post, gateway, far, Count, End, Deed, Event, World, takesIn, acts, step, run, Setting, fresh-pair, FairDeed, Honest}
 use Rattle.hosts_theorem.specs.Memory.{InCall, «husk_receiving_key», «husk_receiving_remove», «husk_receiving_enable_encryption», «husk_receiving_release_application_data», «husk_receiving_begin», «husk_receiving_begin_read», «husk_receiving_read», «husk_receiving_mask», «husk_receiving_opened», «husk_receiving_read_over», «husk_receiving_mask_over», «husk_receiving_opened_over», «host_writes», «husk_sending_send», MadeOut, lends}
-use Rattle.hosts_theorem.specs.Log.{sendOf, count, countsTo, Host, Act, inward, «husk_sending_sealing», outward, outwardOver, «host_seals», Made, behind}
+use Rattle.hosts_theorem.specs.Log.{sendOf, count, countsTo, Host, Act, inward, «husk_sending_sealing», «husk_flight_status», «husk_sending_status», outward, outwardOver, «host_seals», Made, behind}
 use Rattle.hosts_theorem.specs.Claim.{Hosts, CCall, after, runs, AllMade, Stands, Started, callsOf, hearing, deedsOf, at, eventsOf, Answered, AllAnswered, Owed, AllOwed, FairDeeds, AllFair, sightOf, EveryListOfCalls}
 use Rattle.hosts_theorem.specs.In.{doesAll, in-square, in-stands, in-answer}
-use Rattle.hosts_theorem.specs.Owed.{fine, owed-now}
+use Rattle.hosts_theorem.specs.Owed.{fine, saved-answer, queued-answer, owed-now}
 use Rattle.hosts_theorem.specs.Out.{shows-now, out-reply, sealing-answer, out-answer, out-square, out-stands, over-square, over-stands, fill-square, fill-stands}
 
 -- ---- some deeds at one end
@@ -121,6 +122,8 @@ module _ (masks : Side → Masks) where
     fair : (a : Act) → FairDeeds masks s f e (deedsOf a) → FairAll s f e (deedsOf a)
     fair (inward c) g = fair-heard c g
     fair («husk_sending_sealing» r) g = g
+    fair («husk_flight_status» r) g = g
+    fair («husk_sending_status» r) g = g
     fair (outward c) g = g
     fair (outwardOver c q k) g = g
     fair («host_seals» r bytes) g = g
@@ -131,6 +134,8 @@ module _ (masks : Side → Masks) where
   abbrev Owes : End → Act → Type 0
   Owes e (inward c) = Unit {0}
   Owes e («husk_sending_sealing» r) = Unit {0}
+  Owes e («husk_flight_status» r) = Unit {0}
+  Owes e («husk_sending_status» r) = Unit {0}
   Owes e (outward c) = answered (e .out .stores) (sendOf c) ≡ owed (e .ledger) (sendOf c)
   Owes e (outwardOver c q k) = Unit {0}
   Owes e («host_seals» r bytes) = Unit {0}
@@ -138,6 +143,8 @@ module _ (masks : Side → Masks) where
   owes : (w : World) → Good masks w → (s : Side) (a : Act) → FairDeeds masks s (w (far s)) (w s) (deedsOf a) → Owes (w s) a
   owes w g s (inward c) h = tt
   owes w g s («husk_sending_sealing» r) h = tt
+  owes w g s («husk_flight_status» r) h = tt
+  owes w g s («husk_sending_status» r) h = tt
   owes w g s (outward c) h = every-does (masks s) (w s .out) (w s .ledger) (sendOf c) (g .matches s) (h .0 .0) .reply
   owes w g s (outwardOver c q k) h = tt
   owes w g s («host_seals» r bytes) h = tt
@@ -148,6 +155,8 @@ module _ (masks : Side → Masks) where
         ap (λ (i : Inbound). takesIn (h .seen) i (countsTo (h .seen) c)) (in-square (h .incoming) (h .seen .into) (o .incoming) (f .seen .out .sealed) z c m)
         ∙ heard-as (f .seen) (h .seen) c
     square z («husk_sending_sealing» r) m d = refl
+    square z («husk_flight_status» r) m d = refl
+    square z («husk_sending_status» r) m d = refl
     square z (outward c) m d = out-square (h .outgoing) (h .seen) (o .outgoing) (f .seen) c m d
     square z (outwardOver c q k) m d = over-square (h .outgoing) (h .seen) (o .outgoing) c q k m (f .seen)
     square z («host_seals» r bytes) m d = fill-square (h .outgoing) (h .seen) (o .outgoing) r bytes (m .0) (m .1) (m .2) (f .seen)
@@ -158,16 +167,20 @@ module _ (masks : Side → Masks) where
       outgoing = record { flat = o .outgoing .flat; flat-flight = o .outgoing .flat-flight; stores = o .outgoing .stores; shown = o .outgoing .shown };
     }
     stands-on («husk_sending_sealing» r) m = o
+    stands-on («husk_flight_status» r) m = o
+    stands-on («husk_sending_status» r) m = o
     stands-on (outward c) m = record { incoming = o .incoming; outgoing = out-stands (h .outgoing) (h .seen) (o .outgoing) c m }
     stands-on (outwardOver c q k) m = record { incoming = o .incoming; outgoing = over-stands (h .outgoing) (h .seen) (o .outgoing) c q k m }
     stands-on («host_seals» r bytes) m = record { incoming = o .incoming; outgoing = fill-stands (h .outgoing) (h .seen) (o .outgoing) r bytes (m .0) (m .1) (m .2) }
 
-    answer : (a : Act) → Made h a → Answered h a
-    answer (inward c) m = in-answer (h .incoming) (h .seen .into) (o .incoming) c m
-    answer («husk_sending_sealing» r) m = sealing-answer (h .outgoing) (h .seen) (o .outgoing) r m
-    answer (outward c) m = out-answer (h .outgoing) (o .outgoing .flat) (o .outgoing .flat-flight) c m
-    answer (outwardOver c q k) m = out-answer (lends (h .outgoing) q k) (o .outgoing .flat) (o .outgoing .flat-flight) c m
-    answer («host_seals» r bytes) m = sealing-answer (h .outgoing) (h .seen) (o .outgoing) r (m .0)
+    answer : Matches (h .seen .out .stores) (h .seen .ledger) → (a : Act) → Made h a → Answered h a
+    answer i (inward c) m = in-answer (h .incoming) (h .seen .into) (o .incoming) c m
+    answer i («husk_sending_sealing» r) m = sealing-answer (h .outgoing) (h .seen) (o .outgoing) r m
+    answer i («husk_flight_status» r) m = saved-answer (h .outgoing) (h .seen) (o .outgoing) i r m
+    answer i («husk_sending_status» r) m = queued-answer (h .outgoing) (h .seen) (o .outgoing) i r m
+    answer i (outward c) m = out-answer (h .outgoing) (o .outgoing .flat) (o .outgoing .flat-flight) c m
+    answer i (outwardOver c q k) m = out-answer (lends (h .outgoing) q k) (o .outgoing .flat) (o .outgoing .flat-flight) c m
+    answer i («host_seals» r bytes) m = sealing-answer (h .outgoing) (h .seen) (o .outgoing) r (m .0)
 
   -- ---- one call at one of two
 
@@ -214,7 +227,7 @@ module _ (masks : Side → Masks) where
         honest = honest-both w us (eventsOf cs) one (subst (λ (v : World). Honest masks v (eventsOf cs)) seen (rest .honest));
         agrees = rest .agrees ∙ ap (λ (v : World). run v (eventsOf cs)) seen ∙ sym (run-both w us (eventsOf cs));
         stands = rest .stands;
-        answered = (answer (hs (far s)) (hs s) (o s) (c .act) (m .0), rest .answered);
+        answered = (answer (hs (far s)) (hs s) (o s) (g .matches s) (c .act) (m .0), rest .answered);
         owed = (owed-on hs o g s (c .act) (m .0) good, rest .owed);
       }
 

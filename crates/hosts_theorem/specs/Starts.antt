@@ -1,4 +1,4 @@
--- Hosts that start: for every setting in range the words that the three starting calls leave, so that the claim is not hollow. Assumes nothing.
+-- Hosts that start: for every setting in range the words that the four starting calls leave, so that the claim is not hollow. Assumes nothing.
 use Prim.Native.Nat.{ℕ, _≤_}
 use borrow.Author.Tests.{le-ltb}
 use lib.ListN.{replicate, set}
@@ -48,6 +48,7 @@ fresh-is : (min : ℕ) → min ≤ 17 → freshOf min ≡ made answers.Done (fre
 unfolding freshOf
 fresh-is min h = if-false _ _ (le-ltb 17 min h)
 
+-- zeros are the notes that husk_notes_init leaves
 fresh-notes : acks.FreshNotesCall (acks.notesOf (replicate 1 0) (replicate 32 0) (replicate 32 0))
 unfolding freshNotes
 fresh-notes = refl
