@@ -1,7 +1,7 @@
 -- Every list of calls of the C library on two hosts: the events of crate ends_theorem that it is, and the claim of what the hosts saw.
 use Prim.Native.Nat.{ℕ, _+_, _*_, _≤_, _<_}
 use lib.Dec.{eqb, leb, ltb}
-use lib.ListN.{length, replicate}
+use lib.ListN.{length}
 use mathlib.Core.Bool.{true}
 use mathlib.Core.List.{List, [], _∷_, _++_}
 use mathlib.Core.Option.{Option, none, some}
@@ -16,30 +16,37 @@ use Rattle.sealing.specs.Sealing as sealings
 use Rattle.taking.specs.Take.{takeAnswer}
 use Rattle.flight.specs.Flight as flying
 use Rattle.flight.specs.Save.{saveState}
+use Rattle.flight.specs.Status.{unacknowledged}
 use Rattle.messages.specs.Message.{messageAnswer, messageState}
 use Rattle.resend.specs.Tests.{resendAnswer}
 use Rattle.resend.specs.Resend.{resendState}
 use Rattle.process_ack.specs.Ack.{acked}
+use Rattle.process_ack.specs.Status.{newlyMarked}
 use Rattle.acks.specs.Acks as noting
 use Rattle.recv_words.specs.Words.{isFlat}
 use Rattle.recv_key_steps.specs.Kept.{stateOf}
 use Rattle.send_words.specs.Words as sendWords
 use Rattle.flight_words.specs.Words.{flatTo}
 use Rattle.recv_calls.specs.Flat.{answerOf, bare, openingOf}
+use Rattle.answers.specs.declared.HuskTold.{HuskTold}
+use Rattle.answers.specs.Told.{tells}
 use Rattle.recv_calls.specs.Calls as receive
+use Rattle.recv_calls.specs.Removed.{removedTold}
 use Rattle.send_calls.specs.Calls as sends
 use Rattle.send_calls.specs.declared.HuskSealing.{HuskSealing}
 use Rattle.flight_calls.specs.Calls as flights
-use Rattle.waiting_laws.specs.Calls.{Stores, fill·}
+use Rattle.status_calls.specs.Calls as status
+use Rattle.ack_calls.specs.Calls as acks
+use Rattle.waiting_laws.specs.Calls.{Stores, ack·, fill·}
 use Rattle.history_theorem.specs.Account.{sealedHead, nothing, keyOwed}
 use Rattle.history_theorem.specs.Claim.{Masks, Proper, nonceFor}
 use Rattle.history_theorem.specs.Receiver.{aRead, aMaskReply, anOpenReply, removeOwed, beginOwed, Inbound, Call, key·, remove·, encrypt·, release·, begin·, read·, mask·, write·, open·, readOver·, maskOver·, openOver·}
 use Rattle.ends_theorem.specs.Claim.{Holds}
-use Rattle.ends_theorem.specs.Ledger.{Item, items, oldest, owed, shortReply}
+use Rattle.ends_theorem.specs.Ledger.{Item, Ledger, waiting, items, oldest, unacked, owed, shortReply, after as accountAfter}
 use Rattle.ends_theorem.specs.Sender.{Lent, sealedHeader}
 use Rattle.ends_theorem.specs.World.{Side, post, gateway, far, End, Deed, sending, over, receiving, Event, World, run, Setting, newEnd, fresh-pair, FairDeed, Honest}
 use Rattle.hosts_theorem.specs.Memory.{Incoming, Outgoing, InCall, «husk_receiving_key», «husk_receiving_remove», «husk_receiving_enable_encryption», «husk_receiving_release_application_data», «husk_receiving_begin», «husk_receiving_begin_read», «husk_receiving_read», «husk_receiving_mask», «husk_receiving_opened», «husk_receiving_read_over», «husk_receiving_mask_over», «husk_receiving_opened_over», «host_writes», OutCall, «husk_sending_key», «husk_sending_send», «husk_sending_sealed», «husk_sending_take», «husk_sending_take_in_place», «husk_flight_begin», «husk_flight_send», «husk_flight_message», «husk_flight_resend», «husk_flight_ack», «husk_notes_add», «husk_notes_send», behindOut, lends}
-use Rattle.hosts_theorem.specs.Log.{flatRead, readingOf, replyOf, Host, Act, inward, «husk_sending_sealing», outward, outwardOver, «host_seals», Made, behind, storesOf, sealingOf, showsNow, sendOf}
+use Rattle.hosts_theorem.specs.Log.{flatRead, readingOf, replyOf, Host, Act, inward, «husk_sending_sealing», «husk_flight_status», «husk_sending_status», outward, outwardOver, «host_seals», Made, behind, storesOf, sealingOf, showsNow, sendOf}
 
 -- ---- two hosts and a list of calls
 
@@ -95,8 +102,8 @@ pub record Stands (h : Host) : Type 0 where
 
 -- ---- the start
 
--- words made by husk_receiving_init and husk_sending_init, which answered 0, and by husk_flight_init; notes of zeros; lent memory
--- with any first contents, a queue not under its limit times the MTU; nothing in the log but the settings
+-- words made by husk_receiving_init and husk_sending_init, which answered 0, and by husk_flight_init; notes made by husk_notes_init; lent
+-- memory with any first contents, a queue not under its limit times the MTU; nothing in the log but the settings
 pub record Started (s : Setting) (h : Host) : Type 0 where
   pub receiving : receive.FreshCall 0 (h .incoming .words) (s .min)
   pub datagram : h .incoming .datagram ≡ []
@@ -105,9 +112,7 @@ pub record Started (s : Setting) (h : Host) : Type 0 where
   pub room : s .limit * s .mtu ≤ length (s .queue)
   pub flight : flights.FreshCall (h .outgoing .flight) (h .outgoing .numbers)
   pub kept : h .outgoing .kept ≡ s .kept
-  pub count : h .outgoing .count ≡ replicate 1 0
-  pub epochs : h .outgoing .epochs ≡ replicate 32 0
-  pub noted : h .outgoing .noted ≡ replicate 32 0
+  pub notes : acks.FreshNotesCall (acks.notesOf (h .outgoing .count) (h .outgoing .epochs) (h .outgoing .noted))
   pub seen : h .seen ≡ newEnd s
 
 -- ---- the events that a call is
@@ -138,8 +143,10 @@ hearing (c ∷ cs) = receiving c ∷ hearing cs
 -- any call
 abbrev pub deedsOf : Act → List Deed
 deedsOf (inward c) = hearing (callsOf c)
--- only shows
+-- only ask
 deedsOf («husk_sending_sealing» r) = []
+deedsOf («husk_flight_status» r) = []
+deedsOf («husk_sending_status» r) = []
 deedsOf (outward c) = sending (sendOf c) ∷ []
 deedsOf (outwardOver c q k) = over (sendOf c) q k ∷ []
 deedsOf («host_seals» r bytes) = sending (fill· bytes) ∷ []
@@ -159,7 +166,7 @@ eventsOf (a ∷ cs) = at (a .side) (deedsOf (a .act)) ++ eventsOf cs
 -- by the definitions that the contracts cite, over what the words stand for
 abbrev pub AnsweredIn : Incoming → InCall → Type 0
 AnsweredIn h («husk_receiving_key» r v epoch iv) = r ≡ answerOf (keyOf (stateOf (h .words)) epoch iv .answer)
-AnsweredIn h («husk_receiving_remove» r v epoch) = r ≡ answerOf (removeOf (stateOf (h .words)) epoch .answer)
+AnsweredIn h («husk_receiving_remove» r v epoch) = r ≡ removedTold (removeOf (stateOf (h .words)) epoch .answer)
 AnsweredIn h («husk_receiving_enable_encryption» r v) = r ≡ answerOf (encryptOf (stateOf (h .words)) .answer)
 AnsweredIn h («husk_receiving_release_application_data» r v) = r ≡ answerOf (releaseOf (stateOf (h .words)) .answer)
 AnsweredIn h («husk_receiving_begin» r v d) = r ≡ answerOf (beginOf (stateOf (h .words)) (length d) .answer)
@@ -190,10 +197,10 @@ AnsweredOut w («husk_flight_send» r v g m epoch t c p j) =
 AnsweredOut w («husk_flight_message» r v g m kind body p j) =
     r ≡ refusal (messageState (messageAnswer (w .state) (w .flight) (length (w .queue)) (length (w .kept)) kind (length body)) (w .state) (w .flight) (w .queue) (w .kept) kind body .answer)
 AnsweredOut w («husk_flight_resend» r v g m p) =
-    r ≡ refusal (resendState (resendAnswer (w .state) (w .flight) (length (w .queue)) (length (w .kept))) (w .state) (w .flight) (w .kept) (w .queue) .answer)
-AnsweredOut w («husk_flight_ack» r g m c) = r ≡ refusal (acked (w .flight) c .answer)
-AnsweredOut w («husk_notes_add» r x y z epoch number) = r ≡ noting.refusal (noting.noted (w .notes) epoch number .answer)
-AnsweredOut w («husk_notes_send» r v x y z p) = r ≡ refusal (noting.sentAck (w .state) (w .notes) (length (w .queue)) .answer)
+    r ≡ acks.resentTold (resendState (resendAnswer (w .state) (w .flight) (length (w .queue)) (length (w .kept))) (w .state) (w .flight) (w .kept) (w .queue) .answer) (unacknowledged (w .flight))
+AnsweredOut w («husk_flight_ack» r g m c) = r ≡ acks.ackedTold (acked (w .flight) c) (newlyMarked (w .flight) c)
+AnsweredOut w («husk_notes_add» r x y z epoch number) = r ≡ acks.noteTold (noting.noted (w .notes) epoch number .answer)
+AnsweredOut w («husk_notes_send» r v x y z p) = r ≡ acks.ackTold (noting.sentAck (w .state) (w .notes) (length (w .queue)))
 
 -- the question that husk_sending_sealing shows is the one in the log: kind 2 and its fields; no other kind shows one
 abbrev pub Shows : Option Lent → HuskSealing → Type 0
@@ -205,6 +212,8 @@ Shows (some l) r =
 abbrev pub Answered : Host → Act → Type 0
 Answered h (inward c) = AnsweredIn (h .incoming) c
 Answered h («husk_sending_sealing» r) = Shows (h .seen .out .lent) r
+Answered h («husk_flight_status» r) = r ≡ status.savedOf (storesOf (h .outgoing) .flight)
+Answered h («husk_sending_status» r) = r ≡ status.queuedOf (storesOf (h .outgoing) .state)
 Answered h (outward c) = AnsweredOut (storesOf (h .outgoing)) c
 Answered h (outwardOver c q k) = AnsweredOut (storesOf (lends (h .outgoing) q k)) c
 Answered h («host_seals» r bytes) = Shows (h .seen .out .lent) r
@@ -216,11 +225,15 @@ AllAnswered hs (a ∷ cs) = Answered (hs (a .side)) (a .act) × AllAnswered (aft
 
 -- ---- and it is the one that the host's own account owes the call
 
+-- a removal is told so: 6 is no refusal, but that a record was dropped with its epoch
+abbrev pub removalTold : ℕ → HuskTold
+removalTold n = choose (eqb n 6) (tells 0 1) (tells n 0)
+
 -- keying, removing, peer encryption, release and beginning: the number owed; reading: as the question that waits demands; over a datagram of another
 -- length: 15, and the bytes stay; a reply neither 0 nor 1: 12
 abbrev pub OwedIn : Inbound → InCall → Type 0
 OwedIn i («husk_receiving_key» r v epoch iv) = r ≡ keyOwed (i .into .account) epoch
-OwedIn i («husk_receiving_remove» r v epoch) = r ≡ removeOwed (i .into) epoch
+OwedIn i («husk_receiving_remove» r v epoch) = r ≡ removalTold (removeOwed (i .into) epoch)
 OwedIn i («husk_receiving_enable_encryption» r v) = r ≡ 0
 OwedIn i («husk_receiving_release_application_data» r v) = r ≡ 0
 OwedIn i («husk_receiving_begin» r v d) = r ≡ beginOwed d
@@ -254,29 +267,35 @@ abbrev pub kindOwed : List (List Item) → ℕ → ℕ
 kindOwed [] n = 1
 kindOwed (d ∷ ds) n = choose (eqb n 0) 2 0
 
--- no other sending call answers with a kind
-abbrev pub OwedKind : List (List Item) → OutCall → Type 0
-OwedKind q («husk_sending_take» r v b c) = r .kind ≡ kindOwed q (r .refusal)
-OwedKind q («husk_sending_take_in_place» r v) = r .kind ≡ kindOwed q (r .refusal)
-OwedKind q («husk_sending_key» r v epoch iv) = Unit {0}
-OwedKind q («husk_sending_send» r v epoch t c p) = Unit {0}
-OwedKind q («husk_sending_sealed» r v len m n p) = Unit {0}
-OwedKind q («husk_flight_begin» r g) = Unit {0}
-OwedKind q («husk_flight_send» r v g m epoch t c p j) = Unit {0}
-OwedKind q («husk_flight_message» r v g m kind body p j) = Unit {0}
-OwedKind q («husk_flight_resend» r v g m p) = Unit {0}
-OwedKind q («husk_flight_ack» r g m c) = Unit {0}
-OwedKind q («husk_notes_add» r x y z epoch number) = Unit {0}
-OwedKind q («husk_notes_send» r v x y z p) = Unit {0}
+-- a take tells its kind besides; an ACK how many records are saved behind it and how many of these not acknowledged; no other call tells more
+abbrev pub OwedMore : Ledger → OutCall → Type 0
+OwedMore l («husk_sending_take» r v b c) = r .kind ≡ kindOwed (l .queue) (r .refusal)
+OwedMore l («husk_sending_take_in_place» r v) = r .kind ≡ kindOwed (l .queue) (r .refusal)
+OwedMore l («husk_sending_key» r v epoch iv) = Unit {0}
+OwedMore l («husk_sending_send» r v epoch t c p) = Unit {0}
+OwedMore l («husk_sending_sealed» r v len m n p) = Unit {0}
+OwedMore l («husk_flight_begin» r g) = Unit {0}
+OwedMore l («husk_flight_send» r v g m epoch t c p j) = Unit {0}
+OwedMore l («husk_flight_message» r v g m kind body p j) = Unit {0}
+OwedMore l («husk_flight_resend» r v g m p) = Unit {0}
+OwedMore l («husk_flight_ack» r g m c) =
+    (r .unacknowledged ≡ unacked (accountAfter l (ack· c) .saved)) × (r .saved ≡ length (accountAfter l (ack· c) .saved))
+OwedMore l («husk_notes_add» r x y z epoch number) = Unit {0}
+OwedMore l («husk_notes_send» r v x y z p) = Unit {0}
 
 -- a sending call: 01's number and what is told besides; over memory that is too short 12, and no byte of it changes
 abbrev pub Owed : Host → Act → Type 0
 Owed h (inward c) = OwedIn (h .seen .into) c
 Owed h («husk_sending_sealing» r) = OwedSealing (h .seen .out .ivs) (oldest (items (h .seen .ledger .queue))) r
-Owed h (outward c) = (replyOf (h .outgoing) c ≡ owed (h .seen .ledger) (sendOf c)) × OwedKind (h .seen .ledger .queue) c
+-- never refused: how many records are saved, how many of these not acknowledged; how many datagrams are queued, how many records wait to be sealed
+Owed h («husk_flight_status» r) =
+    r ≡ record { refusal = 0; saved = length (h .seen .ledger .saved); unacknowledged = unacked (h .seen .ledger .saved) }
+Owed h («husk_sending_status» r) =
+    r ≡ record { refusal = 0; queued = length (h .seen .ledger .queue); waiting = waiting (items (h .seen .ledger .queue)) }
+Owed h (outward c) = (replyOf c ≡ owed (h .seen .ledger) (sendOf c)) × OwedMore (h .seen .ledger) c
 Owed h (outwardOver c q k) =
     let m = lends (h .outgoing) q k in
-    (replyOf m c ≡ shortReply (sendOf c)) × (behindOut m c .queue ≡ q) × (behindOut m c .kept ≡ k)
+    (replyOf c ≡ shortReply (sendOf c)) × (behindOut m c .queue ≡ q) × (behindOut m c .kept ≡ k)
 Owed h («host_seals» r bytes) = OwedSealing (h .seen .out .ivs) (oldest (items (h .seen .ledger .queue))) r
 
 -- of every call in the list, each by the account that it met

@@ -12,22 +12,26 @@ use Rattle.datagram.specs.declared.Question.the-variants as question
 use Rattle.datagram.specs.declared.Question.{Question}
 use Rattle.opening_reply.specs.declared.Opening.{Opening}
 use Rattle.receiving.specs.Receiving.{answerNumber, keyOf, removeOf, encryptOf, releaseOf, beginOf, readOf, maskOf, openedOf}
+use Rattle.receiving.specs.declared.Answer.the-variants as answers
+use Rattle.receiving.specs.declared.Answer.{Answer}
 use Rattle.receiving.specs.declared.Kept.{Kept}
 use Rattle.receiving.specs.declared.Receiving.{Receiving}
 use Rattle.recv_keys.specs.declared.RecvKeys.{RecvKeys}
+use Rattle.answers.specs.declared.HuskTold.{HuskTold}
 use Rattle.recv_words.specs.Words.{isFlat}
 use Rattle.recv_key_steps.specs.Kept.{stateOf}
 use Rattle.recv_calls.specs.Flat.{bare, openingOf}
 use Rattle.recv_calls.specs.Calls as receive
+use Rattle.recv_calls.specs.Removed.{removedTold}
 use Rattle.recv_calls.specs.declared.HuskReading.{HuskReading}
 use Rattle.history_theorem.specs.Account.{Shown, keyOwed, keys}
 use Rattle.history_theorem.specs.Calls.{begin-told}
 use Rattle.history_theorem.specs.Receiver.{Sealed, Trial, Receiver, Out, withState, flagged, removedFrom, removed, removeOwed, begun, startsOn, beginOwed, begins, writtenIn, maskBy, openBy, readOut, maskOut, openOut, afterRead, afterMask, afterOpen, useOf, fateOf, unused, logs, strays, Inbound, takes, tells, Call, begin·, read·, mask·, write·, open·, openOver·, does}
 use Rattle.history_theorem.specs.Sound.{UnderWay, Sound}
 use Rattle.hosts_theorem.specs.Memory.{Incoming, InCall, «husk_receiving_key», «husk_receiving_remove», «husk_receiving_enable_encryption», «husk_receiving_release_application_data», «husk_receiving_begin», «husk_receiving_begin_read», «husk_receiving_read», «husk_receiving_mask», «husk_receiving_opened», «husk_receiving_read_over», «husk_receiving_mask_over», «husk_receiving_opened_over», «host_writes», MadeIn, behindIn}
-use Rattle.hosts_theorem.specs.Log.{flatRead, outBy, removedTo, beginsTo, accepted, refused, reads, rewords, withBytes, enteredIn}
+use Rattle.hosts_theorem.specs.Log.{flatRead, outBy, numberTold, removedTo, beginsTo, accepted, refused, reads, rewords, withBytes, enteredIn}
 use Rattle.hosts_theorem.specs.Answers.{writesIn, read-names, mask-nonce, open-nonce, entered}
-use Rattle.hosts_theorem.specs.Claim.{StandsIn, callsOf, AnsweredIn}
+use Rattle.hosts_theorem.specs.Claim.{StandsIn, callsOf, AnsweredIn, removalTold}
 
 abbrev pub doesAll : (ℕ → List Sealed) → Inbound → List Call → Inbound
 doesAll sealed i [] = i
@@ -46,6 +50,26 @@ removed-to y s k = by-test (λ (z : Receiver). (z .state ≡ s) × (z .datagram 
 removes-as : (y : Receiver) (s : Receiving) (k : ℕ) → s ≡ removeOf (y .state) k .state → removedTo y s k ≡ removed y k
 unfolding removed
 removes-as y s k e = ap (λ x. removedTo y x k) e
+
+-- 01's number of the answer
+number-told : (a : Answer) → numberTold (removedTold a) ≡ answerNumber a
+unfolding numberTold choose
+number-told answers.Done = refl
+number-told answers.Dropped = refl
+number-told answers.Setting = refl
+number-told answers.TooLong = refl
+number-told answers.Unusable = refl
+number-told answers.Full = refl
+
+-- and back
+told-back : (a : Answer) → removedTold a ≡ removalTold (numberTold (removedTold a))
+unfolding numberTold choose
+told-back answers.Done = refl
+told-back answers.Dropped = refl
+told-back answers.Setting = refl
+told-back answers.TooLong = refl
+told-back answers.Unusable = refl
+told-back answers.Full = refl
 
 -- ---- beginning
 
@@ -234,8 +258,8 @@ module _ (h : Incoming) (i : Inbound) (a : StandsIn h i) where
       let e = behind-answer (λ s. keyOf s k iv) r v m in
       λ j. tells i (withState y (s j) (keys (y .account) k iv)) (e j) (keyOwed (y .account) k)
   in-square sealed o («husk_receiving_remove» r v k) m =
-      let s = removes-as y (stateOf v) k (behind-state (λ s. removeOf s k) r v m) in
-      let e = behind-answer (λ s. removeOf s k) r v m in
+      let s = removes-as y (stateOf v) k (m .1 ∙ if-true _ _ (a .flat) ∙ ap (λ (s : Receiving). removeOf s k .state) (a .state)) in
+      let e = ap numberTold (m .0 ∙ if-true _ _ (a .flat) ∙ ap (λ (s : Receiving). removedTold (removeOf s k .answer)) (a .state)) ∙ number-told (removeOf (y .state) k .answer) in
       λ j. tells i (s j) (e j) (removeOwed y k)
   in-square sealed o («husk_receiving_enable_encryption» r v) m =
       let s = behind-state encryptOf r v m in
@@ -296,6 +320,12 @@ module _ (h : Incoming) (i : Inbound) (a : StandsIn h i) where
       → r ≡ choose (leb o 1) (flatRead (openedOf (stateOf w) (openingOf o len) d)) (bare 0 12)
   opened-answer r v o len d m =
       test-cases (leb o 1) (λ t. m .0 ∙ if-true _ _ (both-true t ∙ a .flat) ∙ sym (if-true _ _ t)) (λ t. m .0 ∙ if-false _ _ (both-false _ t) ∙ sym (if-false _ _ t))
+
+  -- a removal's answer is told by its number
+  pub remove-answer : (r : HuskTold) (v : List ℕ) (k : ℕ) → receive.RemoveReceiveCall r v w k → r ≡ removalTold (numberTold r)
+  remove-answer r v k m =
+      let e = m .0 ∙ if-true _ _ (a .flat) in
+      e ∙ told-back (removeOf (stateOf w) k .answer) ∙ sym (ap (λ (x : HuskTold). removalTold (numberTold x)) e)
 
   pub in-answer : (c : InCall) → MadeIn h c → AnsweredIn h c
   in-answer («husk_receiving_key» r v k iv) m = m .0 ∙ if-true _ _ (a .flat)

@@ -3,7 +3,7 @@
 -- kept from arguments and replies alone.
 use Prim.Native.Nat.{ℕ, suc, _+_}
 use lib.Dec.{eqb, leb, ltb}
-use lib.ListN.{length, getD, replicate}
+use lib.ListN.{length, replicate}
 use mathlib.Core.Bool.{true}
 use mathlib.Core.List.{List, [], _∷_, _++_}
 use mathlib.Core.Option.{Option, none, some}
@@ -17,6 +17,7 @@ use Rattle.datagram.specs.declared.Reason.{Reason}
 use Rattle.receiving.specs.declared.Read.{Read}
 use Rattle.receiving.specs.declared.Receiving.{Receiving}
 use Rattle.sealing.specs.Sealing.{questionOf}
+use Rattle.answers.specs.declared.HuskTold.{HuskTold}
 use Rattle.recv_key_steps.specs.Kept.{stateOf}
 use Rattle.recv_calls.specs.Flat.{flatReading, openingOf}
 use Rattle.recv_calls.specs.declared.HuskReading.{HuskReading}
@@ -26,7 +27,11 @@ use Rattle.send_calls.specs.declared.HuskSealing.{HuskSealing}
 use Rattle.send_calls.specs.declared.HuskTake.{HuskTake}
 use Rattle.send_calls.specs.declared.HuskPart.{HuskPart}
 use Rattle.flight_words.specs.Words.{flightOf}
+use Rattle.status_calls.specs.Calls as status
+use Rattle.status_calls.specs.declared.HuskSaved.{HuskSaved}
+use Rattle.status_calls.specs.declared.HuskQueued.{HuskQueued}
 use Rattle.ack_calls.specs.Calls as acks
+use Rattle.ack_calls.specs.declared.HuskAcked.{HuskAcked}
 use Rattle.waiting_laws.specs.Calls.{Stores, SendCall, keySend·, send·, save·, message·, beginFlight·, resend·, note·, sendAck·, ack·, fill·, sealed·, take·, Reply, only}
 use Rattle.history_theorem.specs.Account.{upd, keyOwed, keys, isIn}
 use Rattle.history_theorem.specs.Receiver.{Sealed, Receiver, Out, withState, flagged, removedFrom, removeOwed, startsOn, beginOwed, Inbound, takes, tells, logs, strays, readBy, maskBy, openBy, useOf, unused, fateOf}
@@ -67,6 +72,10 @@ abbrev pub outBy : HuskReading → List ℕ → List ℕ → Out
 outBy r v d = record { state = stateOf v; datagram = d; reading = readingOf r; nonce = r .nonce }
 
 -- ---- the log of a receiving host
+
+-- 01's number of a removal: the refusal, else 6 where a record was dropped with its epoch
+unfoldable pub numberTold : HuskTold → ℕ
+numberTold r = choose (eqb (r .refusal) 0) (choose (eqb (r .told) 1) 6 0) (r .refusal)
 
 -- an epoch removed: a record whose question was of that epoch loses it
 abbrev pub removedTo : Receiver → Receiving → ℕ → Receiver
@@ -118,7 +127,7 @@ withBytes y d = record {
 abbrev pub enteredIn : (ℕ → List Sealed) → Inbound → InCall → Inbound
 enteredIn sealed i («husk_receiving_key» r v epoch iv) =
     tells i (withState (i .into) (stateOf v) (keys (i .into .account) epoch iv)) r (keyOwed (i .into .account) epoch)
-enteredIn sealed i («husk_receiving_remove» r v epoch) = tells i (removedTo (i .into) (stateOf v) epoch) r (removeOwed (i .into) epoch)
+enteredIn sealed i («husk_receiving_remove» r v epoch) = tells i (removedTo (i .into) (stateOf v) epoch) (numberTold r) (removeOwed (i .into) epoch)
 enteredIn sealed i («husk_receiving_enable_encryption» r v) =
     tells i (withState (i .into) (stateOf v) (flagged (i .into .account) true (i .into .account .released))) r 0
 enteredIn sealed i («husk_receiving_release_application_data» r v) =
@@ -171,24 +180,28 @@ sendOf («husk_flight_ack» r g m c) = ack· c
 sendOf («husk_notes_add» r x y z epoch number) = note· epoch number
 sendOf («husk_notes_send» r v x y z p) = sendAck·
 
--- 1 where the count of notes changed: a record was noted, or the ACK of those noted was sent
-abbrev pub counts : List ℕ → List ℕ → ℕ
-counts before behind = choose (eqb (getD behind 0 0) (getD before 0 0)) 0 1
+-- what is told beside the refusal: how many were sent again, 1 where a record was noted or an ACK sent
+abbrev pub toldReply : HuskTold → Reply
+toldReply r = record { number = r .refusal; told = r .told }
+
+-- of an ACK: how many it newly marked
+abbrev pub ackedReply : HuskAcked → Reply
+ackedReply r = record { number = r .refusal; told = r .marked }
 
 -- what the host sees of a call: 01's number and what is told besides
-abbrev pub replyOf : Outgoing → OutCall → Reply
-replyOf h («husk_sending_key» r v epoch iv) = only r
-replyOf h («husk_sending_send» r v epoch t c p) = only r
-replyOf h («husk_sending_sealed» r v len m n p) = only r
-replyOf h («husk_sending_take» r v b c) = record { number = r .refusal; told = r .length }
-replyOf h («husk_sending_take_in_place» r v) = record { number = r .refusal; told = r .length }
-replyOf h («husk_flight_begin» r g) = only r
-replyOf h («husk_flight_send» r v g m epoch t c p j) = only r
-replyOf h («husk_flight_message» r v g m kind body p j) = only r
-replyOf h («husk_flight_resend» r v g m p) = only r
-replyOf h («husk_flight_ack» r g m c) = only r
-replyOf h («husk_notes_add» r x y z epoch number) = record { number = r; told = counts (h .count) x }
-replyOf h («husk_notes_send» r v x y z p) = record { number = r; told = counts (h .count) x }
+abbrev pub replyOf : OutCall → Reply
+replyOf («husk_sending_key» r v epoch iv) = only r
+replyOf («husk_sending_send» r v epoch t c p) = only r
+replyOf («husk_sending_sealed» r v len m n p) = only r
+replyOf («husk_sending_take» r v b c) = record { number = r .refusal; told = r .length }
+replyOf («husk_sending_take_in_place» r v) = record { number = r .refusal; told = r .length }
+replyOf («husk_flight_begin» r g) = only r
+replyOf («husk_flight_send» r v g m epoch t c p j) = only r
+replyOf («husk_flight_message» r v g m kind body p j) = only r
+replyOf («husk_flight_resend» r v g m p) = toldReply r
+replyOf («husk_flight_ack» r g m c) = ackedReply r
+replyOf («husk_notes_add» r x y z epoch number) = toldReply r
+replyOf («husk_notes_send» r v x y z p) = toldReply r
 
 -- what husk_sending_sealing answers over these words
 abbrev pub sealingOf : List ℕ → HuskSealing
@@ -240,10 +253,10 @@ takesPart r q ts = choose (eqb (r .kind) 2) (ts ++ (part (r .start) (r .length) 
 
 -- a take: the answer, and the buffer before and behind it
 abbrev pub tookNow : Outgoing → OutCall → List Took → List Took
-tookNow h («husk_sending_take» r v b c) ts = record { reply = replyOf h («husk_sending_take» r v b c); before = b; behind = c } ∷ ts
+tookNow h («husk_sending_take» r v b c) ts = record { reply = replyOf («husk_sending_take» r v b c); before = b; behind = c } ∷ ts
 tookNow h («husk_sending_take_in_place» r v) ts =
     record {
-      reply = replyOf h («husk_sending_take_in_place» r v);
+      reply = replyOf («husk_sending_take_in_place» r v);
       before = zerosOf 65535;
       behind = splice 0 (part (r .start) (r .length) (h .queue)) (zerosOf 65535);
     } ∷ ts
@@ -312,7 +325,7 @@ sentTo e c = entersAll (sentBy (e .ledger) c) (e .out .books)
 -- a call over the host's own memory
 abbrev pub enteredOut : End → Outgoing → Outgoing → OutCall → End
 enteredOut e h g c =
-    enters e (sendOf c) (replyOf h c) (senderTo (e .out) h g (sentTo e (sendOf c)) c) (tookNow h c (e .took)) (givenNow c (e .given))
+    enters e (sendOf c) (replyOf c) (senderTo (e .out) h g (sentTo e (sendOf c)) c) (tookNow h c (e .took)) (givenNow c (e .given))
 
 -- the host's own writing, into the part that it was asked to seal
 abbrev pub enteredFill : End → Outgoing → List ℕ → End
@@ -326,7 +339,7 @@ enteredOver e h g own c = record {
   limit = e .limit;
   out = turnsTo (e .out) own (e .out .books) (e .out .ivs) (e .out .sealed) (e .out .taken);
   ledger = e .ledger;
-  said = record { reply = replyOf h c; owed = shortReply (sendOf c) } ∷ e .said;
+  said = record { reply = replyOf c; owed = shortReply (sendOf c) } ∷ e .said;
   took = tookNow h c (e .took);
   overs = record { queue = h .queue; queue′ = g .queue; kept = h .kept; kept′ = g .kept } ∷ e .overs;
   given = e .given;
@@ -365,10 +378,12 @@ countsTo e («husk_receiving_mask_over» r v m n b d) = count e (e .into .serial
 countsTo e («husk_receiving_opened_over» r v o len d) = choose (leb o 1) (count e (e .into .serial) (e .counts)) (e .counts)
 countsTo e («host_writes» r p) = e .counts
 
--- a call at a host: receiving; sending over the host's own memory; sending over another queue q and other memory k for saved contents
+-- a call at a host: receiving; only asking; sending over the host's own memory; sending over another queue q and other memory k for saved contents
 pub data Act : Type 0 where
   inward : InCall → Act
   «husk_sending_sealing» : (r : HuskSealing) → Act
+  «husk_flight_status» : (r : HuskSaved) → Act
+  «husk_sending_status» : (r : HuskQueued) → Act
   outward : OutCall → Act
   outwardOver : (c : OutCall) (q k : List ℕ) → Act
   -- no call: r is what husk_sending_sealing answers, and the host writes as many bytes as it names into the part of the queue that it names
@@ -378,6 +393,8 @@ pub data Act : Type 0 where
 abbrev pub Made : Host → Act → Type 0
 Made h (inward c) = MadeIn (h .incoming) c
 Made h («husk_sending_sealing» r) = sends.SealingCall r (h .outgoing .words)
+Made h («husk_flight_status» r) = status.FlightStatusCall r (h .outgoing .flight)
+Made h («husk_sending_status» r) = status.SendingStatusCall r (h .outgoing .words)
 Made h (outward c) = MadeOut (h .outgoing) c
 Made h (outwardOver c q k) = MadeOut (lends (h .outgoing) q k) c
 Made h («host_seals» r bytes) = sends.SealingCall r (h .outgoing .words) × (r .kind ≡ 2) × (length bytes ≡ r .length)
@@ -398,6 +415,8 @@ behind f h (inward c) = record {
   seen = takesIn (h .seen) (enteredIn (f .seen .out .sealed) (h .seen .into) c) (countsTo (h .seen) c);
 }
 behind f h («husk_sending_sealing» r) = h
+behind f h («husk_flight_status» r) = h
+behind f h («husk_sending_status» r) = h
 behind f h (outward c) = record {
   incoming = h .incoming;
   outgoing = behindOut (h .outgoing) c;

@@ -7,6 +7,7 @@ use mathlib.Core.List.{List}
 use mathlib.Core.Path.{_≡_}
 use Rattle.base.specs.Choose.{choose}
 use Rattle.base.specs.Parts.{splice}
+use Rattle.answers.specs.declared.HuskTold.{HuskTold}
 use Rattle.recv_calls.specs.Calls as receive
 use Rattle.recv_calls.specs.declared.HuskReading.{HuskReading}
 use Rattle.send_calls.specs.Calls as sends
@@ -14,6 +15,7 @@ use Rattle.send_calls.specs.declared.HuskTake.{HuskTake}
 use Rattle.send_calls.specs.declared.HuskPart.{HuskPart}
 use Rattle.flight_calls.specs.Calls as flights
 use Rattle.ack_calls.specs.Calls as acks
+use Rattle.ack_calls.specs.declared.HuskAcked.{HuskAcked}
 
 -- the words of husk_receiving_init, and the begun datagram's bytes
 pub record Incoming : Type 0 where
@@ -37,7 +39,7 @@ pub record Outgoing : Type 0 where
 -- r the answer, v the words behind it
 pub data InCall : Type 0 where
   «husk_receiving_key» : (r : ℕ) (v : List ℕ) (epoch : ℕ) (iv : List ℕ) → InCall
-  «husk_receiving_remove» : (r : ℕ) (v : List ℕ) (epoch : ℕ) → InCall
+  «husk_receiving_remove» : (r : HuskTold) (v : List ℕ) (epoch : ℕ) → InCall
   «husk_receiving_enable_encryption» : (r : ℕ) (v : List ℕ) → InCall
   «husk_receiving_release_application_data» : (r : ℕ) (v : List ℕ) → InCall
   -- of a datagram d that arrived
@@ -104,11 +106,11 @@ pub data OutCall : Type 0 where
   «husk_flight_begin» : (r : ℕ) (g : List ℕ) → OutCall
   «husk_flight_send» : (r : ℕ) (v g m : List ℕ) (epoch t : ℕ) (c p j : List ℕ) → OutCall
   «husk_flight_message» : (r : ℕ) (v g m : List ℕ) (kind : ℕ) (body p j : List ℕ) → OutCall
-  «husk_flight_resend» : (r : ℕ) (v g m p : List ℕ) → OutCall
-  «husk_flight_ack» : (r : ℕ) (g m c : List ℕ) → OutCall
+  «husk_flight_resend» : (r : HuskTold) (v g m p : List ℕ) → OutCall
+  «husk_flight_ack» : (r : HuskAcked) (g m c : List ℕ) → OutCall
   -- count, epochs and numbers behind
-  «husk_notes_add» : (r : ℕ) (x y z : List ℕ) (epoch number : ℕ) → OutCall
-  «husk_notes_send» : (r : ℕ) (v x y z p : List ℕ) → OutCall
+  «husk_notes_add» : (r : HuskTold) (x y z : List ℕ) (epoch number : ℕ) → OutCall
+  «husk_notes_send» : (r : HuskTold) (v x y z p : List ℕ) → OutCall
 
 -- a call was made: its own contract, over the host's memory
 abbrev pub MadeOut : Outgoing → OutCall → Type 0

@@ -1,8 +1,8 @@
 -- Each sending call of the C library, those of flights, resends and ACKs with it, entered in the host's log, is the claim's call. Assumes nothing.
 use Prim.Native.Nat.{ℕ, _+_, _*_}
 use native.Mathlib.Omega.{arith}
-use borrow.Author.Tests.{leb-true, ltb-false, eqb-false, eq-eqb, ne-eqb}
-use lib.Dec.{eqb}
+use borrow.Author.Tests.{leb-true, ltb-false, eqb-false}
+use lib.Dec.{eqb, ltb}
 use lib.ListN.{length, length-replicate}
 use mathlib.Core.Bool.{true}
 use mathlib.Core.List.{List, [], _∷_, _++_}
@@ -16,6 +16,7 @@ use Rattle.outgoing.specs.Send.{sendState}
 use Rattle.outgoing.specs.declared.Sending.{Sending}
 use Rattle.send_keys.specs.Answer.{isDone, refusal}
 use Rattle.send_keys.specs.declared.SendAnswer.{SendAnswer}
+use Rattle.send_keys.specs.declared.SendAnswer.the-variants as answer
 use Rattle.sealing.specs.Sealing as sealings
 use Rattle.sealing.specs.declared.SealAnswer.{SealAnswer}
 use Rattle.sealing.specs.declared.SealAnswer.the-variants as reply
@@ -28,14 +29,18 @@ use Rattle.taking.specs.declared.TakeAnswer.the-variants as took
 use Rattle.flight.specs.declared.Flight.{Flight}
 use Rattle.flight.specs.declared.Saved.{Saved as SavedState}
 use Rattle.flight.specs.Save.{saveState}
+use Rattle.flight.specs.Status.{unacknowledged}
 use Rattle.messages.specs.Message.{messageAnswer, messageState}
 use Rattle.resend.specs.declared.Resent.{Resent}
 use Rattle.resend.specs.Resend.{resendState}
 use Rattle.resend.specs.Tests.{resendAnswer}
+use Rattle.process_ack.specs.Ack.{acked}
+use Rattle.process_ack.specs.Status.{newlyMarked}
+use Rattle.process_ack.specs.declared.Acked.{Acked}
 use Rattle.acks.specs.Acks as noting
-use Rattle.acks.specs.declared.AckSent.{AckSent}
+use Rattle.acks.specs.declared.NoteAnswer.{NoteAnswer}
+use Rattle.acks.specs.declared.NoteAnswer.the-variants as note
 use Rattle.acks.specs.declared.Notes.{Notes}
-use Rattle.acks.specs.declared.Noting.{Noting}
 use Rattle.send_words.specs.Words.{stateOf, isFlat}
 use Rattle.flight_words.specs.Words.{flatTo}
 use Rattle.send_calls.specs.Calls as sends
@@ -43,7 +48,7 @@ use Rattle.send_calls.specs.declared.HuskSealing.{HuskSealing}
 use Rattle.send_calls.specs.declared.HuskTake.{HuskTake}
 use Rattle.send_calls.specs.declared.HuskPart.{HuskPart}
 use Rattle.ack_calls.specs.Calls as acks
-use Rattle.waiting_laws.specs.Answers.{noteReply, ackReply, takeReply, answered}
+use Rattle.waiting_laws.specs.Answers.{noteReply, takeReply, answered}
 use Rattle.waiting_laws.specs.Calls.{Stores, fill·, writtenIn, stored, lending, Reply, only}
 use Rattle.history_theorem.specs.Account.{upd}
 use Rattle.history_theorem.specs.Receiver.{Sealed}
@@ -53,7 +58,7 @@ use Rattle.ends_theorem.specs.Sender as world
 use Rattle.ends_theorem.specs.Sender.{Books, Lent, Sender, takenBy, sealedBy, finishedBy}
 use Rattle.ends_theorem.specs.World.{Took, End, sending, over, givenIn, givenBy, tookBy, overOf, oversBy, acts}
 use Rattle.hosts_theorem.specs.Memory.{Outgoing, OutCall, «husk_sending_key», «husk_sending_send», «husk_sending_sealed», «husk_sending_take», «husk_sending_take_in_place», «husk_flight_begin», «husk_flight_send», «husk_flight_message», «husk_flight_resend», «husk_flight_ack», «husk_notes_add», «husk_notes_send», MadeOut, behindOut, lends}
-use Rattle.hosts_theorem.specs.Log.{storesOf, zerosOf, sendOf, counts, replyOf, sealingOf, showsNow, turnsTo, sealsNow, finishesNow, takesOne, takesPart, tookNow, enters, senderTo, givenNow, sentTo, enteredOut, enteredFill, enteredOver, sealedIn, returns}
+use Rattle.hosts_theorem.specs.Log.{storesOf, zerosOf, sendOf, toldReply, ackedReply, replyOf, sealingOf, showsNow, turnsTo, sealsNow, finishesNow, takesOne, takesPart, tookNow, enters, senderTo, givenNow, sentTo, enteredOut, enteredFill, enteredOver, sealedIn, returns}
 use Rattle.hosts_theorem.specs.Answers.{sealing-names}
 use Rattle.hosts_theorem.specs.Claim.{StandsOut, AnsweredOut, Shows}
 
@@ -166,40 +171,26 @@ part-told took.Nothing start never = refl
 part-told took.Unsealed start never = refl
 part-told (took.Short n) start never = absurd (never refl)
 
--- the count of notes changes exactly where a record is noted
-abbrev told-by : ℕ → ℕ → ℕ
-told-by before behind = choose (eqb behind before) 0 1
+-- noted or not
+note-told : (k : NoteAnswer) → toldReply (acks.noteTold k) ≡ noteReply k
+note-told note.Noted = refl
+note-told note.Full = refl
+note-told note.OutOfRange = refl
 
-same-count : (n : ℕ) → told-by n n ≡ 0
-same-count n = if-true _ _ (eq-eqb n n refl)
-
-note-told : (s : Notes) (e n : ℕ) → record { number = noting.refusal (noting.noted s e n .answer); told = told-by (s .count) (noting.noted s e n .notes .count) } ≡ noteReply (noting.noted s e n .answer)
-unfolding noting.noted
-note-told s e n =
-    let P : Noting → Type 0 = λ k. record { number = noting.refusal (k .answer); told = told-by (s .count) (k .notes .count) } ≡ noteReply (k .answer) in
-    by-test P (λ t. ap (λ (x : ℕ). record { number = 12; told = x }) (same-count (s .count)))
-    (λ t. by-test P (λ u. ap (λ (x : ℕ). record { number = 0; told = x }) (if-false _ _ (ne-eqb _ _ (λ (z : s .count + 1 ≡ s .count). omega arith))))
-    (λ u. ap (λ (x : ℕ). record { number = 0; told = x }) (same-count (s .count))))
-
--- and where the ACK of those noted is sent
-ack-told : (s : Sending) (n : Notes) (room : ℕ)
-    → record { number = refusal (noting.sentAck s n room .answer); told = told-by (n .count) (noting.sentAck s n room .notes .count) } ≡ ackReply (noting.sentAck s n room)
-unfolding noting.sentAck noting.ackSent noting.forgotten
-ack-told s n room =
-    let P : AckSent → Type 0 = λ k. record { number = refusal (k .answer); told = told-by (n .count) (k .notes .count) } ≡ ackReply k in
-    let quiet : (a : SendAnswer) → P (noting.nothingSent a s n) = λ a. ap (λ (x : ℕ). record { number = refusal a; told = x }) (same-count (n .count) ∙ sym (if-false _ _ refl)) in
-    by-test P
-    (λ t. by-test P (λ z. quiet (noting.ackAnswer s n room))
-    (λ z.
-    let a = noting.noticeState s n room .answer in
-    test-cases (isDone a)
-    (λ d.
-    ap (λ (x : ℕ). record { number = refusal a; told = x })
-    (ap (λ (m : Notes). told-by (n .count) (m .count)) (if-true _ _ d) ∙ if-false _ _ (ne-eqb _ _ (λ (q : 0 ≡ n .count). eqb-false _ _ z (sym q))) ∙ sym (if-true _ _ d)))
-    (λ d.
-    ap (λ (x : ℕ). record { number = refusal a; told = x })
-    (ap (λ (m : Notes). told-by (n .count) (m .count)) (if-false _ _ d) ∙ same-count (n .count) ∙ sym (if-false _ _ d)))))
-    (λ t. quiet (noting.ackAnswer s n room))
+-- an ACK over too many saved records is refused and marks nothing
+ack-told : (f : Flight) (d : List ℕ) → ackedReply (acks.ackedTold (acked f d) (newlyMarked f d)) ≡ record { number = refusal (acked f d .answer); told = newlyMarked f d }
+unfolding acked newlyMarked
+ack-told f d =
+    let P : Acked → ℕ → Type 0 = λ k n. ackedReply (acks.ackedTold k n) ≡ record { number = refusal (k .answer); told = n } in
+    test-cases (ltb 12 (f .saved))
+    (λ t.
+    let k : Acked = record { answer = answer.OutOfRange; flight = f } in
+    let e : acked f d ≡ k = if-true _ _ t in
+    let z : newlyMarked f d ≡ 0 = if-true _ _ t in
+    subst (λ (x : Acked). P x (newlyMarked f d)) (sym e) (subst (P k) (sym z) (ap ackedReply (if-false _ _ refl))))
+    (λ t.
+    let e : acked f d .answer ≡ answer.Done = ap (λ (x : Acked). x .answer) (if-false _ _ t) in
+    ap ackedReply (if-true _ _ (ap isDone e)) ∙ ap (λ (x : SendAnswer). record { number = refusal x; told = newlyMarked f d }) (sym e))
 
 message-answers : (a : SendAnswer) (s : Sending) (f : Flight) (q k : List ℕ) (t : ℕ) (b : List ℕ) → messageState a s f q k t b .answer ≡ a
 unfolding messageState
@@ -210,7 +201,7 @@ unfolding resendState
 resend-answers a s f k q = by-test (λ (r : Resent). r .answer ≡ a) (λ z. refl) (λ z. refl)
 
 module _ (h : Outgoing) (f : isFlat (h .words) ≡ true) (g : flatTo (h .flight) 12 ≡ true) where
-  pub reply-is : (c : OutCall) → MadeOut h c → replyOf h c ≡ answered (storesOf h) (sendOf c)
+  pub reply-is : (c : OutCall) → MadeOut h c → replyOf c ≡ answered (storesOf h) (sendOf c)
   unfolding sendState saveState sealings.sealedState
   reply-is («husk_sending_key» r v e iv) m = ap only (out-answer h f g («husk_sending_key» r v e iv) m)
   reply-is («husk_sending_send» r v e t c p) m = ap only (out-answer h f g («husk_sending_send» r v e t c p) m)
@@ -223,17 +214,14 @@ module _ (h : Outgoing) (f : isFlat (h .words) ≡ true) (g : flatTo (h .flight)
   reply-is («husk_flight_begin» r k) m = ap only (out-answer h f g («husk_flight_begin» r k) m)
   reply-is («husk_flight_send» r v k l e t c p j) m = ap only (out-answer h f g («husk_flight_send» r v k l e t c p j) m)
   reply-is («husk_flight_message» r v k l t b p j) m = ap only (out-answer h f g («husk_flight_message» r v k l t b p j) m ∙ ap refusal (message-answers (messageAnswer (stateOf (h .words)) (storesOf h .flight) (length (h .queue)) (length (h .kept)) t (length b)) (stateOf (h .words)) (storesOf h .flight) (h .queue) (h .kept) t b))
-  reply-is («husk_flight_resend» r v k l p) m = ap only (out-answer h f g («husk_flight_resend» r v k l p) m ∙ ap refusal (resend-answers (resendAnswer (stateOf (h .words)) (storesOf h .flight) (length (h .queue)) (length (h .kept))) (stateOf (h .words)) (storesOf h .flight) (h .kept) (h .queue)))
-  reply-is («husk_flight_ack» r k l c) m = ap only (out-answer h f g («husk_flight_ack» r k l c) m)
-  reply-is («husk_notes_add» r x y z e n) m =
-      let s = acks.notesOf (h .count) (h .epochs) (h .noted) in
-      let t = ap (λ (k : Notes). told-by (s .count) (k .count)) (m .1) in
-      (λ i. record { number = m .0 i; told = t i }) ∙ note-told s e n
-  reply-is («husk_notes_send» r v x y z p) m =
-      let s = acks.notesOf (h .count) (h .epochs) (h .noted) in
-      let a = m .0 .0 ∙ if-true _ _ f in
-      let t = ap (λ (k : Notes). told-by (s .count) (k .count)) (m .0 .3 ∙ if-true _ _ f) in
-      (λ i. record { number = a i; told = t i }) ∙ ack-told (stateOf (h .words)) s (length (h .queue))
+  reply-is («husk_flight_resend» r v k l p) m =
+      let a = resendAnswer (stateOf (h .words)) (storesOf h .flight) (length (h .queue)) (length (h .kept)) in
+      ap toldReply
+      (out-answer h f g («husk_flight_resend» r v k l p) m
+      ∙ ap (λ (x : SendAnswer). acks.resentTold x (unacknowledged (storesOf h .flight))) (resend-answers a (stateOf (h .words)) (storesOf h .flight) (h .kept) (h .queue)))
+  reply-is («husk_flight_ack» r k l c) m = ap ackedReply (out-answer h f g («husk_flight_ack» r k l c) m) ∙ ack-told (storesOf h .flight) c
+  reply-is («husk_notes_add» r x y z e n) m = ap toldReply (out-answer h f g («husk_notes_add» r x y z e n) m) ∙ note-told (noting.noted (storesOf h .notes) e n .answer)
+  reply-is («husk_notes_send» r v x y z p) m = ap toldReply (out-answer h f g («husk_notes_send» r v x y z p) m)
 
   -- a take: the host's buffer behind it
   pub took-is : (c : OutCall) → MadeOut h c → (ts : List Took) → tookNow h c ts ≡ tookBy (storesOf h) (sendOf c) ts
@@ -367,7 +355,7 @@ module _ (h : Outgoing) (e : End) (a : StandsOut h e) where
     behind-stores : storesOf (behindOut h c) ≡ stored w (sendOf c)
     behind-stores = stores-square h (a .flat) (a .flat-flight) c m ∙ of-stores (λ s. stored s (sendOf c))
 
-    pub out-reply : replyOf h c ≡ answered w (sendOf c)
+    pub out-reply : replyOf c ≡ answered w (sendOf c)
     out-reply = reply-is h (a .flat) (a .flat-flight) c m ∙ of-stores (λ s. answered s (sendOf c))
 
     out-took : tookNow h c (e .took) ≡ tookBy w (sendOf c) (e .took)
@@ -467,7 +455,7 @@ module _ (h : Outgoing) (e : End) (a : StandsOut h e) where
     left-stores : storesOf left ≡ stored (lending w q k) (sendOf c)
     left-stores = stores-square lent (a .flat) (a .flat-flight) c m ∙ of-stores (λ s. stored (lending s q k) (sendOf c))
 
-    pub over-reply : replyOf lent c ≡ answered (lending w q k) (sendOf c)
+    pub over-reply : replyOf c ≡ answered (lending w q k) (sendOf c)
     over-reply = reply-is lent (a .flat) (a .flat-flight) c m ∙ of-stores (λ s. answered (lending s q k) (sendOf c))
 
     overs-as : oversBy w q k (sendOf c) (e .overs) ≡ overOf w q k (sendOf c) ∷ e .overs

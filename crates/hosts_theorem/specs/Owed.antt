@@ -1,27 +1,40 @@
 -- Each answer is the one that the host's account owes: by what holds of the log behind the call, in which the answer stands first. Assumes nothing.
-use Prim.Native.Nat.{ℕ, _+_, _*_}
+use Prim.Native.Nat.{ℕ, _+_, _*_, _≤_, min}
 use borrow.Author.Tests.{le-leb, lt-leb, le-ltb, lt-ltb}
 use native.Mathlib.Omega.{arith}
 use lib.Dec.{eqb, leb, ltb}
 use lib.ListN.{length}
-use mathlib.Core.Bool.{false, false≢true}
+use mathlib.Core.Bool.{true, false, false≢true}
 use mathlib.Core.List.{List, [], _∷_, List·Memᴰ as Mem, List·Memᴰ·head as here}
 use mathlib.Core.Option.{Option, none, some}
 use mathlib.Core.Path.{_≡_, refl, sym, ap, subst, _∙_}
-use Rattle.base.specs.Choose.{choose, by-test, if-true, if-false}
+use Rattle.base.specs.Choose.{choose, by-test, if-true, if-false, both-true}
 use Rattle.datagram.specs.declared.Reading.the-variants as says
 use Rattle.recv_calls.specs.Flat.{openingOf}
 use Rattle.record.specs.Record.{unifiedHeader}
+use Rattle.queue.specs.Queue.{isSound}
 use Rattle.outgoing.specs.declared.Sending.{Sending}
+use Rattle.outgoing.specs.Status.{toSeal}
 use Rattle.sealing.specs.Sealing.{questionOf}
 use Rattle.sealing.specs.declared.Question.{Question}
+use Rattle.send_keys.specs.Answer.{isDone}
+use Rattle.flight.specs.declared.Flight.{Flight}
+use Rattle.process_ack.specs.Ack.{acked}
+use Rattle.process_ack.specs.Status.{newlyMarked}
+use Rattle.process_ack.specs.declared.Acked.{Acked}
+use Rattle.flight_words.specs.Words.{flightOf}
+use Rattle.status_calls.specs.Calls as status
+use Rattle.status_calls.specs.declared.HuskSaved.{HuskSaved}
+use Rattle.status_calls.specs.declared.HuskQueued.{HuskQueued}
+use Rattle.ack_calls.specs.Calls.{leftBehind}
+use Rattle.ack_calls.specs.declared.HuskAcked.{HuskAcked}
 use Rattle.send_calls.specs.Calls.{flatSealing, noSealing, flatTake, flatPart, SealingCall}
 use Rattle.send_calls.specs.declared.HuskSealing.{HuskSealing}
 use Rattle.send_calls.specs.declared.HuskTake.{HuskTake}
 use Rattle.send_calls.specs.declared.HuskPart.{HuskPart}
 use Rattle.taking.specs.Take.{takeAnswer}
 use Rattle.taking.specs.declared.TakeAnswer.{TakeAnswer}
-use Rattle.waiting_laws.specs.Calls.{Stores}
+use Rattle.waiting_laws.specs.Calls.{Stores, ack·}
 use Rattle.waiting_laws.specs.Queued.{Queued, Holds}
 use Rattle.waiting_laws.specs.Seals.{question-told}
 use Rattle.waiting_laws.specs.Takes.{takeTold, take-told}
@@ -29,15 +42,16 @@ use Rattle.history_theorem.specs.Account.{sealedHead, nothing}
 use Rattle.history_theorem.specs.Claim.{Masks, Proper, Turned, nonceFor}
 use Rattle.history_theorem.specs.Receiver.{Sealed, Spoken, Stray, Told, aRead, anOpenReply, beginOwed, Inbound}
 use Rattle.history_theorem.specs.Sound.{Sound}
-use Rattle.ends_theorem.specs.Ledger.{Item, items, oldest}
+use Rattle.ends_theorem.specs.Ledger.{Item, waiting, items, oldest, unacked, after}
 use Rattle.ends_theorem.specs.Matches.{itemsOf, Matches}
 use Rattle.ends_theorem.specs.Proof.{Good, holds}
+use Rattle.ends_theorem.specs.Status.{StatusIs, status-is}
 use Rattle.ends_theorem.specs.Sender.{Lent, AskedFor, sealedHeader}
 use Rattle.ends_theorem.specs.World.{Side, post, gateway, Said, Over, End, World}
-use Rattle.hosts_theorem.specs.Memory.{Incoming, Outgoing, InCall, «husk_receiving_key», «husk_receiving_remove», «husk_receiving_enable_encryption», «husk_receiving_release_application_data», «husk_receiving_begin», «husk_receiving_begin_read», «husk_receiving_read», «husk_receiving_mask», «husk_receiving_opened», «husk_receiving_read_over», «husk_receiving_mask_over», «husk_receiving_opened_over», «host_writes», OutCall, «husk_sending_key», «husk_sending_send», «husk_sending_sealed», «husk_sending_take», «husk_sending_take_in_place», «husk_flight_begin», «husk_flight_send», «husk_flight_message», «husk_flight_resend», «husk_flight_ack», «husk_notes_add», «husk_notes_send», MadeIn, MadeOut}
-use Rattle.hosts_theorem.specs.Log.{readingOf, enteredIn, Host, Act, inward, «husk_sending_sealing», outward, outwardOver, «host_seals», Made, behind}
-use Rattle.hosts_theorem.specs.Claim.{Stands, StandsIn, StandsOut, Shows, OwedIn, OwedSealing, kindOwed, OwedKind, Owed}
-use Rattle.hosts_theorem.specs.In.{long-answer, opened-answer}
+use Rattle.hosts_theorem.specs.Memory.{Incoming, Outgoing, InCall, «husk_receiving_key», «husk_receiving_remove», «husk_receiving_enable_encryption», «husk_receiving_release_application_data», «husk_receiving_begin», «husk_receiving_begin_read», «husk_receiving_read», «husk_receiving_mask», «husk_receiving_opened», «husk_receiving_read_over», «husk_receiving_mask_over», «husk_receiving_opened_over», «host_writes», OutCall, «husk_sending_key», «husk_sending_send», «husk_sending_sealed», «husk_sending_take», «husk_sending_take_in_place», «husk_flight_begin», «husk_flight_send», «husk_flight_message», «husk_flight_resend», «husk_flight_ack», «husk_notes_add», «husk_notes_send», MadeIn, MadeOut, behindOut}
+use Rattle.hosts_theorem.specs.Log.{readingOf, enteredIn, storesOf, sendOf, enteredOut, Host, Act, inward, «husk_sending_sealing», «husk_flight_status», «husk_sending_status», outward, outwardOver, «host_seals», Made, behind}
+use Rattle.hosts_theorem.specs.Claim.{Stands, StandsIn, StandsOut, Shows, removalTold, OwedIn, OwedSealing, kindOwed, OwedMore, Owed}
+use Rattle.hosts_theorem.specs.In.{long-answer, opened-answer, remove-answer}
 use Rattle.hosts_theorem.specs.Out.{out-answer, sealing-answer}
 
 -- ---- what the sealing question says: 01's header of the record that it names, or nothing
@@ -91,7 +105,7 @@ fine masks w g s = record {
 module _ (h : Incoming) (i : Inbound) (a : StandsIn h i) (z : Sound (i .into)) (sealed : ℕ → List Sealed) where
   in-owed : (c : InCall) → MadeIn h c → FineIn (enteredIn sealed i c) → OwedIn i c
   in-owed («husk_receiving_key» r v k iv) m f = f .told _ (here refl)
-  in-owed («husk_receiving_remove» r v k) m f = f .told _ (here refl)
+  in-owed («husk_receiving_remove» r v k) m f = remove-answer h i a r v k m ∙ ap removalTold (f .told _ (here refl))
   in-owed («husk_receiving_enable_encryption» r v) m f = f .told _ (here refl)
   in-owed («husk_receiving_release_application_data» r v) m f = f .told _ (here refl)
   in-owed («husk_receiving_begin» r v d) m f =
@@ -148,7 +162,7 @@ sealing-now h o g r m =
     sealing-owed (h .seen .out .ivs) r (subst Plain (sym e) (g .shown)) (h .seen .out .lent) (oldest (items (h .seen .ledger .queue))) (g .asked) (g .nonce)
     (sealing-answer (h .outgoing) (h .seen) (o .outgoing) r m)
 
--- ---- the kind of a take
+-- ---- what is told besides: the kind of a take, what an ACK leaves
 
 kind-told : (ds : List (List Queued)) (have start : ℕ)
     → (flatTake (takeTold ds have) .kind ≡ kindOwed (itemsOf ds) (flatTake (takeTold ds have) .refusal))
@@ -160,6 +174,11 @@ kind-told (d ∷ ds) have start =
     by-test P (λ t. (sym (if-false _ _ refl), sym (if-false _ _ refl)))
     (λ t. by-test P (λ u. (sym (if-false _ _ refl), sym (if-false _ _ refl))) (λ u. (sym (if-true _ _ refl), sym (if-true _ _ refl))))
 
+-- an ACK over no more saved records than a flight has is acted on
+ack-done : (f : Flight) (d : List ℕ) → f .saved ≤ 12 → isDone (acked f d .answer) ≡ true
+unfolding acked
+ack-done f d l = ap (λ (x : Acked). isDone (x .answer)) (if-false _ _ (le-ltb _ _ l))
+
 module _ (h : Outgoing) (e : End) (o : StandsOut h e) (i : Matches (e .out .stores) (e .ledger)) where
   abbrev s : Sending
   s = e .out .stores .state
@@ -170,15 +189,16 @@ module _ (h : Outgoing) (e : End) (o : StandsOut h e) (i : Matches (e .out .stor
   told-by : (have : ℕ) → takeAnswer s (length (e .out .stores .queue)) have ≡ takeTold (i .ds) have
   told-by have = take-told s (e .out .stores .queue) (i .ds) (i .holds) have
 
-  kind-owed : (c : OutCall) → MadeOut h c → OwedKind (e .ledger .queue) c
-  kind-owed («husk_sending_take» r v b c) m =
+  -- by the account behind the call too
+  more-owed : (c : OutCall) → MadeOut h c → Matches (enteredOut e h (behindOut h c) c .out .stores) (after (e .ledger) (sendOf c)) → OwedMore (e .ledger) c
+  more-owed («husk_sending_take» r v b c) m b′ =
       let a : r ≡ flatTake (takeTold (i .ds) (length b)) =
       out-answer h (o .flat) (o .flat-flight) («husk_sending_take» r v b c) m
       ∙ ap (λ (w : Stores). flatTake (takeAnswer (w .state) (length (w .queue)) (length b))) (o .stores) ∙ ap flatTake (told-by (length b)) in
       subst (λ (x : HuskTake). x .kind ≡ kindOwed (e .ledger .queue) (x .refusal)) (sym a)
       (subst (λ (q : List (List Item)). flatTake (takeTold (i .ds) (length b)) .kind ≡ kindOwed q (flatTake (takeTold (i .ds) (length b)) .refusal)) (i .queue)
       (kind-told (i .ds) (length b) start .0))
-  kind-owed («husk_sending_take_in_place» r v) m =
+  more-owed («husk_sending_take_in_place» r v) m b′ =
       let a : r ≡ flatPart (takeTold (i .ds) 65535) start =
       out-answer h (o .flat) (o .flat-flight) («husk_sending_take_in_place» r v) m
       ∙ ap (λ (w : Stores). flatPart (takeAnswer (w .state) (length (w .queue)) 65535) (w .state .queue .first * w .state .queue .mtu)) (o .stores)
@@ -186,22 +206,60 @@ module _ (h : Outgoing) (e : End) (o : StandsOut h e) (i : Matches (e .out .stor
       subst (λ (x : HuskPart). x .kind ≡ kindOwed (e .ledger .queue) (x .refusal)) (sym a)
       (subst (λ (q : List (List Item)). flatPart (takeTold (i .ds) 65535) start .kind ≡ kindOwed q (flatPart (takeTold (i .ds) 65535) start .refusal)) (i .queue)
       (kind-told (i .ds) 65535 start .1))
-  kind-owed («husk_sending_key» r v u iv) m = tt
-  kind-owed («husk_sending_send» r v u t z p) m = tt
-  kind-owed («husk_sending_sealed» r v len n₀ n₁ p) m = tt
-  kind-owed («husk_flight_begin» r k) m = tt
-  kind-owed («husk_flight_send» r v k l u t z p j) m = tt
-  kind-owed («husk_flight_message» r v k l t z p j) m = tt
-  kind-owed («husk_flight_resend» r v k l p) m = tt
-  kind-owed («husk_flight_ack» r k l z) m = tt
-  kind-owed («husk_notes_add» r y₀ y₁ y₂ u n) m = tt
-  kind-owed («husk_notes_send» r v y₀ y₁ y₂ p) m = tt
+  more-owed («husk_sending_key» r v u iv) m b′ = tt
+  more-owed («husk_sending_send» r v u t z p) m b′ = tt
+  more-owed («husk_sending_sealed» r v len n₀ n₁ p) m b′ = tt
+  more-owed («husk_flight_begin» r k) m b′ = tt
+  more-owed («husk_flight_send» r v k l u t z p j) m b′ = tt
+  more-owed («husk_flight_message» r v k l t z p j) m b′ = tt
+  more-owed («husk_flight_resend» r v k l p) m b′ = tt
+  more-owed («husk_flight_ack» r k l z) m b′ =
+      let was = status-is (e .out .stores) (e .ledger) i in
+      let is = status-is (storesOf (behindOut h («husk_flight_ack» r k l z))) (after (e .ledger) (ack· z)) b′ in
+      let now : flightOf k l ≡ acked (flightOf (h .flight) (h .numbers)) z .flight = m .1 ∙ if-true _ _ (o .flat-flight) in
+      let few : flightOf (h .flight) (h .numbers) .saved ≤ 12 = omega (arith, was .few, ap (λ (w : Stores). w .flight .saved) (o .stores)) in
+      let a : r ≡ leftBehind (newlyMarked (flightOf (h .flight) (h .numbers)) z) (flightOf k l) =
+      out-answer h (o .flat) (o .flat-flight) («husk_flight_ack» r k l z) m ∙ if-true _ _ (ack-done (flightOf (h .flight) (h .numbers)) z few)
+      ∙ ap (leftBehind (newlyMarked (flightOf (h .flight) (h .numbers)) z)) (sym now) in
+      (ap (λ (x : HuskAcked). x .unacknowledged) a ∙ is .unacked, ap (λ (x : HuskAcked). x .saved) a ∙ is .saved)
+  more-owed («husk_notes_add» r y₀ y₁ y₂ u n) m b′ = tt
+  more-owed («husk_notes_send» r v y₀ y₁ y₂ p) m b′ = tt
+
+-- ---- what only asks
+
+module _ (h : Outgoing) (e : End) (o : StandsOut h e) (i : Matches (e .out .stores) (e .ledger)) where
+  -- what the account has
+  abbrev is : StatusIs (e .out .stores) (e .ledger)
+  is = status-is (e .out .stores) (e .ledger) i
+
+  -- the definition's answer: the saved count is in its range
+  pub saved-answer : (r : HuskSaved) → status.FlightStatusCall r (h .flight) → r ≡ status.savedOf (storesOf h .flight)
+  saved-answer r m =
+      let few : storesOf h .flight .saved ≤ 12 = omega (arith, is .few, ap (λ (w : Stores). w .flight .saved) (o .stores)) in
+      m (h .numbers) ∙ if-true _ _ (both-true (o .flat-flight) ∙ le-leb _ _ few)
+
+  -- and the ring in its
+  pub queued-answer : (r : HuskQueued) → status.SendingStatusCall r (h .words) → r ≡ status.queuedOf (storesOf h .state)
+  queued-answer r m = m ∙ if-true _ _ (both-true (o .flat) ∙ ap (λ (w : Stores). isSound (w .state .queue)) (o .stores) ∙ is .sound)
+
+  -- and the account's
+  saved-owed : (r : HuskSaved) → status.FlightStatusCall r (h .flight) → r ≡ record { refusal = 0; saved = length (e .ledger .saved); unacknowledged = unacked (e .ledger .saved) }
+  saved-owed r m =
+      saved-answer r m ∙ ap (λ (w : Stores). status.savedOf (w .flight)) (o .stores) ∙ (λ j. record { refusal = 0; saved = is .saved j; unacknowledged = is .unacked j })
+
+  -- no more wait than a word can tell
+  queued-owed : (r : HuskQueued) → status.SendingStatusCall r (h .words) → r ≡ record { refusal = 0; queued = length (e .ledger .queue); waiting = waiting (items (e .ledger .queue)) }
+  queued-owed r m =
+      let w : min (toSeal (e .out .stores .state)) status.most ≡ waiting (items (e .ledger .queue)) = omega (arith, is .to-seal, is .most) in
+      queued-answer r m ∙ ap (λ (w : Stores). status.queuedOf (w .state)) (o .stores) ∙ (λ j. record { refusal = 0; queued = is .queued j; waiting = w j })
 
 -- ---- every call: g holds of the log before it, k of the log behind it
 
 pub owed-now : (f h : Host) → Stands h → Sound (h .seen .into .into) → Fine (h .seen) → (a : Act) → Made h a → Fine (behind f h a .seen) → Owed h a
 owed-now f h o z g (inward c) m k = in-owed (h .incoming) (h .seen .into) (o .incoming) z (f .seen .out .sealed) c m (k .into)
 owed-now f h o z g («husk_sending_sealing» r) m k = sealing-now h o g r m
-owed-now f h o z g (outward c) m k = (k .said _ (here refl), kind-owed (h .outgoing) (h .seen) (o .outgoing) (g .matches) c m)
+owed-now f h o z g («husk_flight_status» r) m k = saved-owed (h .outgoing) (h .seen) (o .outgoing) (g .matches) r m
+owed-now f h o z g («husk_sending_status» r) m k = queued-owed (h .outgoing) (h .seen) (o .outgoing) (g .matches) r m
+owed-now f h o z g (outward c) m k = (k .said _ (here refl), more-owed (h .outgoing) (h .seen) (o .outgoing) (g .matches) c m (k .matches))
 owed-now f h o z g (outwardOver c q j) m k = (k .said _ (here refl), k .overs _ (here refl) .0, k .overs _ (here refl) .1)
 owed-now f h o z g («host_seals» r bytes) m k = sealing-now h o g r (m .0)

@@ -1,7 +1,7 @@
 -- Every list of calls of the C library is a list of events of the claim, and the hosts saw the world that it leads to. Assumes nothing.
 use Prim.Native.Nat.{ℕ, suc, _+_, _≤_, _<_}
 use lib.Dec.{leb, ltb}
-use lib.ListN.{length, replicate}
+use lib.ListN.{length}
 use mathlib.Core.Bool.{Bool, true, false}
 use mathlib.Core.List.{List, [], _∷_, _++_}
 use mathlib.Core.Option.{none}
@@ -9,8 +9,6 @@ use mathlib.Core.Path.{_≡_, refl, sym, ap, subst, _∙_}
 use Rattle.base.specs.Choose.{choose, by-test, if-false}
 use Rattle.outgoing.specs.State.{started, freshSending, noWaiting}
 use Rattle.outgoing.specs.declared.Sending.{Sending}
-use Rattle.acks.specs.Acks.{freshNotes}
-use Rattle.ack_calls.specs.Calls as acks
 use Rattle.recv_calls.specs.Flat.{openingOf}
 use Rattle.sealing.specs.Sealing.{questionOf}
 use Rattle.sealing.specs.declared.Question as asked
@@ -23,16 +21,17 @@ use Rattle.history_theorem.specs.Sound.{Sound}
 use Rattle.ends_theorem.specs.Claim.{Holds, Startable}
 use Rattle.ends_theorem.specs.Every.{every-does}
 use Rattle.ends_theorem.specs.Ledger.{applicationData, lastNumber, owed}
+use Rattle.ends_theorem.specs.Matches.{Matches}
 use Rattle.ends_theorem.specs.Proof.{Good, run-keeps, new-good, every-list, stop-order-sent as stop-order}
 use Rattle.ends_theorem.specs.Sender as world
 use Rattle.ends_theorem.specs.Sender.{lentBy}
 use Rattle.ends_theorem.specs.Starting.{sending-starts, receiving-starts}
 use Rattle.ends_theorem.specs.World.{Side, post, gateway, far, Count, End, Deed, Event, World, takesIn, acts, step, run, Setting, fresh-pair, FairDeed, Honest}
 use Rattle.hosts_theorem.specs.Memory.{InCall, «husk_receiving_key», «husk_receiving_remove», «husk_receiving_enable_encryption», «husk_receiving_release_application_data», «husk_receiving_begin», «husk_receiving_begin_read», «husk_receiving_read», «husk_receiving_mask», «husk_receiving_opened», «husk_receiving_read_over», «husk_receiving_mask_over», «husk_receiving_opened_over», «host_writes», «husk_sending_send», MadeOut, lends}
-use Rattle.hosts_theorem.specs.Log.{sendOf, count, countsTo, Host, Act, inward, «husk_sending_sealing», outward, outwardOver, «host_seals», Made, behind}
+use Rattle.hosts_theorem.specs.Log.{sendOf, count, countsTo, Host, Act, inward, «husk_sending_sealing», «husk_flight_status», «husk_sending_status», outward, outwardOver, «host_seals», Made, behind}
 use Rattle.hosts_theorem.specs.Claim.{Hosts, CCall, after, runs, AllMade, Stands, Started, callsOf, hearing, deedsOf, at, eventsOf, Answered, AllAnswered, Owed, AllOwed, FairDeeds, AllFair, sightOf, EveryListOfCalls}
 use Rattle.hosts_theorem.specs.In.{doesAll, in-square, in-stands, in-answer}
-use Rattle.hosts_theorem.specs.Owed.{fine, owed-now}
+use Rattle.hosts_theorem.specs.Owed.{fine, saved-answer, queued-answer, owed-now}
 use Rattle.hosts_theorem.specs.Out.{shows-now, out-reply, sealing-answer, out-answer, out-square, out-stands, over-square, over-stands, fill-square, fill-stands}
 
 -- ---- some deeds at one end
@@ -123,6 +122,8 @@ module _ (masks : Side → Masks) where
     fair : (a : Act) → FairDeeds masks s f e (deedsOf a) → FairAll s f e (deedsOf a)
     fair (inward c) g = fair-heard c g
     fair («husk_sending_sealing» r) g = g
+    fair («husk_flight_status» r) g = g
+    fair («husk_sending_status» r) g = g
     fair (outward c) g = g
     fair (outwardOver c q k) g = g
     fair («host_seals» r bytes) g = g
@@ -133,6 +134,8 @@ module _ (masks : Side → Masks) where
   abbrev Owes : End → Act → Type 0
   Owes e (inward c) = Unit {0}
   Owes e («husk_sending_sealing» r) = Unit {0}
+  Owes e («husk_flight_status» r) = Unit {0}
+  Owes e («husk_sending_status» r) = Unit {0}
   Owes e (outward c) = answered (e .out .stores) (sendOf c) ≡ owed (e .ledger) (sendOf c)
   Owes e (outwardOver c q k) = Unit {0}
   Owes e («host_seals» r bytes) = Unit {0}
@@ -140,6 +143,8 @@ module _ (masks : Side → Masks) where
   owes : (w : World) → Good masks w → (s : Side) (a : Act) → FairDeeds masks s (w (far s)) (w s) (deedsOf a) → Owes (w s) a
   owes w g s (inward c) h = tt
   owes w g s («husk_sending_sealing» r) h = tt
+  owes w g s («husk_flight_status» r) h = tt
+  owes w g s («husk_sending_status» r) h = tt
   owes w g s (outward c) h = every-does (masks s) (w s .out) (w s .ledger) (sendOf c) (g .matches s) (h .0 .0) .reply
   owes w g s (outwardOver c q k) h = tt
   owes w g s («host_seals» r bytes) h = tt
@@ -150,6 +155,8 @@ module _ (masks : Side → Masks) where
         ap (λ (i : Inbound). takesIn (h .seen) i (countsTo (h .seen) c)) (in-square (h .incoming) (h .seen .into) (o .incoming) (f .seen .out .sealed) z c m)
         ∙ heard-as (f .seen) (h .seen) c
     square z («husk_sending_sealing» r) m d = refl
+    square z («husk_flight_status» r) m d = refl
+    square z («husk_sending_status» r) m d = refl
     square z (outward c) m d = out-square (h .outgoing) (h .seen) (o .outgoing) (f .seen) c m d
     square z (outwardOver c q k) m d = over-square (h .outgoing) (h .seen) (o .outgoing) c q k m (f .seen)
     square z («host_seals» r bytes) m d = fill-square (h .outgoing) (h .seen) (o .outgoing) r bytes (m .0) (m .1) (m .2) (f .seen)
@@ -160,16 +167,20 @@ module _ (masks : Side → Masks) where
       outgoing = record { flat = o .outgoing .flat; flat-flight = o .outgoing .flat-flight; stores = o .outgoing .stores; shown = o .outgoing .shown };
     }
     stands-on («husk_sending_sealing» r) m = o
+    stands-on («husk_flight_status» r) m = o
+    stands-on («husk_sending_status» r) m = o
     stands-on (outward c) m = record { incoming = o .incoming; outgoing = out-stands (h .outgoing) (h .seen) (o .outgoing) c m }
     stands-on (outwardOver c q k) m = record { incoming = o .incoming; outgoing = over-stands (h .outgoing) (h .seen) (o .outgoing) c q k m }
     stands-on («host_seals» r bytes) m = record { incoming = o .incoming; outgoing = fill-stands (h .outgoing) (h .seen) (o .outgoing) r bytes (m .0) (m .1) (m .2) }
 
-    answer : (a : Act) → Made h a → Answered h a
-    answer (inward c) m = in-answer (h .incoming) (h .seen .into) (o .incoming) c m
-    answer («husk_sending_sealing» r) m = sealing-answer (h .outgoing) (h .seen) (o .outgoing) r m
-    answer (outward c) m = out-answer (h .outgoing) (o .outgoing .flat) (o .outgoing .flat-flight) c m
-    answer (outwardOver c q k) m = out-answer (lends (h .outgoing) q k) (o .outgoing .flat) (o .outgoing .flat-flight) c m
-    answer («host_seals» r bytes) m = sealing-answer (h .outgoing) (h .seen) (o .outgoing) r (m .0)
+    answer : Matches (h .seen .out .stores) (h .seen .ledger) → (a : Act) → Made h a → Answered h a
+    answer i (inward c) m = in-answer (h .incoming) (h .seen .into) (o .incoming) c m
+    answer i («husk_sending_sealing» r) m = sealing-answer (h .outgoing) (h .seen) (o .outgoing) r m
+    answer i («husk_flight_status» r) m = saved-answer (h .outgoing) (h .seen) (o .outgoing) i r m
+    answer i («husk_sending_status» r) m = queued-answer (h .outgoing) (h .seen) (o .outgoing) i r m
+    answer i (outward c) m = out-answer (h .outgoing) (o .outgoing .flat) (o .outgoing .flat-flight) c m
+    answer i (outwardOver c q k) m = out-answer (lends (h .outgoing) q k) (o .outgoing .flat) (o .outgoing .flat-flight) c m
+    answer i («host_seals» r bytes) m = sealing-answer (h .outgoing) (h .seen) (o .outgoing) r (m .0)
 
   -- ---- one call at one of two
 
@@ -216,7 +227,7 @@ module _ (masks : Side → Masks) where
         honest = honest-both w us (eventsOf cs) one (subst (λ (v : World). Honest masks v (eventsOf cs)) seen (rest .honest));
         agrees = rest .agrees ∙ ap (λ (v : World). run v (eventsOf cs)) seen ∙ sym (run-both w us (eventsOf cs));
         stands = rest .stands;
-        answered = (answer (hs (far s)) (hs s) (o s) (c .act) (m .0), rest .answered);
+        answered = (answer (hs (far s)) (hs s) (o s) (g .matches s) (c .act) (m .0), rest .answered);
         owed = (owed-on hs o g s (c .act) (m .0) good, rest .owed);
       }
 
@@ -238,10 +249,6 @@ fresh-state : (mtu limit : ℕ) → started mtu limit .state ≡ freshSending mt
 unfolding started
 fresh-state mtu limit = refl
 
-fresh-notes : acks.notesOf (replicate 1 0) (replicate 32 0) (replicate 32 0) ≡ freshNotes
-unfolding freshNotes
-fresh-notes = refl
-
 -- a fresh state asks nothing
 fresh-lent : (mtu limit : ℕ) (q : List ℕ) → none ≡ world.lends (freshSending mtu limit) q none
 unfolding world.lends questionOf freshSending noWaiting
@@ -254,9 +261,7 @@ fresh-lent mtu limit q =
 starts : (s : Setting) (h : Host) → Started s h → Stands h
 starts s h t =
     let e = sym (t .seen) in
-    let z = t .sending .1 ∙ fresh-state (s .mtu) (s .limit) in
-    let n : acks.notesOf (h .outgoing .count) (h .outgoing .epochs) (h .outgoing .noted) ≡ freshNotes =
-    (λ i. acks.notesOf (t .count i) (t .epochs i) (t .noted i)) ∙ fresh-notes in record {
+    let z = t .sending .1 ∙ fresh-state (s .mtu) (s .limit) in record {
       incoming = record {
         flat = t .receiving .2;
         state = t .receiving .1 ∙ ap (λ (x : End). x .into .into .state) e;
@@ -265,7 +270,7 @@ starts s h t =
       outgoing = record {
         flat = t .sending .2;
         flat-flight = t .flight .1;
-        stores = (λ i. record { state = z i; queue = t .queue i; flight = t .flight .0 i; kept = t .kept i; notes = n i }) ∙ ap (λ (x : End). x .out .stores) e;
+        stores = (λ i. record { state = z i; queue = t .queue i; flight = t .flight .0 i; kept = t .kept i; notes = t .notes i }) ∙ ap (λ (x : End). x .out .stores) e;
         shown = (
           none,
           sym (ap (λ (x : End). x .out .lent) e) ∙ fresh-lent (s .mtu) (s .limit) (h .outgoing .queue)

@@ -1,4 +1,4 @@
--- Hosts that start: for every setting in range the words that the three starting calls leave, so that the claim is not hollow. Assumes nothing.
+-- Hosts that start: for every setting in range the words that the four starting calls leave, so that the claim is not hollow. Assumes nothing.
 use Prim.Native.Nat.{ℕ, _≤_}
 use borrow.Author.Tests.{le-ltb}
 use lib.ListN.{replicate, set}
@@ -15,6 +15,8 @@ use Rattle.send_words.specs.Words.{words, mtu-at, limit-at}
 use Rattle.send_calls.specs.Calls.{starts-done}
 use Rattle.flight_words.specs.Words as flightWords
 use Rattle.flight_calls.specs.Calls as flights
+use Rattle.acks.specs.Acks.{freshNotes}
+use Rattle.ack_calls.specs.Calls as acks
 use Rattle.ends_theorem.specs.Claim.{Startable}
 use Rattle.ends_theorem.specs.Starting.{ranges-setting}
 use Rattle.ends_theorem.specs.World.{Setting, newEnd}
@@ -46,6 +48,11 @@ fresh-is : (min : ℕ) → min ≤ 17 → freshOf min ≡ made answers.Done (fre
 unfolding freshOf
 fresh-is min h = if-false _ _ (le-ltb 17 min h)
 
+-- zeros are the notes that husk_notes_init leaves
+fresh-notes : acks.FreshNotesCall (acks.notesOf (replicate 1 0) (replicate 32 0) (replicate 32 0))
+unfolding freshNotes
+fresh-notes = refl
+
 pub starts : (s : Setting) → Startable s → Started s (firstHost s)
 starts s o = record {
   receiving = starts-as (s .min) (freshWords (s .min)) answers.Done (freshOf (s .min)) refl (fresh-is (s .min) (o .min));
@@ -55,8 +62,6 @@ starts s o = record {
   room = o .room;
   flight = flights.starts;
   kept = refl;
-  count = refl;
-  epochs = refl;
-  noted = refl;
+  notes = fresh-notes;
   seen = refl;
 }
