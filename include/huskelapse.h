@@ -11,11 +11,12 @@
  * `refusal`, 0 where nothing is refused. A refused call leaves every buffer, and words that calls made, as they are, but for the _init
  * calls, which begin them; words that no call made it may write anew with the same meaning.
  *
- * What 12 covers: a setting outside its range; words that are no state (a flag above 1; more epochs, datagrams, saved or noted records
- * than there can be; a place or a length beyond the datagram or the slot; a window, an opening question or the oldest sealing with a
- * number above 2^48 - 1); a queue under limit times mtu bytes, a flight's memory under 12 times mtu bytes. What 12 does not cover: whether
- * words are those that the last call at this end left, whether a buffer is the one lent before, a next number to send that is too high
- * (20), epochs and the message number (read modulo 65,536), and words that a call does not use.
+ * What 12 covers: a setting outside its range; words that are no state; a queue under limit times mtu bytes, a flight's memory under 12
+ * times mtu bytes; an opening reply above 1. Words are no state with a flag above 1; with more epochs, datagrams, readings, saved or noted
+ * records than there can be; with a cursor, a question or a sealing that reaches beyond the datagram or its slot; with a question of no
+ * kind or under an epoch that is not keyed; with a window or an opening question above number 2^48 - 1, or a sealing above 2^48 - 2. What
+ * 12 does not cover: whether words are those that the last call at this end left, whether a buffer is the one lent before, a next number
+ * to send that is too high (20), epochs and the message number (read modulo 65,536), and words that a call does not use.
  *
  * Refusals are listed with each call in the order in which they are tested; docs/SPECIFICATION.md has every test. */
 #ifndef HUSKELAPSE_H
