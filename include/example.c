@@ -1,4 +1,4 @@
-/* The two examples of README.md, run: include/check cuts them out as reading.inc and sending.inc. The cipher is a toy, which seals nothing
+/* The two examples in C, run: reading.inc reads a datagram, sending.inc sends a record (include/example cuts them out of README.md). The cipher is a toy, which seals nothing
  * from anyone, and ends the program where it is asked without end.
  *
  * Exit status: 0 both do what README says; 1 one does not. */
@@ -16,11 +16,12 @@ static unsigned questions, used;
 static const char *told;
 /* What the cipher answers where the tag is wrong: 0, or what is left of a -1. */
 static uint8_t wrong_tag = 0;
+static int seal_fails = 0;
 
 static void need(int holds, const char *what)
 {
     if (!holds) {
-        fprintf(stderr, "include/check: %s\n", what);
+        fprintf(stderr, "example: %s\n", what);
         exit(1);
     }
 }
@@ -68,12 +69,15 @@ static uint8_t open_in_place(uint16_t epoch, const uint8_t *nonce, uint8_t *head
     return 1;
 }
 
-static void seal_in_place(uint16_t epoch, const uint8_t *nonce, const uint8_t *header, size_t header_len, uint8_t *part, size_t length)
+static int seal_in_place(uint16_t epoch, const uint8_t *nonce, const uint8_t *header, size_t header_len, uint8_t *part, size_t length)
 {
     size_t n = length - HUSK_TAG;
     need(epoch == 3, "a sealing of another epoch");
+    if (seal_fails)
+        return 0;
     turn(part, n, nonce);
     tag_of(nonce, header, header_len, part, n, part + n);
+    return 1;
 }
 
 /* ---- the host */
@@ -94,10 +98,13 @@ static void read_example(uint8_t *d, size_t n)
 #include "reading.inc"
 }
 
+/* The bytes of the datagram; none where it cannot be taken. */
 static size_t send_example(const uint8_t *content, size_t n, uint8_t out[ROOM])
 {
 #include "sending.inc"
-    need(t.kind == HUSK_TAKE_TAKEN && t.length <= ROOM, "no datagram");
+    need(t.kind == (seal_fails ? HUSK_TAKE_REFUSED : HUSK_TAKE_TAKEN), "a datagram that is not sealed goes out, or one that is does not");
+    if (t.kind == HUSK_TAKE_REFUSED)
+        return 0;
     memcpy(out, datagram, t.length);
     return t.length;
 }
@@ -125,5 +132,7 @@ int main(void)
         check_reading(d, n, at, 0x40, 0, NULL);
     wrong_tag = 255;
     check_reading(d, n, n - 1, 0x40, 0, husk_refusal_text(HUSK_OUT_OF_RANGE));
+    seal_fails = 1;
+    need(send_example(text, sizeof text, d) == 0, "a record that could not be sealed goes out");
     return 0;
 }

@@ -1,6 +1,6 @@
 /* The record layer of DTLS 1.3 (RFC 9147) for charging posts and gateways, proved: the C interface of libhuskelapse.a.
  *
- * Plain functions over memory that the host lends: no allocation, no global state, no thread, and nothing asked of the caller but that
+ * Plain functions (C99 and later, C++) over memory that the host lends: no allocation, no global state, no thread, and nothing asked of the caller but that
  * each pointer leads to what its type or the length beside it says, and that no two of them overlap. A state is words whose meaning the
  * library keeps. Whatever stands in them, a call ends with an answer. The host keeps keys, cipher, timers and sockets.
  *
@@ -130,9 +130,10 @@ enum {
     HUSK_READING_UNOPENED = 4,  /* before peer encryption: epoch (its two bits), number (its bytes as they lie, masked); protected part
                                    at start, length bytes */
     HUSK_READING_OPENED = 5,    /* epoch, number, content_type; content at start, length bytes */
-    HUSK_READING_MASK = 6,      /* asked: the mask by the number key of epoch of the 16 bytes at start (length is 16) */
+    HUSK_READING_MASK = 6,      /* asked: the mask by the number key of epoch of the 16 bytes at start (length is 16): RFC 9147, 4.2.3,
+                                   the block of AES-ECB of these bytes, or of ChaCha20 with the first 4 as counter and 12 as nonce */
     HUSK_READING_OPENING = 7    /* asked: the opening for epoch and number under nonce; header at start, header_len bytes (its number
-                                   unmasked), behind it the protected part, length bytes */
+                                   unmasked), the additional data of the AEAD; behind it the protected part, length bytes */
 };
 
 /* What a call says of the record at the cursor. Fields that a kind does not use are zeros. */
@@ -153,9 +154,11 @@ uint8_t husk_receiving_key(HuskReceiving *s, uint16_t epoch, const uint8_t iv[12
 /* Removes an epoch that is keyed. told is 1 where a question waited under it: its record is dropped, and the cut goes on behind it.
  * Refused by 12, 13. */
 HuskTold husk_receiving_remove(HuskReceiving *s, uint16_t epoch);
-/* From the next record read on sealed records are opened. This is not undone. Refused by 12. */
+/* From the next record read on sealed records are opened. This is not undone. Plaintext records are handed over as before, and anyone can
+ * have written them: a host acts on none of them then. Refused by 12. */
 uint8_t husk_receiving_enable_encryption(HuskReceiving *s);
-/* From the next record read on epoch bits 2 mean an application epoch before they mean epoch 2. This is not undone. Refused by 12. */
+/* From the next record read on epoch bits 2 mean an application epoch (6, 10, ..) before they mean epoch 2. It holds no data back or lets
+ * it go: records of application epochs are handed over as soon as these are keyed. This is not undone. Refused by 12. */
 uint8_t husk_receiving_release_application_data(HuskReceiving *s);
 
 /* One record after the other: read; where asked, mask; where asked, opened. The same datagram, of the length begun, goes into each
@@ -183,8 +186,10 @@ typedef struct {
     uint64_t word[39];
 } HuskSending;
 
-/* The flight: twelve saved records, and 32 remembered numbers for each. The contents are in a buffer of the host with at least 12 times
- * mtu bytes, the same in every call. */
+/* The flight: twelve saved records, and for handshake records of epoch 2 and above 32 earlier numbers each, by which an ACK may still
+ * name them. Any other record is known by its last number alone: an ACK of an earlier sending marks nothing, so the time between two
+ * resends has to be longer than a round trip. Each sending is a record of its own; a receiver may get the content twice. The contents are
+ * in a buffer of the host with at least 12 times mtu bytes, the same in every call. */
 typedef struct {
     uint64_t word[73], numbers[384];
 } HuskFlight;
@@ -197,7 +202,7 @@ typedef struct {
 enum {
     HUSK_SEALING_REFUSED = 0, /* refusal 12 */
     HUSK_SEALING_NONE = 1,    /* none waits */
-    HUSK_SEALING_SEAL = 2     /* seal length bytes of the queue from start on, for epoch and number under nonce, header beside them */
+    HUSK_SEALING_SEAL = 2     /* seal length bytes of the queue from start on, for epoch and number under nonce, header as additional data */
 };
 
 /* The part to seal is the content, its type and room for the tag of 16. The header has 5 bytes; with connection IDs it will have up to
@@ -242,7 +247,9 @@ uint8_t husk_sending_key(HuskSending *s, uint16_t epoch, const uint8_t iv[12]);
 /* A record that is not saved: in plaintext in epoch 0, else to be sealed. Refused by 12, 13, 14, 17, 19, 20. */
 uint8_t husk_sending_send(HuskSending *s, uint16_t epoch, uint8_t content_type, const uint8_t *content, size_t content_len,
     uint8_t *queue, size_t queue_len);
-/* The oldest sealing that waits; the host seals it in place in the queue, then says so. Refused by 12. */
+/* The oldest sealing that waits; the host seals it in place in the queue, then says so, until HUSK_SEALING_NONE. Where the cipher fails,
+ * do not reply and do not seal that part again: a reply would let the text out readable, and a second sealing under one nonce gives it
+ * back. Datagrams before it can still be taken; then a new sending side, with new keys, takes the place of this one. Refused by 12. */
 HuskSealing husk_sending_sealing(const HuskSending *s);
 /* The front datagram, copied to the start of a buffer. Refused by 12, 23, 16. */
 HuskTake husk_sending_take(HuskSending *s, uint8_t *buffer, size_t buffer_len, const uint8_t *queue, size_t queue_len);
@@ -303,14 +310,16 @@ static inline uint8_t husk_flight_begin(HuskFlight *f, HuskSending *s) {
     return husk_flight_begin_words(f->word);
 }
 
-/* A record sent and saved. Refused by 12, 13, 14, 17, 18, 19, 20. */
+/* A record sent and saved. A flight without records of epoch 2 is not emptied by ACKs: begin it anew once none is unacknowledged. Refused
+ * by 12, 13, 14, 17, 18, 19, 20. */
 static inline uint8_t husk_flight_send(HuskFlight *f, HuskSending *s, uint16_t epoch, uint8_t content_type, const uint8_t *content,
     size_t content_len, uint8_t *queue, size_t queue_len, uint8_t *kept, size_t kept_len) {
     return husk_flight_send_words(s, f->word, f->numbers, epoch, content_type, content, content_len, queue, queue_len, kept, kept_len);
 }
 
 /* A handshake message of a type, cut, sent and saved, wholly or not at all: ClientHello (1) and ServerHello (2) in epoch 0, others in
- * epoch 2. Refused by 12, 14, 17, 21, 18, 19, 20. */
+ * epoch 2, NewSessionTicket and KeyUpdate too (docs/DIFFERENCES.md 43). A message that needs more datagrams than limit is 19 however many
+ * are taken. Refused by 12, 14, 17, 21, 18, 19, 20. */
 static inline uint8_t husk_flight_message(HuskFlight *f, HuskSending *s, uint8_t msg_type, const uint8_t *body, size_t body_len,
     uint8_t *queue, size_t queue_len, uint8_t *kept, size_t kept_len) {
     return husk_flight_message_words(s, f->word, f->numbers, msg_type, body, body_len, queue, queue_len, kept, kept_len);
@@ -323,15 +332,16 @@ static inline HuskTold husk_flight_resend(HuskFlight *f, HuskSending *s, const u
     return husk_flight_resend_words(s, f->word, f->numbers, kept, kept_len, queue, queue_len);
 }
 
-/* Acts on an ACK with this content: marks the saved records that it names. The flight empties if it has records of epoch 2 and all of
- * these are marked. A content without the form of an ACK marks nothing and is not refused. s is not used until the release in which
- * keys are renewed. Refused by 12. */
+/* Acts on an ACK with this content, of a reading HUSK_READING_OPENED of type HUSK_ACK and no other: anyone can write a plaintext one. It
+ * marks the saved records that it names. The flight empties if it has records of epoch 2 and all of these are marked, and records of other
+ * epochs go with it, acknowledged or not: save those in a flight of their own. A content without the form of an ACK marks nothing and is
+ * not refused. s is not used until the release in which keys are renewed. Refused by 12. */
 static inline HuskAcked husk_flight_ack(HuskFlight *f, HuskSending *s, const uint8_t *content, size_t content_len) {
     (void)s;
     return husk_flight_ack_words(f->word, f->numbers, content, content_len);
 }
 
-/* What is saved and not acknowledged. Refused by 12. */
+/* What is saved and not acknowledged: with 0 unacknowledged a retransmission timer can stop. Refused by 12. */
 static inline HuskSaved husk_flight_status(const HuskFlight *f) {
     return husk_flight_status_words(f->word);
 }
@@ -348,8 +358,9 @@ static inline HuskTold husk_notes_add(HuskNotes *n, uint64_t epoch, uint64_t num
     return husk_notes_add_words(n->count, n->epochs, n->numbers, epoch, number);
 }
 
-/* The ACK of all that is noted, sent in the application epoch if keyed, else in 2; then nothing is noted. told is 1, or 0 where nothing
- * was noted and nothing is sent. Refused by 12, 17, 19, 20 (and 13 from words that no call made). */
+/* The ACK of all that is noted, sent in the application epoch if keyed, else in 2; then nothing is noted. A far end that has no keys yet
+ * for that application epoch drops it: key it to send when the far end can read it, or send the ACK with husk_sending_send in epoch 2.
+ * told is 1, or 0 where nothing was noted and nothing is sent. Refused by 12, 17, 19, 20 (and 13 from words that no call made). */
 static inline HuskTold husk_notes_send(HuskNotes *n, HuskSending *s, uint8_t *queue, size_t queue_len) {
     return husk_notes_send_words(s, n->count, n->epochs, n->numbers, queue, queue_len);
 }

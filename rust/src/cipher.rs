@@ -17,11 +17,11 @@ pub trait Cipher {
     /// record is not sealed ([`SealFailed`](crate::SealFailed)).
     fn mask(&mut self, epoch: u16, sample: &[u8; 16]) -> Result<[u8; 2], CipherError>;
 
-    /// Opens `part`, ciphertext and tag, in place under `nonce` with `header` beside it. If the tag is right the plaintext is at the
+    /// Opens `part`, ciphertext and tag, in place under `nonce` with `header` as additional data. If the tag is right the plaintext is at the
     /// start of `part`, 16 bytes fewer, and the answer is true. Else it is false, and what stands in `part` does not matter.
     fn open(&mut self, epoch: u16, number: u64, nonce: &[u8; 12], header: &[u8], part: &mut [u8]) -> bool;
 
-    /// Seals `part` in place under `nonce` with `header` beside it: all but its last 16 bytes are plaintext, the tag goes there.
+    /// Seals `part` in place under `nonce` with `header` as additional data: all but its last 16 bytes are plaintext, the tag goes there.
     ///
     /// # Errors
     ///

@@ -8,7 +8,8 @@ use crate::{CipherError, Refusal};
 /// The record is not sealed a second time. To seal twice under one nonce tells what the two plaintexts have in common, and with a
 /// stream cipher the second sealing can give back the plaintext of the first. So the datagram with the record stays in the sender, and
 /// those behind it. What to do: take the datagrams before it, drop the sender, and make a new one with new keys, as it counts from 0
-/// again.
+/// again. The flight, the notes and the count of handshake messages go with the old sender; until then it still queues records, which
+/// never leave, and keying another application epoch is refused with [`Refusal::Waiting`] (23).
 ///
 /// ```
 /// use huskelapse::{content_type, Cipher, CipherError, Error, Sender};

@@ -83,12 +83,14 @@ impl Receiver {
         Refusal::answer(answer.refusal, answer.told == 1)
     }
 
-    /// From now on sealed records are opened. This is not undone.
+    /// From now on sealed records are opened. This is not undone. Records in plaintext are handed over as before, and anyone can have
+    /// written them: act on none of them then.
     pub fn enable_peer_encryption(&mut self) {
         Refusal::never(self.state.enable_encryption());
     }
 
-    /// From now on epoch bits 2 mean an application epoch before they mean epoch 2. This is not undone.
+    /// From now on epoch bits 2 mean an application epoch (6, 10, ..) before they mean epoch 2. It neither holds data back nor lets it go:
+    /// records of application epochs are handed over as soon as these are keyed. This is not undone.
     pub fn release_application_data(&mut self) {
         Refusal::never(self.state.release_application_data());
     }

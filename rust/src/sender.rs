@@ -225,7 +225,8 @@ impl<Q: AsRef<[u8]> + AsMut<[u8]>, F: AsRef<[u8]> + AsMut<[u8]>> Sender<Q, F> {
         Refusal::done(self.state.send(epoch, content_type, content, self.queue.as_mut()))
     }
 
-    /// As [`Sender::send`], and saves the record in the flight.
+    /// As [`Sender::send`], and saves the record in the flight. A flight without records of epoch 2 is not emptied by ACKs: begin it anew
+    /// once none is unacknowledged.
     ///
     /// # Errors
     ///
@@ -236,7 +237,7 @@ impl<Q: AsRef<[u8]> + AsMut<[u8]>, F: AsRef<[u8]> + AsMut<[u8]>> Sender<Q, F> {
     }
 
     /// Queues a handshake message, cut into pieces that are saved in the flight: ClientHello (1) and ServerHello (2) in epoch 0, other
-    /// types in epoch 2.
+    /// types in epoch 2. A message that needs more datagrams than the queue's limit is refused however many are taken.
     ///
     /// # Errors
     ///
@@ -255,6 +256,10 @@ impl<Q: AsRef<[u8]> + AsMut<[u8]>, F: AsRef<[u8]> + AsMut<[u8]>> Sender<Q, F> {
     /// Queues what is saved and not acknowledged again, under new numbers and in new datagrams. The answer is how many records; with 0
     /// a retransmission timer has nothing to do.
     ///
+    /// Each sending is a record of its own, so the far end may get the content twice. Handshake records of epoch 2 and above are known
+    /// by earlier numbers too, any other record by its last one alone: the time between two resends has to be longer than a round trip,
+    /// or every ACK comes too late.
+    ///
     /// # Errors
     ///
     /// Refused with [`Refusal::BadEpoch`] (13), [`Refusal::BadRecord`] (14), [`Refusal::KeysAbsent`] (17), [`Refusal::QueueFull`] (19),
@@ -264,8 +269,9 @@ impl<Q: AsRef<[u8]> + AsMut<[u8]>, F: AsRef<[u8]> + AsMut<[u8]>> Sender<Q, F> {
         Refusal::answer(answer.refusal, answer.told.into())
     }
 
-    /// Acts on the content of an ACK that was opened: the saved records that it names are not sent again. If the flight has records of
-    /// epoch 2 and all of them are named, it is emptied. Content that has not the form of an ACK changes nothing.
+    /// Acts on the content of an ACK that was opened, never of one in plaintext: the saved records that it names are not sent again. If
+    /// the flight has records of epoch 2 and all of them are named, it is emptied, and records of other epochs go with it, acknowledged
+    /// or not: save those in a flight of their own. Content that has not the form of an ACK changes nothing.
     ///
     /// # Errors
     ///
@@ -288,7 +294,8 @@ impl<Q: AsRef<[u8]> + AsMut<[u8]>, F: AsRef<[u8]> + AsMut<[u8]>> Sender<Q, F> {
     }
 
     /// Queues an ACK of all that is noted, in the application epoch if it is keyed, else in epoch 2; then nothing is noted. False where
-    /// nothing was noted: then nothing is queued.
+    /// nothing was noted: then nothing is queued. A far end without the keys of that application epoch drops it: key it when the far end
+    /// can read it.
     ///
     /// # Errors
     ///
