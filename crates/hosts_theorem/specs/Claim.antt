@@ -29,7 +29,6 @@ use Rattle.send_words.specs.Words as sendWords
 use Rattle.flight_words.specs.Words.{flatTo}
 use Rattle.recv_calls.specs.Flat.{answerOf, bare, openingOf}
 use Rattle.answers.specs.declared.HuskTold.{HuskTold}
-use Rattle.answers.specs.Told.{tells}
 use Rattle.recv_calls.specs.Calls as receive
 use Rattle.recv_calls.specs.Removed.{removedTold}
 use Rattle.send_calls.specs.Calls as sends
@@ -46,7 +45,7 @@ use Rattle.ends_theorem.specs.Ledger.{Item, Ledger, waiting, items, oldest, una
 use Rattle.ends_theorem.specs.Sender.{Lent, sealedHeader}
 use Rattle.ends_theorem.specs.World.{Side, post, gateway, far, End, Deed, sending, over, receiving, Event, World, run, Setting, newEnd, fresh-pair, FairDeed, Honest}
 use Rattle.hosts_theorem.specs.Memory.{Incoming, Outgoing, InCall, «husk_receiving_key», «husk_receiving_remove», «husk_receiving_enable_encryption», «husk_receiving_release_application_data», «husk_receiving_begin», «husk_receiving_begin_read», «husk_receiving_read», «husk_receiving_mask», «husk_receiving_opened», «husk_receiving_read_over», «husk_receiving_mask_over», «husk_receiving_opened_over», «host_writes», OutCall, «husk_sending_key», «husk_sending_send», «husk_sending_sealed», «husk_sending_take», «husk_sending_take_in_place», «husk_flight_begin», «husk_flight_send», «husk_flight_message», «husk_flight_resend», «husk_flight_ack», «husk_notes_add», «husk_notes_send», behindOut, lends}
-use Rattle.hosts_theorem.specs.Log.{flatRead, readingOf, replyOf, Host, Act, inward, «husk_sending_sealing», «husk_flight_status», «husk_sending_status», outward, outwardOver, «host_seals», Made, behind, storesOf, sealingOf, showsNow, sendOf}
+use Rattle.hosts_theorem.specs.Log.{flatRead, readingOf, refusedTold, Whole, replyOf, Host, Act, inward, «husk_sending_sealing», «husk_flight_status», «husk_sending_status», outward, outwardOver, «host_seals», Made, behind, storesOf, sealingOf, showsNow, sendOf}
 
 -- ---- two hosts and a list of calls
 
@@ -227,24 +226,24 @@ AllAnswered hs (a ∷ cs) = Answered (hs (a .side)) (a .act) × AllAnswered (aft
 
 -- a removal is told so: 6 is no refusal, but that a record was dropped with its epoch
 abbrev pub removalTold : ℕ → HuskTold
-removalTold n = choose (eqb n 6) (tells 0 1) (tells n 0)
+removalTold n = choose (eqb n 6) (record { refusal = 0; told = 1 }) (record { refusal = n; told = 0 })
 
 -- keying, removing, peer encryption, release and beginning: the number owed; reading: as the question that waits demands; over a datagram of another
--- length: 15, and the bytes stay; a reply neither 0 nor 1: 12
+-- length: 15, and the bytes stay; a reply neither 0 nor 1: 12; every field of a reading told by the claim's own table
 abbrev pub OwedIn : Inbound → InCall → Type 0
 OwedIn i («husk_receiving_key» r v epoch iv) = r ≡ keyOwed (i .into .account) epoch
 OwedIn i («husk_receiving_remove» r v epoch) = r ≡ removalTold (removeOwed (i .into) epoch)
 OwedIn i («husk_receiving_enable_encryption» r v) = r ≡ 0
 OwedIn i («husk_receiving_release_application_data» r v) = r ≡ 0
 OwedIn i («husk_receiving_begin» r v d) = r ≡ beginOwed d
-OwedIn i («husk_receiving_begin_read» r v d) = (16384 < length d → r ≡ bare 0 1) × (length d ≤ 16384 → Proper aRead nothing (readingOf r))
-OwedIn i («husk_receiving_read» r v) = Proper aRead (i .into .account .waits) (readingOf r)
-OwedIn i («husk_receiving_mask» r v m n e) = Proper aMaskReply (i .into .account .waits) (readingOf r)
+OwedIn i («husk_receiving_begin_read» r v d) = (16384 < length d → r ≡ refusedTold 1) × (length d ≤ 16384 → Proper aRead nothing (readingOf r) × Whole r)
+OwedIn i («husk_receiving_read» r v) = Proper aRead (i .into .account .waits) (readingOf r) × Whole r
+OwedIn i («husk_receiving_mask» r v m n e) = Proper aMaskReply (i .into .account .waits) (readingOf r) × Whole r
 OwedIn i («husk_receiving_opened» r v o len) =
-    (o ≤ 1 → Proper (anOpenReply (openingOf o len)) (i .into .account .waits) (readingOf r)) × (1 < o → r ≡ bare 0 12)
-OwedIn i («husk_receiving_read_over» r v d) = readingOf r ≡ says.Reply
-OwedIn i («husk_receiving_mask_over» r v m n e d) = (readingOf r ≡ says.Reply) × (e ≡ d)
-OwedIn i («husk_receiving_opened_over» r v o len d) = (o ≤ 1 → readingOf r ≡ says.Reply) × (1 < o → r ≡ bare 0 12)
+    (o ≤ 1 → Proper (anOpenReply (openingOf o len)) (i .into .account .waits) (readingOf r)) × (1 < o → r ≡ refusedTold 12) × Whole r
+OwedIn i («husk_receiving_read_over» r v d) = (readingOf r ≡ says.Reply) × Whole r
+OwedIn i («husk_receiving_mask_over» r v m n e d) = (readingOf r ≡ says.Reply) × (e ≡ d) × Whole r
+OwedIn i («husk_receiving_opened_over» r v o len d) = (o ≤ 1 → readingOf r ≡ says.Reply) × (1 < o → r ≡ refusedTold 12) × Whole r
 -- no call
 OwedIn i («host_writes» r p) = Unit {0}
 

@@ -51,7 +51,7 @@ use Rattle.ends_theorem.specs.World.{Side, post, gateway, Said, Over, End, Worl
 use Rattle.hosts_theorem.specs.Memory.{Incoming, Outgoing, InCall, «husk_receiving_key», «husk_receiving_remove», «husk_receiving_enable_encryption», «husk_receiving_release_application_data», «husk_receiving_begin», «husk_receiving_begin_read», «husk_receiving_read», «husk_receiving_mask», «husk_receiving_opened», «husk_receiving_read_over», «husk_receiving_mask_over», «husk_receiving_opened_over», «host_writes», OutCall, «husk_sending_key», «husk_sending_send», «husk_sending_sealed», «husk_sending_take», «husk_sending_take_in_place», «husk_flight_begin», «husk_flight_send», «husk_flight_message», «husk_flight_resend», «husk_flight_ack», «husk_notes_add», «husk_notes_send», MadeIn, MadeOut, behindOut}
 use Rattle.hosts_theorem.specs.Log.{readingOf, enteredIn, storesOf, sendOf, enteredOut, Host, Act, inward, «husk_sending_sealing», «husk_flight_status», «husk_sending_status», outward, outwardOver, «host_seals», Made, behind}
 use Rattle.hosts_theorem.specs.Claim.{Stands, StandsIn, StandsOut, Shows, removalTold, OwedIn, OwedSealing, kindOwed, OwedMore, Owed}
-use Rattle.hosts_theorem.specs.In.{long-answer, opened-answer, remove-answer}
+use Rattle.hosts_theorem.specs.In.{long-answer, first-whole, opened-answer, read-whole, mask-whole, opened-whole, remove-answer}
 use Rattle.hosts_theorem.specs.Out.{out-answer, sealing-answer}
 
 -- ---- what the sealing question says: 01's header of the record that it names, or nothing
@@ -112,25 +112,30 @@ module _ (h : Incoming) (i : Inbound) (a : StandsIn h i) (z : Sound (i .into)) (
       by-test (λ (j : Inbound). FineIn j → r ≡ beginOwed d) {t = eqb r 0} (λ t k. k .told _ (here refl)) (λ t k. k .told _ (here refl)) f
   in-owed («husk_receiving_begin_read» r v d) m f = (
     λ l. long-answer h i a z r v d m (lt-ltb _ _ l),
-    λ l.
-        by-test (λ (j : Inbound). FineIn j → Proper aRead nothing (readingOf r)) {t = ltb 16384 (length d)} (λ t k. absurd (false≢true (sym (le-ltb _ _ l) ∙ t)))
-        (λ t k. k .proper _ (here refl)) f,
+    λ l. (
+      by-test (λ (j : Inbound). FineIn j → Proper aRead nothing (readingOf r)) {t = ltb 16384 (length d)} (λ t k. absurd (false≢true (sym (le-ltb _ _ l) ∙ t)))
+          (λ t k. k .proper _ (here refl)) f,
+      first-whole h i a z r v d m (le-ltb _ _ l),
+    ),
   )
-  in-owed («husk_receiving_read» r v) m f = f .proper _ (here refl)
-  in-owed («husk_receiving_mask» r v n₀ n₁ e) m f = f .proper _ (here refl)
+  in-owed («husk_receiving_read» r v) m f = (f .proper _ (here refl), read-whole h i a r v (h .datagram) m)
+  in-owed («husk_receiving_mask» r v n₀ n₁ e) m f = (f .proper _ (here refl), mask-whole h i a r v n₀ n₁ e (h .datagram) m)
   in-owed («husk_receiving_opened» r v o len) m f = (
     λ l.
         by-test (λ (j : Inbound). FineIn j → Proper (anOpenReply (openingOf o len)) (i .into .account .waits) (readingOf r)) {t = leb o 1}
         (λ t k. k .proper _ (here refl)) (λ t k. absurd (false≢true (sym t ∙ le-leb _ _ l))) f,
     λ l. opened-answer h i a r v o len (h .datagram) m ∙ if-false _ _ (lt-leb _ _ l),
+    opened-whole h i a r v o len (h .datagram) m,
   )
-  in-owed («husk_receiving_read_over» r v d) m f = f .strays _ (here refl) .answer
-  in-owed («husk_receiving_mask_over» r v n₀ n₁ e d) m f = (f .strays _ (here refl) .answer, f .strays _ (here refl) .bytes)
+  in-owed («husk_receiving_read_over» r v d) m f =
+      (f .strays _ (here refl) .answer, read-whole h i a r v d m)
+  in-owed («husk_receiving_mask_over» r v n₀ n₁ e d) m f = (f .strays _ (here refl) .answer, f .strays _ (here refl) .bytes, mask-whole h i a r v n₀ n₁ e d m)
   in-owed («husk_receiving_opened_over» r v o len d) m f = (
     λ l.
         by-test (λ (j : Inbound). FineIn j → readingOf r ≡ says.Reply) {t = leb o 1} (λ t k. k .strays _ (here refl) .answer)
         (λ t k. absurd (false≢true (sym t ∙ le-leb _ _ l))) f,
     λ l. opened-answer h i a r v o len d m ∙ if-false _ _ (lt-leb _ _ l),
+    opened-whole h i a r v o len d m,
   )
   in-owed («host_writes» r p) m f = tt
 
