@@ -80,6 +80,7 @@ reading-back (says.Opening e n s h l) v = refl
 
 -- ---- told by the claim's table as the library answers it
 
+-- the library's number of a reason is the claim's
 reason-same : (r : Reason) → reasonNumber r ≡ reasonTold r
 reason-same reason.Invalid = refl
 reason-same reason.EarlyBits = refl
@@ -90,6 +91,7 @@ reason-same reason.Replayed = refl
 reason-same reason.NotOpened = refl
 reason-same reason.NoContentType = refl
 
+-- the library's answer is the table's, with the nonce that it has
 reading-told : (r : Reading) (v : List ℕ) → flatReading r v ≡ told r (flatReading r v .nonce)
 reading-told says.Setting v = refl
 reading-told says.Reply v = refl

@@ -127,7 +127,7 @@ alone d = d ++ replicate 553 0
 abbrev sealAsked : HuskSealing
 sealAsked = record { kind = 2; refusal = 0; epoch = 2; number = 0; start = 5; length = 18; nonce = iv; header = header }
 
--- a mask asked, an opening asked, the record opened, the datagram taken
+-- a mask asked
 abbrev maskAsked : HuskReading
 maskAsked = record {
   kind = 6;
@@ -141,6 +141,7 @@ maskAsked = record {
   nonce = replicate 12 0;
 }
 
+-- an opening asked
 abbrev openAsked : HuskReading
 openAsked = record {
   kind = 7;
@@ -154,6 +155,7 @@ openAsked = record {
   nonce = iv;
 }
 
+-- the record opened
 abbrev handedOver : HuskReading
 handedOver = record {
   kind = 5;

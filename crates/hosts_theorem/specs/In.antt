@@ -338,9 +338,11 @@ module _ (h : Incoming) (i : Inbound) (a : StandsIn h i) where
   pub read-whole : (r : HuskReading) (v d : List ℕ) → receive.ReadCall r v w d → Whole r
   read-whole r v d m = whole r (readOf (stateOf w) d) (m .0 ∙ if-true _ _ (a .flat))
 
+  -- of a mask reply
   pub mask-whole : (r : HuskReading) (v : List ℕ) (n₀ n₁ : ℕ) (e d : List ℕ) → receive.MaskCall r v w n₀ n₁ e d → Whole r
   mask-whole r v n₀ n₁ e d m = whole r (maskOf (stateOf w) (receive.masks n₀ n₁) d .0) (m .0 .0 ∙ if-true _ _ (a .flat))
 
+  -- of an opening reply, one neither 0 nor 1 too
   pub opened-whole : (r : HuskReading) (v : List ℕ) (o len : ℕ) (d : List ℕ) → receive.OpenedCall r v w o len d → Whole r
   opened-whole r v o len d m =
       test-cases (leb o 1) (λ t. whole r (openedOf (stateOf w) (openingOf o len) d) (opened-answer r v o len d m ∙ if-true _ _ t))
