@@ -7,7 +7,7 @@ use lib.Dec.{leb}
 use lib.ListN.{length, drop}
 use mathlib.Core.List.{List}
 use mathlib.Core.Option.{Option, some}
-use mathlib.Core.Path.{_≡_, refl, sym, ap, _∙_}
+use mathlib.Core.Path.{_≡_, refl, sym, ap, subst, _∙_}
 use Rattle.base.specs.Choose.{choose, if-true, by-test}
 use Rattle.base.specs.Parts.{splice}
 use Rattle.incoming.specs.declared.Inner.the-variants as inner
@@ -43,13 +43,13 @@ use Rattle.sealing.specs.Sealing.{questionOf}
 use Rattle.sealing.specs.declared.Question as asks
 use Rattle.waiting_laws.specs.Calls.{writtenIn}
 use Rattle.recv_key_steps.specs.Kept.{stateOf}
-use Rattle.recv_calls.specs.Flat.{flatReading}
+use Rattle.recv_calls.specs.Flat.{bare, flatReading}
 use Rattle.recv_calls.specs.declared.HuskReading.{HuskReading}
 use Rattle.send_calls.specs.Calls.{flatSealing}
 use Rattle.send_calls.specs.declared.HuskSealing.{HuskSealing}
 use Rattle.history_theorem.specs.Receiver.{outOf}
 use Rattle.ends_theorem.specs.World.{givenIn}
-use Rattle.hosts_theorem.specs.Log.{flatRead, reasonIn, readingOf, outBy}
+use Rattle.hosts_theorem.specs.Log.{flatRead, reasonIn, readingOf, reasonTold, told, Whole, outBy}
 
 -- ---- the reading
 
@@ -77,6 +77,39 @@ reading-back (says.Unopened b n s l) v = refl
 reading-back (says.Opened e n t s l) v = refl
 reading-back (says.Mask e s) v = refl
 reading-back (says.Opening e n s h l) v = refl
+
+-- ---- told by the claim's table as the library answers it
+
+-- the library's number of a reason is the claim's
+reason-same : (r : Reason) → reasonNumber r ≡ reasonTold r
+reason-same reason.Invalid = refl
+reason-same reason.EarlyBits = refl
+reason-same reason.NoKeys = refl
+reason-same reason.TooShort = refl
+reason-same reason.TooHigh = refl
+reason-same reason.Replayed = refl
+reason-same reason.NotOpened = refl
+reason-same reason.NoContentType = refl
+
+-- the library's answer is the table's, with the nonce that it has
+reading-told : (r : Reading) (v : List ℕ) → flatReading r v ≡ told r (flatReading r v .nonce)
+reading-told says.Setting v = refl
+reading-told says.Reply v = refl
+reading-told says.End v = refl
+reading-told says.Incomplete v = refl
+reading-told says.TooMany v = refl
+reading-told (says.Dropped r) v = ap (bare 2) (reason-same r)
+reading-told (says.Plaintext t n s l) v = refl
+reading-told (says.Unopened b n s l) v = refl
+reading-told (says.Opened e n t s l) v = refl
+reading-told (says.Mask e s) v = refl
+reading-told (says.Opening e n s h l) v = refl
+
+-- so every answer made of a reading has every field as told
+pub whole : (r : HuskReading) (k : Read) → r ≡ flatRead k → Whole r
+whole r k e =
+    subst Whole (sym e)
+    (reading-told (k .reading) (k .nonce) ∙ sym (ap (λ (x : Reading). told x (flatRead k .nonce)) (reading-back (k .reading) (k .nonce))))
 
 -- ---- the nonce of a reply's answer: that of an opening question, else zeros
 

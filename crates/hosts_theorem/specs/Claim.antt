@@ -29,7 +29,6 @@ use Rattle.send_words.specs.Words as sendWords
 use Rattle.flight_words.specs.Words.{flatTo}
 use Rattle.recv_calls.specs.Flat.{answerOf, bare, openingOf}
 use Rattle.answers.specs.declared.HuskTold.{HuskTold}
-use Rattle.answers.specs.Told.{tells}
 use Rattle.recv_calls.specs.Calls as receive
 use Rattle.recv_calls.specs.Removed.{removedTold}
 use Rattle.send_calls.specs.Calls as sends
@@ -46,7 +45,7 @@ use Rattle.ends_theorem.specs.Ledger.{Item, Ledger, waiting, items, oldest, una
 use Rattle.ends_theorem.specs.Sender.{Lent, sealedHeader}
 use Rattle.ends_theorem.specs.World.{Side, post, gateway, far, End, Deed, sending, over, receiving, Event, World, run, Setting, newEnd, fresh-pair, FairDeed, Honest}
 use Rattle.hosts_theorem.specs.Memory.{Incoming, Outgoing, InCall, «husk_receiving_key», «husk_receiving_remove», «husk_receiving_enable_encryption», «husk_receiving_release_application_data», «husk_receiving_begin», «husk_receiving_begin_read», «husk_receiving_read», «husk_receiving_mask», «husk_receiving_opened», «husk_receiving_read_over», «husk_receiving_mask_over», «husk_receiving_opened_over», «host_writes», OutCall, «husk_sending_key», «husk_sending_send», «husk_sending_sealed», «husk_sending_take», «husk_sending_take_in_place», «husk_flight_begin», «husk_flight_send», «husk_flight_message», «husk_flight_resend», «husk_flight_ack», «husk_notes_add», «husk_notes_send», behindOut, lends}
-use Rattle.hosts_theorem.specs.Log.{flatRead, readingOf, replyOf, Host, Act, inward, «husk_sending_sealing», «husk_flight_status», «husk_sending_status», outward, outwardOver, «host_seals», Made, behind, storesOf, sealingOf, showsNow, sendOf}
+use Rattle.hosts_theorem.specs.Log.{flatRead, readingOf, refusedTold, noNonce, Whole, replyOf, Host, Act, inward, «husk_sending_sealing», «husk_flight_status», «husk_sending_status», outward, outwardOver, «host_seals», Made, behind, storesOf, sealingOf, showsNow, sendOf}
 
 -- ---- two hosts and a list of calls
 
@@ -227,39 +226,44 @@ AllAnswered hs (a ∷ cs) = Answered (hs (a .side)) (a .act) × AllAnswered (aft
 
 -- a removal is told so: 6 is no refusal, but that a record was dropped with its epoch
 abbrev pub removalTold : ℕ → HuskTold
-removalTold n = choose (eqb n 6) (tells 0 1) (tells n 0)
+removalTold n = choose (eqb n 6) (record { refusal = 0; told = 1 }) (record { refusal = n; told = 0 })
 
 -- keying, removing, peer encryption, release and beginning: the number owed; reading: as the question that waits demands; over a datagram of another
--- length: 15, and the bytes stay; a reply neither 0 nor 1: 12
+-- length: 15, and the bytes stay; a reply neither 0 nor 1: 12; every field of a reading told by the claim's own table
 abbrev pub OwedIn : Inbound → InCall → Type 0
 OwedIn i («husk_receiving_key» r v epoch iv) = r ≡ keyOwed (i .into .account) epoch
 OwedIn i («husk_receiving_remove» r v epoch) = r ≡ removalTold (removeOwed (i .into) epoch)
 OwedIn i («husk_receiving_enable_encryption» r v) = r ≡ 0
 OwedIn i («husk_receiving_release_application_data» r v) = r ≡ 0
 OwedIn i («husk_receiving_begin» r v d) = r ≡ beginOwed d
-OwedIn i («husk_receiving_begin_read» r v d) = (16384 < length d → r ≡ bare 0 1) × (length d ≤ 16384 → Proper aRead nothing (readingOf r))
-OwedIn i («husk_receiving_read» r v) = Proper aRead (i .into .account .waits) (readingOf r)
-OwedIn i («husk_receiving_mask» r v m n e) = Proper aMaskReply (i .into .account .waits) (readingOf r)
+OwedIn i («husk_receiving_begin_read» r v d) = (16384 < length d → r ≡ refusedTold 1) × (length d ≤ 16384 → Proper aRead nothing (readingOf r) × Whole r)
+OwedIn i («husk_receiving_read» r v) = Proper aRead (i .into .account .waits) (readingOf r) × Whole r
+OwedIn i («husk_receiving_mask» r v m n e) = Proper aMaskReply (i .into .account .waits) (readingOf r) × Whole r
 OwedIn i («husk_receiving_opened» r v o len) =
-    (o ≤ 1 → Proper (anOpenReply (openingOf o len)) (i .into .account .waits) (readingOf r)) × (1 < o → r ≡ bare 0 12)
-OwedIn i («husk_receiving_read_over» r v d) = readingOf r ≡ says.Reply
-OwedIn i («husk_receiving_mask_over» r v m n e d) = (readingOf r ≡ says.Reply) × (e ≡ d)
-OwedIn i («husk_receiving_opened_over» r v o len d) = (o ≤ 1 → readingOf r ≡ says.Reply) × (1 < o → r ≡ bare 0 12)
+    (o ≤ 1 → Proper (anOpenReply (openingOf o len)) (i .into .account .waits) (readingOf r)) × (1 < o → r ≡ refusedTold 12) × Whole r
+OwedIn i («husk_receiving_read_over» r v d) = (readingOf r ≡ says.Reply) × Whole r
+OwedIn i («husk_receiving_mask_over» r v m n e d) = (readingOf r ≡ says.Reply) × (e ≡ d) × Whole r
+OwedIn i («husk_receiving_opened_over» r v o len d) = (o ≤ 1 → readingOf r ≡ says.Reply) × (1 < o → r ≡ refusedTold 12) × Whole r
 -- no call
 OwedIn i («host_writes» r p) = Unit {0}
 
--- the sealing of a record in the queue: kind 2, the record behind its header, the nonce by the IV that the host keyed its epoch with, 01's header
+-- the sealing of a record in the queue: kind 2, no refusal, the record behind its header, the nonce by the IV that the host keyed its epoch with, 01's header
 pub record SealingOf (ivs : ℕ → List ℕ) (i : Item) (r : HuskSealing) : Type 0 where
   pub kind : r .kind ≡ 2
+  pub refusal : r .refusal ≡ 0
   pub epoch : r .epoch ≡ i .epoch
   pub number : r .number ≡ i .num
   pub size : r .length + sealedHead ≡ i .size
   pub nonce : r .nonce ≡ nonceFor (ivs (i .epoch)) (i .num)
   pub header : r .header ≡ sealedHeader (i .epoch) (i .num) (r .length)
 
+-- no sealing is asked: kind 1, and every other field 0
+abbrev pub nothingToSeal : HuskSealing
+nothingToSeal = record { kind = 1; refusal = 0; epoch = 0; number = 0; start = 0; length = 0; nonce = noNonce; header = 0 ∷ 0 ∷ 0 ∷ 0 ∷ 0 ∷ [] }
+
 -- a sealing is asked exactly while a record waits, for the oldest; else kind 1
 abbrev pub OwedSealing : (ℕ → List ℕ) → Option Item → HuskSealing → Type 0
-OwedSealing ivs none r = r ≡ sends.noSealing 1 0
+OwedSealing ivs none r = r ≡ nothingToSeal
 OwedSealing ivs (some i) r = SealingOf ivs i r
 
 -- the kind that a take is answered with, by the datagrams queued and 01's number: 1 where none is queued, 2 where one is taken, 0 where it is refused
@@ -283,6 +287,21 @@ OwedMore l («husk_flight_ack» r g m c) =
 OwedMore l («husk_notes_add» r x y z epoch number) = Unit {0}
 OwedMore l («husk_notes_send» r v x y z p) = Unit {0}
 
+-- over memory that is too short a take is refused: kind 0, and in place nowhere; no other call tells more
+abbrev pub OwedOver : OutCall → Type 0
+OwedOver («husk_sending_take» r v b c) = r .kind ≡ 0
+OwedOver («husk_sending_take_in_place» r v) = (r .kind ≡ 0) × (r .start ≡ 0)
+OwedOver («husk_sending_key» r v epoch iv) = Unit {0}
+OwedOver («husk_sending_send» r v epoch t c p) = Unit {0}
+OwedOver («husk_sending_sealed» r v len m n p) = Unit {0}
+OwedOver («husk_flight_begin» r g) = Unit {0}
+OwedOver («husk_flight_send» r v g m epoch t c p j) = Unit {0}
+OwedOver («husk_flight_message» r v g m kind body p j) = Unit {0}
+OwedOver («husk_flight_resend» r v g m p) = Unit {0}
+OwedOver («husk_flight_ack» r g m c) = Unit {0}
+OwedOver («husk_notes_add» r x y z epoch number) = Unit {0}
+OwedOver («husk_notes_send» r v x y z p) = Unit {0}
+
 -- a sending call: 01's number and what is told besides; over memory that is too short 12, and no byte of it changes
 abbrev pub Owed : Host → Act → Type 0
 Owed h (inward c) = OwedIn (h .seen .into) c
@@ -295,7 +314,7 @@ Owed h («husk_sending_status» r) =
 Owed h (outward c) = (replyOf c ≡ owed (h .seen .ledger) (sendOf c)) × OwedMore (h .seen .ledger) c
 Owed h (outwardOver c q k) =
     let m = lends (h .outgoing) q k in
-    (replyOf c ≡ shortReply (sendOf c)) × (behindOut m c .queue ≡ q) × (behindOut m c .kept ≡ k)
+    (replyOf c ≡ shortReply (sendOf c)) × (behindOut m c .queue ≡ q) × (behindOut m c .kept ≡ k) × OwedOver c
 Owed h («host_seals» r bytes) = OwedSealing (h .seen .out .ivs) (oldest (items (h .seen .ledger .queue))) r
 
 -- of every call in the list, each by the account that it met

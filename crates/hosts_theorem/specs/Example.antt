@@ -36,10 +36,8 @@ use Rattle.recv_words.specs.Words as recv-words
 use Rattle.recv_words.specs.Entries.{freshWords}
 use Rattle.recv_calls.specs.Calls as recv-calls
 use Rattle.recv_calls.specs.Flat as recv-flat
-use Rattle.recv_calls.specs.Flat.{shown, asked}
 use Rattle.recv_calls.specs.declared.HuskReading.{HuskReading}
 use Rattle.send_words.specs.Words as send-words
-use Rattle.send_calls.specs.Calls.{noTake}
 use Rattle.send_calls.specs.declared.HuskSealing.{HuskSealing}
 use Rattle.history_theorem.specs.Account as history-account
 use Rattle.history_theorem.specs.Claim.{Masks}
@@ -129,8 +127,47 @@ alone d = d ++ replicate 553 0
 abbrev sealAsked : HuskSealing
 sealAsked = record { kind = 2; refusal = 0; epoch = 2; number = 0; start = 5; length = 18; nonce = iv; header = header }
 
+-- a mask asked
+abbrev maskAsked : HuskReading
+maskAsked = record {
+  kind = 6;
+  refusal = 0;
+  «content_type» = 0;
+  epoch = 2;
+  number = 0;
+  start = 5;
+  «header_len» = 0;
+  length = 16;
+  nonce = replicate 12 0;
+}
+
+-- an opening asked
 abbrev openAsked : HuskReading
-openAsked = asked 2 0 0 5 18 iv
+openAsked = record {
+  kind = 7;
+  refusal = 0;
+  «content_type» = 0;
+  epoch = 2;
+  number = 0;
+  start = 0;
+  «header_len» = 5;
+  length = 18;
+  nonce = iv;
+}
+
+-- the record opened
+abbrev handedOver : HuskReading
+handedOver = record {
+  kind = 5;
+  refusal = 0;
+  «content_type» = 22;
+  epoch = 2;
+  number = 0;
+  start = 5;
+  «header_len» = 0;
+  length = 1;
+  nonce = replicate 12 0;
+}
 
 abbrev by : Side → Act → CCall
 by s a = record { side = s; act = a }
@@ -142,13 +179,13 @@ talk =
     ∷ by post («husk_sending_sealing» sealAsked)
     ∷ by post («host_seals» sealAsked cipher)
     ∷ by post (outward («husk_sending_sealed» 0 v₃ 18 1 2 (alone wire)))
-    ∷ by post (outward («husk_sending_take» (noTake 2 0 23) v₄ (replicate 576 0) (alone wire)))
+    ∷ by post (outward («husk_sending_take» (record { kind = 2; refusal = 0; length = 23 }) v₄ (replicate 576 0) (alone wire)))
     ∷ by gateway (inward («husk_receiving_key» 0 u₁ 2 iv))
     ∷ by gateway (inward («husk_receiving_enable_encryption» 0 u₂))
-    ∷ by gateway (inward («husk_receiving_begin_read» (shown 6 0 2 0 5 16) u₃ wire))
+    ∷ by gateway (inward («husk_receiving_begin_read» maskAsked u₃ wire))
     ∷ by gateway (inward («husk_receiving_mask» openAsked u₄ 1 2 (header ++ cipher)))
     ∷ by gateway (inward («host_writes» openAsked inner))
-    ∷ by gateway (inward («husk_receiving_opened» (shown 5 22 2 0 5 1) u₅ 1 2))
+    ∷ by gateway (inward («husk_receiving_opened» handedOver u₅ 1 2))
     ∷ []
 
 hosts : Hosts

@@ -29,8 +29,8 @@ use Rattle.history_theorem.specs.Calls.{begin-told}
 use Rattle.history_theorem.specs.Receiver.{Sealed, Trial, Receiver, Out, withState, flagged, removedFrom, removed, removeOwed, begun, startsOn, beginOwed, begins, writtenIn, maskBy, openBy, readOut, maskOut, openOut, afterRead, afterMask, afterOpen, useOf, fateOf, unused, logs, strays, Inbound, takes, tells, Call, begin·, read·, mask·, write·, open·, openOver·, does}
 use Rattle.history_theorem.specs.Sound.{UnderWay, Sound}
 use Rattle.hosts_theorem.specs.Memory.{Incoming, InCall, «husk_receiving_key», «husk_receiving_remove», «husk_receiving_enable_encryption», «husk_receiving_release_application_data», «husk_receiving_begin», «husk_receiving_begin_read», «husk_receiving_read», «husk_receiving_mask», «husk_receiving_opened», «husk_receiving_read_over», «husk_receiving_mask_over», «husk_receiving_opened_over», «host_writes», MadeIn, behindIn}
-use Rattle.hosts_theorem.specs.Log.{flatRead, outBy, numberTold, removedTo, beginsTo, accepted, refused, reads, rewords, withBytes, enteredIn}
-use Rattle.hosts_theorem.specs.Answers.{writesIn, read-names, mask-nonce, open-nonce, entered}
+use Rattle.hosts_theorem.specs.Log.{flatRead, readingOf, Whole, outBy, numberTold, removedTo, beginsTo, accepted, refused, reads, rewords, withBytes, enteredIn}
+use Rattle.hosts_theorem.specs.Answers.{writesIn, read-names, mask-nonce, open-nonce, entered, whole}
 use Rattle.hosts_theorem.specs.Claim.{StandsIn, callsOf, AnsweredIn, removalTold}
 
 abbrev pub doesAll : (ℕ → List Sealed) → Inbound → List Call → Inbound
@@ -97,6 +97,11 @@ module _ (i : Inbound) (d : List ℕ) where
       λ j. beginsTo i (p j) (q j) (e j) d
 
 -- ---- one call
+
+-- 12 is a reading's too
+no-reply-whole : (r : HuskReading) → r ≡ bare 0 12 → Whole r
+unfolding readingOf choose
+no-reply-whole r e = subst Whole (sym e) refl
 
 module _ (h : Incoming) (i : Inbound) (a : StandsIn h i) where
   abbrev w : List ℕ
@@ -234,6 +239,14 @@ module _ (h : Incoming) (i : Inbound) (a : StandsIn h i) where
       m .0 ∙ if-true _ _ (a .flat) ∙ ap (λ (x : Receiving). receive.firstReading (beginOf x (length d)) d) (a .state)
       ∙ if-false _ _ (ap (λ (n : ℕ). eqb n 0) z) ∙ ap (bare 0) z
 
+  -- not refused: the first record's reading
+  pub first-whole : Sound y → (r : HuskReading) (v d : List ℕ) → receive.BeginReadCall r v w d → ltb 16384 (length d) ≡ false → Whole r
+  unfolding receive.firstReading beginOwed
+  first-whole o r v d m t =
+      let q : eqb (answerNumber (beginOf (y .state) (length d) .answer)) 0 ≡ true = ap (λ (n : ℕ). eqb n 0) (begin-told y o d ∙ if-false _ _ t) in
+      whole r (readOf (beginOf (y .state) (length d) .state) d)
+      (m .0 ∙ if-true _ _ (a .flat) ∙ ap (λ (x : Receiving). receive.firstReading (beginOf x (length d)) d) (a .state) ∙ if-true _ _ q)
+
   long-square : Sound y → (r : HuskReading) (v d : List ℕ) → receive.BeginReadCall r v w d → ltb 16384 (length d) ≡ true
       → refused i (stateOf v) (r .refusal) d ≡ begins i d
   unfolding receive.firstState beginOwed
@@ -320,6 +333,20 @@ module _ (h : Incoming) (i : Inbound) (a : StandsIn h i) where
       → r ≡ choose (leb o 1) (flatRead (openedOf (stateOf w) (openingOf o len) d)) (bare 0 12)
   opened-answer r v o len d m =
       test-cases (leb o 1) (λ t. m .0 ∙ if-true _ _ (both-true t ∙ a .flat) ∙ sym (if-true _ _ t)) (λ t. m .0 ∙ if-false _ _ (both-false _ t) ∙ sym (if-false _ _ t))
+
+  -- every field of a reading is as told
+  pub read-whole : (r : HuskReading) (v d : List ℕ) → receive.ReadCall r v w d → Whole r
+  read-whole r v d m = whole r (readOf (stateOf w) d) (m .0 ∙ if-true _ _ (a .flat))
+
+  -- of a mask reply
+  pub mask-whole : (r : HuskReading) (v : List ℕ) (n₀ n₁ : ℕ) (e d : List ℕ) → receive.MaskCall r v w n₀ n₁ e d → Whole r
+  mask-whole r v n₀ n₁ e d m = whole r (maskOf (stateOf w) (receive.masks n₀ n₁) d .0) (m .0 .0 ∙ if-true _ _ (a .flat))
+
+  -- of an opening reply, one neither 0 nor 1 too
+  pub opened-whole : (r : HuskReading) (v : List ℕ) (o len : ℕ) (d : List ℕ) → receive.OpenedCall r v w o len d → Whole r
+  opened-whole r v o len d m =
+      test-cases (leb o 1) (λ t. whole r (openedOf (stateOf w) (openingOf o len) d) (opened-answer r v o len d m ∙ if-true _ _ t))
+      (λ t. no-reply-whole r (opened-answer r v o len d m ∙ if-false _ _ t))
 
   -- a removal's answer is told by its number
   pub remove-answer : (r : HuskTold) (v : List ℕ) (k : ℕ) → receive.RemoveReceiveCall r v w k → r ≡ removalTold (numberTold r)

@@ -67,6 +67,45 @@ readingOf r =
     (choose (eqb (r .kind) 6) (says.Mask (r .epoch) (r .start))
     (says.Opening (r .epoch) (r .number) (r .start) (r .«header_len») (r .length))))))))
 
+-- ---- and how the header has each reading told, by its own numbers
+
+-- 01's numbers of the refusals that drop one record
+abbrev pub reasonTold : Reason → ℕ
+reasonTold reason.Invalid = 4
+reasonTold reason.EarlyBits = 5
+reasonTold reason.NoKeys = 6
+reasonTold reason.TooShort = 7
+reasonTold reason.TooHigh = 8
+reasonTold reason.Replayed = 9
+reasonTold reason.NotOpened = 10
+reasonTold reason.NoContentType = 11
+
+-- twelve zeros, where no opening is asked
+abbrev pub noNonce : List ℕ
+noNonce = 0 ∷ 0 ∷ 0 ∷ 0 ∷ 0 ∷ 0 ∷ 0 ∷ 0 ∷ 0 ∷ 0 ∷ 0 ∷ 0 ∷ []
+
+-- refused: kind 0 and 01's number, and every other field 0
+abbrev pub refusedTold : ℕ → HuskReading
+refusedTold n = record { kind = 0; refusal = n; «content_type» = 0; epoch = 0; number = 0; start = 0; «header_len» = 0; length = 0; nonce = noNonce }
+
+-- every field of the answer that tells a reading; the nonce is an opening's, and every field that a kind does not use is 0
+abbrev pub told : Reading → List ℕ → HuskReading
+told says.Setting nonce = record { kind = 0; refusal = 12; «content_type» = 0; epoch = 0; number = 0; start = 0; «header_len» = 0; length = 0; nonce = noNonce }
+told says.Reply nonce = record { kind = 0; refusal = 15; «content_type» = 0; epoch = 0; number = 0; start = 0; «header_len» = 0; length = 0; nonce = noNonce }
+told says.End nonce = record { kind = 1; refusal = 0; «content_type» = 0; epoch = 0; number = 0; start = 0; «header_len» = 0; length = 0; nonce = noNonce }
+told says.Incomplete nonce = record { kind = 1; refusal = 2; «content_type» = 0; epoch = 0; number = 0; start = 0; «header_len» = 0; length = 0; nonce = noNonce }
+told says.TooMany nonce = record { kind = 1; refusal = 3; «content_type» = 0; epoch = 0; number = 0; start = 0; «header_len» = 0; length = 0; nonce = noNonce }
+told (says.Dropped why) nonce = record { kind = 2; refusal = reasonTold why; «content_type» = 0; epoch = 0; number = 0; start = 0; «header_len» = 0; length = 0; nonce = noNonce }
+told (says.Plaintext t n s l) nonce = record { kind = 3; refusal = 0; «content_type» = t; epoch = 0; number = n; start = s; «header_len» = 0; length = l; nonce = noNonce }
+told (says.Unopened b n s l) nonce = record { kind = 4; refusal = 0; «content_type» = 0; epoch = b; number = n; start = s; «header_len» = 0; length = l; nonce = noNonce }
+told (says.Opened e n t s l) nonce = record { kind = 5; refusal = 0; «content_type» = t; epoch = e; number = n; start = s; «header_len» = 0; length = l; nonce = noNonce }
+told (says.Mask e s) nonce = record { kind = 6; refusal = 0; «content_type» = 0; epoch = e; number = 0; start = s; «header_len» = 0; length = 16; nonce = noNonce }
+told (says.Opening e n s h l) nonce = record { kind = 7; refusal = 0; «content_type» = 0; epoch = e; number = n; start = s; «header_len» = h; length = l; nonce = nonce }
+
+-- an answer of a reading call has every field as the reading that it says is told
+abbrev pub Whole : HuskReading → Type 0
+Whole r = r ≡ told (readingOf r) (r .nonce)
+
 -- a reading call: the answer, the state that the words behind it stand for, the datagram's bytes behind it
 abbrev pub outBy : HuskReading → List ℕ → List ℕ → Out
 outBy r v d = record { state = stateOf v; datagram = d; reading = readingOf r; nonce = r .nonce }

@@ -22,19 +22,21 @@ use Rattle.flight.specs.declared.Flight.{Flight}
 use Rattle.process_ack.specs.Ack.{acked}
 use Rattle.process_ack.specs.Status.{newlyMarked}
 use Rattle.process_ack.specs.declared.Acked.{Acked}
-use Rattle.flight_words.specs.Words.{flightOf}
+use Rattle.flight_words.specs.Words.{flightOf, flatTo}
+use Rattle.send_words.specs.Words as sendWords
 use Rattle.status_calls.specs.Calls as status
 use Rattle.status_calls.specs.declared.HuskSaved.{HuskSaved}
 use Rattle.status_calls.specs.declared.HuskQueued.{HuskQueued}
 use Rattle.ack_calls.specs.Calls.{leftBehind}
 use Rattle.ack_calls.specs.declared.HuskAcked.{HuskAcked}
-use Rattle.send_calls.specs.Calls.{flatSealing, noSealing, flatTake, flatPart, SealingCall}
+use Rattle.send_calls.specs.Calls.{flatSealing, flatTake, flatPart, SealingCall}
 use Rattle.send_calls.specs.declared.HuskSealing.{HuskSealing}
 use Rattle.send_calls.specs.declared.HuskTake.{HuskTake}
 use Rattle.send_calls.specs.declared.HuskPart.{HuskPart}
 use Rattle.taking.specs.Take.{takeAnswer}
+use Rattle.taking.specs.declared.TakeAnswer.the-variants as taken
 use Rattle.taking.specs.declared.TakeAnswer.{TakeAnswer}
-use Rattle.waiting_laws.specs.Calls.{Stores, ack·}
+use Rattle.waiting_laws.specs.Calls.{Stores, ack·, Reply}
 use Rattle.waiting_laws.specs.Queued.{Queued, Holds}
 use Rattle.waiting_laws.specs.Seals.{question-told}
 use Rattle.waiting_laws.specs.Takes.{takeTold, take-told}
@@ -42,16 +44,16 @@ use Rattle.history_theorem.specs.Account.{sealedHead, nothing}
 use Rattle.history_theorem.specs.Claim.{Masks, Proper, Turned, nonceFor}
 use Rattle.history_theorem.specs.Receiver.{Sealed, Spoken, Stray, Told, aRead, anOpenReply, beginOwed, Inbound}
 use Rattle.history_theorem.specs.Sound.{Sound}
-use Rattle.ends_theorem.specs.Ledger.{Item, waiting, items, oldest, unacked, after}
+use Rattle.ends_theorem.specs.Ledger.{Item, waiting, items, oldest, unacked, after, shortReply}
 use Rattle.ends_theorem.specs.Matches.{itemsOf, Matches}
 use Rattle.ends_theorem.specs.Proof.{Good, holds}
 use Rattle.ends_theorem.specs.Status.{StatusIs, status-is}
 use Rattle.ends_theorem.specs.Sender.{Lent, AskedFor, sealedHeader}
 use Rattle.ends_theorem.specs.World.{Side, post, gateway, Said, Over, End, World}
-use Rattle.hosts_theorem.specs.Memory.{Incoming, Outgoing, InCall, «husk_receiving_key», «husk_receiving_remove», «husk_receiving_enable_encryption», «husk_receiving_release_application_data», «husk_receiving_begin», «husk_receiving_begin_read», «husk_receiving_read», «husk_receiving_mask», «husk_receiving_opened», «husk_receiving_read_over», «husk_receiving_mask_over», «husk_receiving_opened_over», «host_writes», OutCall, «husk_sending_key», «husk_sending_send», «husk_sending_sealed», «husk_sending_take», «husk_sending_take_in_place», «husk_flight_begin», «husk_flight_send», «husk_flight_message», «husk_flight_resend», «husk_flight_ack», «husk_notes_add», «husk_notes_send», MadeIn, MadeOut, behindOut}
-use Rattle.hosts_theorem.specs.Log.{readingOf, enteredIn, storesOf, sendOf, enteredOut, Host, Act, inward, «husk_sending_sealing», «husk_flight_status», «husk_sending_status», outward, outwardOver, «host_seals», Made, behind}
-use Rattle.hosts_theorem.specs.Claim.{Stands, StandsIn, StandsOut, Shows, removalTold, OwedIn, OwedSealing, kindOwed, OwedMore, Owed}
-use Rattle.hosts_theorem.specs.In.{long-answer, opened-answer, remove-answer}
+use Rattle.hosts_theorem.specs.Memory.{Incoming, Outgoing, InCall, «husk_receiving_key», «husk_receiving_remove», «husk_receiving_enable_encryption», «husk_receiving_release_application_data», «husk_receiving_begin», «husk_receiving_begin_read», «husk_receiving_read», «husk_receiving_mask», «husk_receiving_opened», «husk_receiving_read_over», «husk_receiving_mask_over», «husk_receiving_opened_over», «host_writes», OutCall, «husk_sending_key», «husk_sending_send», «husk_sending_sealed», «husk_sending_take», «husk_sending_take_in_place», «husk_flight_begin», «husk_flight_send», «husk_flight_message», «husk_flight_resend», «husk_flight_ack», «husk_notes_add», «husk_notes_send», MadeIn, MadeOut, behindOut, lends}
+use Rattle.hosts_theorem.specs.Log.{readingOf, enteredIn, storesOf, sendOf, replyOf, enteredOut, Host, Act, inward, «husk_sending_sealing», «husk_flight_status», «husk_sending_status», outward, outwardOver, «host_seals», Made, behind}
+use Rattle.hosts_theorem.specs.Claim.{Stands, StandsIn, StandsOut, Shows, removalTold, OwedIn, OwedSealing, nothingToSeal, kindOwed, OwedMore, OwedOver, Owed}
+use Rattle.hosts_theorem.specs.In.{long-answer, first-whole, opened-answer, read-whole, mask-whole, opened-whole, remove-answer}
 use Rattle.hosts_theorem.specs.Out.{out-answer, sealing-answer}
 
 -- ---- what the sealing question says: 01's header of the record that it names, or nothing
@@ -60,7 +62,7 @@ abbrev shownBy : Question → HuskSealing
 shownBy k = flatSealing (k .question) (k .nonce) (k .header)
 
 abbrev Plain : HuskSealing → Type 0
-Plain r = (r .kind ≡ 2 → r .header ≡ sealedHeader (r .epoch) (r .number) (r .length)) × ((r .kind ≡ 2 → ⊥) → r ≡ noSealing 1 0)
+Plain r = (r .kind ≡ 2 → r .header ≡ sealedHeader (r .epoch) (r .number) (r .length)) × ((r .kind ≡ 2 → ⊥) → r ≡ nothingToSeal)
 
 plain : (s : Sending) (q : List ℕ) (ds : List (List Queued)) → Holds s q ds → Plain (shownBy (questionOf s))
 unfolding unifiedHeader
@@ -112,25 +114,30 @@ module _ (h : Incoming) (i : Inbound) (a : StandsIn h i) (z : Sound (i .into)) (
       by-test (λ (j : Inbound). FineIn j → r ≡ beginOwed d) {t = eqb r 0} (λ t k. k .told _ (here refl)) (λ t k. k .told _ (here refl)) f
   in-owed («husk_receiving_begin_read» r v d) m f = (
     λ l. long-answer h i a z r v d m (lt-ltb _ _ l),
-    λ l.
-        by-test (λ (j : Inbound). FineIn j → Proper aRead nothing (readingOf r)) {t = ltb 16384 (length d)} (λ t k. absurd (false≢true (sym (le-ltb _ _ l) ∙ t)))
-        (λ t k. k .proper _ (here refl)) f,
+    λ l. (
+      by-test (λ (j : Inbound). FineIn j → Proper aRead nothing (readingOf r)) {t = ltb 16384 (length d)} (λ t k. absurd (false≢true (sym (le-ltb _ _ l) ∙ t)))
+          (λ t k. k .proper _ (here refl)) f,
+      first-whole h i a z r v d m (le-ltb _ _ l),
+    ),
   )
-  in-owed («husk_receiving_read» r v) m f = f .proper _ (here refl)
-  in-owed («husk_receiving_mask» r v n₀ n₁ e) m f = f .proper _ (here refl)
+  in-owed («husk_receiving_read» r v) m f = (f .proper _ (here refl), read-whole h i a r v (h .datagram) m)
+  in-owed («husk_receiving_mask» r v n₀ n₁ e) m f = (f .proper _ (here refl), mask-whole h i a r v n₀ n₁ e (h .datagram) m)
   in-owed («husk_receiving_opened» r v o len) m f = (
     λ l.
         by-test (λ (j : Inbound). FineIn j → Proper (anOpenReply (openingOf o len)) (i .into .account .waits) (readingOf r)) {t = leb o 1}
         (λ t k. k .proper _ (here refl)) (λ t k. absurd (false≢true (sym t ∙ le-leb _ _ l))) f,
     λ l. opened-answer h i a r v o len (h .datagram) m ∙ if-false _ _ (lt-leb _ _ l),
+    opened-whole h i a r v o len (h .datagram) m,
   )
-  in-owed («husk_receiving_read_over» r v d) m f = f .strays _ (here refl) .answer
-  in-owed («husk_receiving_mask_over» r v n₀ n₁ e d) m f = (f .strays _ (here refl) .answer, f .strays _ (here refl) .bytes)
+  in-owed («husk_receiving_read_over» r v d) m f =
+      (f .strays _ (here refl) .answer, read-whole h i a r v d m)
+  in-owed («husk_receiving_mask_over» r v n₀ n₁ e d) m f = (f .strays _ (here refl) .answer, f .strays _ (here refl) .bytes, mask-whole h i a r v n₀ n₁ e d m)
   in-owed («husk_receiving_opened_over» r v o len d) m f = (
     λ l.
         by-test (λ (j : Inbound). FineIn j → readingOf r ≡ says.Reply) {t = leb o 1} (λ t k. k .strays _ (here refl) .answer)
         (λ t k. absurd (false≢true (sym t ∙ le-leb _ _ l))) f,
     λ l. opened-answer h i a r v o len d m ∙ if-false _ _ (lt-leb _ _ l),
+    opened-whole h i a r v o len d m,
   )
   in-owed («host_writes» r p) m f = tt
 
@@ -147,6 +154,7 @@ module _ (ivs : ℕ → List ℕ) (r : HuskSealing) (p : Plain r) where
       let m : r .number ≡ i .num = ap (λ (x : HuskSealing). x .number) s ∙ q .1 in
       record {
         kind = kind;
+        refusal = ap (λ (x : HuskSealing). x .refusal) s;
         epoch = e;
         number = m;
         size = ap (λ (x : HuskSealing). x .length + sealedHead) s ∙ q .2;
@@ -225,6 +233,50 @@ module _ (h : Outgoing) (e : End) (o : StandsOut h e) (i : Matches (e .out .stor
   more-owed («husk_notes_add» r y₀ y₁ y₂ u n) m b′ = tt
   more-owed («husk_notes_send» r v y₀ y₁ y₂ p) m b′ = tt
 
+-- ---- over memory that is too short
+
+-- 12 is a take that is refused
+take-refused : (a : TakeAnswer) → flatTake a .refusal ≡ 12 → flatTake a .kind ≡ 0
+take-refused (taken.Taken n) z = absurd (omega arith)
+take-refused taken.OutOfRange z = refl
+take-refused taken.Nothing z = absurd (omega arith)
+take-refused taken.Unsealed z = refl
+take-refused (taken.Short n) z = refl
+
+-- in place: and it is nowhere
+part-refused : (a : TakeAnswer) (start : ℕ) → flatPart a start .refusal ≡ 12 → (flatPart a start .kind ≡ 0) × (flatPart a start .start ≡ 0)
+part-refused (taken.Taken n) start z = absurd (omega arith)
+part-refused taken.OutOfRange start z = (refl, refl)
+part-refused taken.Nothing start z = absurd (omega arith)
+part-refused taken.Unsealed start z = (refl, refl)
+part-refused (taken.Short n) start z = (refl, refl)
+
+-- h the memory with what was lent in its place
+module _ (h : Outgoing) (f : sendWords.isFlat (h .words) ≡ true) (g : flatTo (h .flight) 12 ≡ true) where
+  -- what a take into so many bytes is answered
+  abbrev answered : ℕ → TakeAnswer
+  answered have = takeAnswer (storesOf h .state) (length (h .queue)) have
+
+  -- answered 12, it tells what is owed besides
+  over-owed : (c : OutCall) → MadeOut h c → replyOf c ≡ shortReply (sendOf c) → OwedOver c
+  over-owed («husk_sending_take» r v b c) m e =
+      subst (λ (x : HuskTake). x .refusal ≡ 12 → x .kind ≡ 0) (sym (out-answer h f g («husk_sending_take» r v b c) m)) (take-refused (answered (length b)))
+      (ap (λ (x : Reply). x .number) e)
+  over-owed («husk_sending_take_in_place» r v) m e =
+      subst (λ (x : HuskPart). x .refusal ≡ 12 → (x .kind ≡ 0) × (x .start ≡ 0)) (sym (out-answer h f g («husk_sending_take_in_place» r v) m))
+      (part-refused (answered 65535) (storesOf h .state .queue .first * storesOf h .state .queue .mtu))
+      (ap (λ (x : Reply). x .number) e)
+  over-owed («husk_sending_key» r v u iv) m e = tt
+  over-owed («husk_sending_send» r v u t z p) m e = tt
+  over-owed («husk_sending_sealed» r v len n₀ n₁ p) m e = tt
+  over-owed («husk_flight_begin» r k) m e = tt
+  over-owed («husk_flight_send» r v k l u t z p j) m e = tt
+  over-owed («husk_flight_message» r v k l t z p j) m e = tt
+  over-owed («husk_flight_resend» r v k l p) m e = tt
+  over-owed («husk_flight_ack» r k l z) m e = tt
+  over-owed («husk_notes_add» r y₀ y₁ y₂ u n) m e = tt
+  over-owed («husk_notes_send» r v y₀ y₁ y₂ p) m e = tt
+
 -- ---- what only asks
 
 module _ (h : Outgoing) (e : End) (o : StandsOut h e) (i : Matches (e .out .stores) (e .ledger)) where
@@ -261,5 +313,10 @@ owed-now f h o z g («husk_sending_sealing» r) m k = sealing-now h o g r m
 owed-now f h o z g («husk_flight_status» r) m k = saved-owed (h .outgoing) (h .seen) (o .outgoing) (g .matches) r m
 owed-now f h o z g («husk_sending_status» r) m k = queued-owed (h .outgoing) (h .seen) (o .outgoing) (g .matches) r m
 owed-now f h o z g (outward c) m k = (k .said _ (here refl), more-owed (h .outgoing) (h .seen) (o .outgoing) (g .matches) c m (k .matches))
-owed-now f h o z g (outwardOver c q j) m k = (k .said _ (here refl), k .overs _ (here refl) .0, k .overs _ (here refl) .1)
+owed-now f h o z g (outwardOver c q j) m k = (
+  k .said _ (here refl),
+  k .overs _ (here refl) .0,
+  k .overs _ (here refl) .1,
+  over-owed (lends (h .outgoing) q j) (o .outgoing .flat) (o .outgoing .flat-flight) c m (k .said _ (here refl)),
+)
 owed-now f h o z g («host_seals» r bytes) m k = sealing-now h o g r (m .0)
