@@ -191,6 +191,8 @@ module _ (y : Receiver) (i : Sound y) where
           shows = i .shows;
           said = i .said;
           later = i .later;
+          stops = i .stops;
+          waits = i .waits;
         }))
 
     pub key-sound : Sound (withState y (keyOf (y .state) e iv .state) (keys (y .account) e iv))
@@ -262,6 +264,8 @@ module _ (y : Receiver) (i : Sound y) where
       shows = i .shows;
       said = i .said;
       later = i .later;
+      stops = i .stops;
+      waits = i .waits;
     }),
     as-was s _ (ap (λ (x : Receiving). x .datagram) e) refl,
   )
@@ -319,6 +323,8 @@ module _ (y : Receiver) (i : Sound y) where
     shows = i .shows;
     said = i .said;
     later = λ x p. some≢none (sym p);
+    stops = i .stops;
+    waits = λ x p. some≢none (sym p);
   })
 
   pub begin-fine : (d : List ℕ) → Fine y (begun y d)
@@ -406,6 +412,8 @@ module _ (y : Receiver) (i : Sound y) where
         shows = i .shows;
         said = i .said;
         later = i .later;
+        stops = i .stops;
+        waits = i .waits;
       }),
       as-was s _ (ap (λ (x : Receiving). x .datagram) is) refl,
     )
@@ -442,6 +450,8 @@ module _ (y : Receiver) (i : Sound y) where
         shows = i .shows;
         said = i .said;
         later = λ x p. some≢none (sym p);
+        stops = i .stops;
+        waits = λ x p. some≢none (sym p);
       }),
       no-more _ refl refl refl,
     )
@@ -588,6 +598,8 @@ module _ (y : Receiver) (i : Sound y) where
     shows = i .shows;
     said = i .said;
     later = i .later;
+    stops = i .stops;
+    waits = i .waits;
   }
 
   pub unchanged : (s : Receiving) → s ≡ y .state → Fine y (withState y s (y .account))
@@ -624,4 +636,6 @@ new-sound min h = subst (λ s. Sound (withState (newInbound min .into) s (newInb
   shows = λ d m. elim m [ ];
   said = λ d m. elim m [ ];
   later = λ t p. some≢none (sym p);
+  stops = λ d m. elim m [ ];
+  waits = λ t p. some≢none (sym p);
 })

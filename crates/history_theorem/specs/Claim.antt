@@ -6,7 +6,7 @@ use lib.Dec.{eqb}
 use lib.ListN.{length, take, drop, getD}
 use mathlib.Core.Bool.{Bool, true, false}
 use mathlib.Core.List.{List, [], _∷_, _++_, List·Memᴰ as Mem}
-use mathlib.Core.Logic.{_↔_}
+use mathlib.Core.Logic.{_↔_, _⊎_}
 use mathlib.Core.Option.{Option, none, some}
 use mathlib.Core.Path.{_≡_}
 use Rattle.base.specs.Bytes.{beAt}
@@ -200,6 +200,36 @@ pub record UnopenedDue (t : Trial) : Type 0 where
   pub encryption-off : t .encrypted ≡ false
   pub among-16 : t .count ≤ 15
 
+-- the datagram is over: nothing is left, or "0x10 ends the datagram"
+abbrev pub Over : List ℕ → Type 0
+Over rest = (length rest ≡ 0) ⊎ ((getD rest 0 0 / 32 ≡ 1) × (getD rest 0 0 / 16 % 2 ≡ 1))
+
+-- "a header or length beyond its bytes", of a sealed record and of any other
+abbrev pub Short : List ℕ → Type 0
+Short rest =
+    ((getD rest 0 0 / 32 ≡ 1) × ((length rest < headSize (getD rest 0 0)) ⊎ (length rest < saidSize rest (getD rest 0 0))))
+    ⊎ ((getD rest 0 0 / 32 ≡ 1 → ⊥) × (length rest < plainHead + beAt 2 rest 11))
+
+-- neither: a record is there, its bytes all with it
+pub record There (rest : List ℕ) : Type 0 where
+  pub goes-on : Over rest → ⊥
+  pub all-here : Short rest → ⊥
+
+-- what is left where a reading is said, n readings made before: the end, 2 and everything else exclude each other; 3 is said only after 16
+-- readings, plaintext, unopened and opened only before
+abbrev pub Ends : Reading → List ℕ → ℕ → Type 0
+Ends says.End rest n = Over rest
+Ends says.Incomplete rest n = (Over rest → ⊥) × Short rest
+Ends says.TooMany rest n = There rest × (16 ≤ n)
+Ends (says.Plaintext t m s l) rest n = There rest × (n ≤ 15)
+Ends (says.Unopened b m s l) rest n = There rest × (n ≤ 15)
+Ends (says.Opened e m t s l) rest n = There rest × (n ≤ 15)
+Ends (says.Dropped r) rest n = There rest
+Ends (says.Mask e s) rest n = There rest
+Ends (says.Opening e m s h l) rest n = There rest
+Ends says.Setting rest n = Unit {0}
+Ends says.Reply rest n = Unit {0}
+
 abbrev pub SaysPlaintext : Reading → Type 0
 SaysPlaintext (says.Plaintext t n s l) = Unit {0}
 SaysPlaintext (says.Unopened b n s l) = ⊥
@@ -335,6 +365,8 @@ pub record Received (sealed : ℕ → List Sealed) (i : Inbound) (e : ℕ) : Typ
   pub each-call : (m : Move) → Mem m (i .moves) → Moved m (m .spends)
   -- every reading that counts is one
   pub real-readings : (d : Tried) → Mem d (i .into .tried) → Real (d .reading) (d .trial .plain) (d .trial .encrypted)
+  -- a read tells the end where the datagram is over, and 2 where a record is cut short, and nowhere else; 3 only after 16 readings
+  pub ends-right : (d : Tried) → Mem d (i .into .tried) → Ends (d .reading) (d .trial .rest) (d .trial .count)
   -- a record of which plaintext or unopened is due is said to be that, by the very read that came to it: no question is asked of it
   pub plain-read : (d : Tried) → Mem d (i .into .tried) → PlainDue (d .trial) → SaysPlaintext (d .reading)
   pub unopened-read : (d : Tried) → Mem d (i .into .tried) → UnopenedDue (d .trial) → SaysUnopened (d .reading)

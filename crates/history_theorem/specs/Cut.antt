@@ -1,11 +1,12 @@
 -- The claim's own length of the record at the front of a rest is the cut's; so is whether it is a plaintext record in order. What the cut finds
 -- is read from the rest, and the claim's own nonce is the cipher's. Assumes nothing.
 use Prim.Native.Nat.{ℕ, _+_, _-_, _*_, _/_, _%_, _<_, _≤_}
-use borrow.Author.Tests.{ltb-true, ltb-false, lt-ltb, le-ltb, eqb-true, eq-eqb, ne-eqb}
+use borrow.Author.Tests.{ltb-true, ltb-false, lt-ltb, le-ltb, eqb-true, eqb-false, eq-eqb, ne-eqb}
 use lib.Dec.{ltb, eqb}
 use lib.ListN.{length, getD}
 use mathlib.Core.Bool.{Bool, true, false}
 use mathlib.Core.List.{List, [], _∷_}
+use mathlib.Core.Logic.{_⊎_, inl, inr, ⊎-elim}
 use mathlib.Core.Path.{_≡_, refl, sym, ap, subst, _∙_}
 use native.Mathlib.Omega.{arith}
 use Rattle.base.specs.Bytes.{beAt}
@@ -15,7 +16,7 @@ use Rattle.record.specs.Record.{cFlag, lFlag, headerLen, fragmentLen, ciphertex
 use Rattle.record.specs.declared.Parsed.the-variants as parse
 use Rattle.record.specs.declared.Parsed.{Parsed}
 use Rattle.history_theorem.specs.Account.{plainHead, headSize, saidSize, sealedSize, plainSize, recordSize, goodPlain}
-use Rattle.history_theorem.specs.Claim.{nonceFor}
+use Rattle.history_theorem.specs.Claim.{Over, Short, There, nonceFor}
 use Rattle.history_theorem.specs.Lists.{by-both, either-cases, both-cases}
 
 -- what the cut finds, against the account's length
@@ -114,6 +115,74 @@ no-front = refl
 pub cut : (rest : List ℕ) → Cuts rest (recordSize rest) (parsed rest)
 cut [] = no-front
 cut (b ∷ rest) = front (b ∷ rest) (λ e. omega arith)
+
+-- where the datagram ends, and where a record is cut short
+
+abbrev pub Finds : List ℕ → Parsed → Type 0
+Finds rest parse.End = Over rest
+Finds rest parse.Incomplete = (Over rest → ⊥) × Short rest
+Finds rest (parse.Invalid n) = There rest
+Finds rest (parse.Plaintext p) = There rest
+Finds rest (parse.Ciphertext c) = There rest
+
+module _ (rest : List ℕ) (any : length rest ≡ 0 → ⊥) where
+  sealed-on : (getD rest 0 0 / 16 % 2 ≡ 1 → ⊥) → Over rest → ⊥
+  sealed-on ne = ⊎-elim (λ e. any e) (λ p. ne (p .1))
+
+  plain-on : (getD rest 0 0 / 32 ≡ 1 → ⊥) → Over rest → ⊥
+  plain-on ne = ⊎-elim (λ e. any e) (λ p. ne (p .0))
+
+  sealed-finds : (flags : ℕ) → flags ≡ getD rest 0 0 → flags / 32 ≡ 1 → (flags / 16 % 2 ≡ 1 → ⊥) → Finds rest (parseCiphertext rest flags)
+  unfolding parseCiphertext
+  sealed-finds flags q form ne =
+      let on : Over rest → ⊥ = sealed-on (subst (λ (x : ℕ). x / 16 % 2 ≡ 1 → ⊥) q ne) in
+      let is : getD rest 0 0 / 32 ≡ 1 = subst (λ (x : ℕ). x / 32 ≡ 1) q form in
+      by-test (Finds rest)
+      (λ t.
+      let low : length rest < headSize flags = omega (arith, ltb-true (length rest) (headerLen flags) t, head-same rest flags) in
+      (on, inl (is, inl (subst (λ (x : ℕ). length rest < headSize x) q low))))
+      (λ t.
+      let enough : headerLen flags ≤ length rest = ltb-false (length rest) (headerLen flags) t in
+      let head : headSize flags ≤ length rest = omega (arith, head-same rest flags) in
+      by-test (Finds rest)
+      (λ u.
+      let low : length rest < saidSize rest flags = omega (arith, ltb-true (length rest - headerLen flags) (fragmentLen rest flags) u, said-same rest flags enough) in
+      (on, inl (is, inr (subst (λ (x : ℕ). length rest < saidSize rest x) q low))))
+      (λ u.
+      let all : saidSize rest flags ≤ length rest =
+      omega (arith, ltb-false (length rest - headerLen flags) (fragmentLen rest flags) u, said-same rest flags enough) in
+      record {
+        goes-on = on;
+        all-here =
+            ⊎-elim
+            (λ p. ⊎-elim (λ l. let h : headSize (getD rest 0 0) ≤ length rest = subst (λ (x : ℕ). headSize x ≤ length rest) q head in omega arith)
+            (λ l. let h : saidSize rest (getD rest 0 0) ≤ length rest = subst (λ (x : ℕ). saidSize rest x ≤ length rest) q all in omega arith) (p .1))
+            (λ p. p .0 is);
+      }))
+
+  plain-finds : (getD rest 0 0 / 32 ≡ 1 → ⊥) → Finds rest (parsePlaintext rest)
+  unfolding parsePlaintext
+  plain-finds ne =
+      by-test (Finds rest) (λ t. (plain-on ne, inr (ne, omega (arith, ltb-true (length rest) plainHead t))))
+      (λ t. by-test (Finds rest)
+      (λ u. (plain-on ne, inr (ne, omega (arith, ltb-false (length rest) plainHead t, ltb-true (length rest - plainHead) (beAt 2 rest 11) u))))
+      (λ u.
+      let all : There rest = record {
+        goes-on = plain-on ne;
+        all-here =
+            ⊎-elim (λ p. ne (p .0))
+            (λ p. omega (arith, p .1, ltb-false (length rest) plainHead t, ltb-false (length rest - plainHead) (beAt 2 rest 11) u));
+      } in
+      by-test (Finds rest) {x = parse.Plaintext (plaintextOf rest)} {y = parse.Invalid (beAt 2 rest 11)} (λ v. all) (λ v. all)))
+
+pub finds : (rest : List ℕ) → Finds rest (parsed rest)
+unfolding parsed
+finds rest =
+    by-test (Finds rest) (λ t. inl (eqb-true _ _ t))
+    (λ t. by-test (Finds rest)
+    (λ u. by-test (Finds rest) (λ v. inr (eqb-true _ _ u, eqb-true _ _ v))
+    (λ v. sealed-finds rest (eqb-false _ _ t) (getD rest 0 0) refl (eqb-true _ _ u) (eqb-false _ _ v)))
+    (λ u. plain-finds rest (eqb-false _ _ t) (eqb-false _ _ u)))
 
 -- the nonce
 

@@ -25,7 +25,7 @@ use Rattle.recv_keys.specs.declared.RecvKeys.{RecvKeys}
 use Rattle.window.specs.Used.{fresh-unused}
 use Rattle.window.specs.Window.{isFresh}
 use Rattle.history_theorem.specs.Account.{upd}
-use Rattle.history_theorem.specs.Claim.{Real, Shows, RightNonce}
+use Rattle.history_theorem.specs.Claim.{Real, Shows, There, Ends, RightNonce}
 use Rattle.history_theorem.specs.Reads.{outBy}
 use Rattle.history_theorem.specs.Receiver.{Handed, Out, settled, fateOf, handedBy}
 use Rattle.history_theorem.specs.Sound.{FreshAsked, Hands, spend-hands, hand-hands, Moves, SameKeys}
@@ -40,9 +40,13 @@ pub record Settles (l : RecvKeys) (ivs : ℕ → List ℕ) (b : Datagram) (d : L
   pub nonce : RightNonce (o .reading) ivs (o .nonce)
   pub real : (good on : Bool) → Real (o .reading) good on
   pub shows : (rest shown : List ℕ) → Shows (o .reading) rest shown
+  pub stops : (rest : List ℕ) → There rest → Ends (o .reading) rest (b .readings)
 
 module _ (l : RecvKeys) (ivs : ℕ → List ℕ) (b : Datagram) (a : Ask) (n : ℕ) (d : List ℕ) (whole : length d ≡ b .size) (to : Option ℕ) (end : ℕ)
     (e : end ≡ endAsked b a) where
+  few : b .readings < 16 → b .readings ≤ 15
+  few h = omega arith
+
   pub typed-settles : (v : Inner) → Settles l ivs b d to end (outBy l (typed b a n v) d)
   unfolding typed counted
   typed-settles inner.Nothing = record {
@@ -52,6 +56,7 @@ module _ (l : RecvKeys) (ivs : ℕ → List ℕ) (b : Datagram) (a : Ask) (n : �
     nonce = tt;
     real = λ g o. tt;
     shows = λ r s. tt;
+    stops = λ r w. w;
   }
   typed-settles (inner.Found t len) =
       by-test (λ x. Settles l ivs b d to end (outBy l x d))
@@ -62,6 +67,7 @@ module _ (l : RecvKeys) (ivs : ℕ → List ℕ) (b : Datagram) (a : Ask) (n : �
         nonce = tt;
         real = λ g o. tt;
         shows = λ r s. tt;
+        stops = λ r w. (w, leb-true 16 (b .readings) f);
       })
       (λ f. record {
         moves = record { size = refl; long = refl; goes = (refl, sym e, refl) };
@@ -70,6 +76,7 @@ module _ (l : RecvKeys) (ivs : ℕ → List ℕ) (b : Datagram) (a : Ask) (n : �
         nonce = tt;
         real = λ g o. tt;
         shows = λ r s. tt;
+        stops = λ r w. (w, few (leb-false 16 (b .readings) f));
       })
 
   module _ (used : ℕ → List ℕ) (handed : ℕ → List Handed) (h : Hands used handed) (new : Mem n (used (a .epoch)) → ⊥) where

@@ -183,6 +183,7 @@ module _ (masks : Masks) (sealed : ℕ → List Sealed) (i : Inbound) (l : Link 
     moved-nothing = λ k none-accepted m o z. moved-unused m (m .spends) (none-accepted m o z) (l .moves m o);
     each-call = l .moves;
     real-readings = l .sound .real;
+    ends-right = l .sound .stops;
     plain-read = λ d m. l .sound .said d m .plain;
     unopened-read = λ d m. l .sound .said d m .unopened;
     read-at-once = λ t p. (l .sound .later t p says.End .plain, l .sound .later t p says.End .unopened);

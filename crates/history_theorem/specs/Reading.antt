@@ -45,11 +45,11 @@ use Rattle.recv_keys.specs.declared.RecvEpochEntry.{RecvEpochEntry}
 use Rattle.recv_keys.specs.declared.RecvKeys.{RecvKeys}
 use Rattle.window.specs.Window.{isFresh}
 use Rattle.history_theorem.specs.Account.{upd, Shown, nothing, aMask, anOpening, Account, resolvesTo, recordSize, goodPlain}
-use Rattle.history_theorem.specs.Claim.{Real, Shows, Proper, RightNonce, NumberByte, Spares}
-use Rattle.history_theorem.specs.Cut.{cut, nonce-own}
+use Rattle.history_theorem.specs.Claim.{Real, Shows, There, Ends, Proper, RightNonce, NumberByte, Spares}
+use Rattle.history_theorem.specs.Cut.{cut, finds, nonce-own}
 use Rattle.history_theorem.specs.Lists.{by-both, drops-on}
 use Rattle.history_theorem.specs.Opening.{Settles, typed-settles, typed-hands, yes-keys, yes-table, yes-new}
-use Rattle.history_theorem.specs.Reads.{outBy, readsOut, maskedOut, Quiet, passed-quiet, read-quiet, read-flag, read-shows, plain-says, unopened-says, masked-long, masked-behind, masked-other, mask-quiet}
+use Rattle.history_theorem.specs.Reads.{outBy, readsOut, maskedOut, Quiet, passed-quiet, read-quiet, read-flag, read-shows, read-stops, plain-says, unopened-says, masked-long, masked-behind, masked-other, mask-quiet}
 use Rattle.history_theorem.specs.Receiver.{
   Sealed,
   Handed,
@@ -134,6 +134,8 @@ down-sound y i t w deed p = record {
   shows = i .shows;
   said = i .said;
   later = i .later;
+  stops = i .stops;
+  waits = i .waits;
 }
 
 abbrev pub sameAgain : Receiver → Reading → List ℕ → Out
@@ -159,6 +161,8 @@ again-sound y i x v w f h q p n = rw (f, q) (record {
   shows = i .shows;
   said = i .said;
   later = i .later;
+  stops = i .stops;
+  waits = i .waits;
 })
 
 -- the epoch of a question is found
@@ -208,6 +212,16 @@ judged-shows e b a n rest shown =
 masked-shows : (j : ℕ) (k : RecvKeys) (b : Datagram) (a : Ask) (m d rest shown : List ℕ) → Shows (maskedBy (found.At j) k b a m d .0 .reading) rest shown
 unfolding maskedBy maskedAt
 masked-shows j k b a m d rest shown = judged-shows (entryAt k j) b a _ rest shown
+
+-- nor does it end the datagram
+judged-stops : (e : RecvEpochEntry) (b : Datagram) (a : Ask) (n : ℕ) (rest : List ℕ) (m : ℕ) → There rest → Ends (judged e b a n .reading) rest m
+unfolding judged openingAsked
+judged-stops e b a n rest m w =
+    by-test (λ (t : Step). Ends (t .reading) rest m) (λ u. w) (λ u. by-test (λ (t : Step). Ends (t .reading) rest m) (λ v. w) (λ v. w))
+
+masked-stops : (j : ℕ) (k : RecvKeys) (b : Datagram) (a : Ask) (m d rest : List ℕ) (n : ℕ) → There rest → Ends (maskedBy (found.At j) k b a m d .0 .reading) rest n
+unfolding maskedBy maskedAt
+masked-stops j k b a m d rest n w = judged-stops (entryAt k j) b a _ rest n w
 
 -- a refused reply uses nothing
 pub use-down : (w : Shown) (p : Opening) → useOf w p turnedDown ≡ unused
@@ -307,6 +321,14 @@ module _ (y : Receiver) (i : Sound y) where
             (p .sealed-form) (p .goes-on) (p .header) (p .whole) (p .bits) (sym (i .tally .encryption) ∙ p .encryption-off) (few (p .among-16));
       }))
 
+  idle-stops : (sealed : ℕ → List Sealed) → b .question ≡ question.Nothing → Ends (readOut (y .state) d .reading) (restOf y) (y .account .readings)
+  unfolding asking
+  idle-stops sealed q =
+      subst (λ (n : ℕ). Ends (readOut (y .state) d .reading) (restOf y) n) (sym (i .tally .readings))
+      (subst (λ (s : Step). Ends (readsOut k s d .reading) (restOf y) (b .readings)) (sym (read-asks k b d question.Nothing in-range (i .whole) q))
+      (subst (λ (l : List ℕ). Ends (readsOut k (stepOf (parsed l) k b) d .reading) (restOf y) (b .readings)) (rest-idle q)
+      (read-stops k (y .used) (y .account .ivs) (i .table) b d (i .made .ready) (i .whole) none 0 true true (restOf y) (parsed (restOf y)) (finds (restOf y)))))
+
   read-made : Made (readOut (y .state) d .state)
   read-made = after-made (reading d) (y .state) (i .made)
 
@@ -318,7 +340,7 @@ module _ (y : Receiver) (i : Sound y) where
       step-sound y i o (reached y sealed) unused aRead (c .moves) same-keys read-made (i .table) (c .asked)
       (subst (λ f. Hands (y .used) f) (sym (c .hands (shownBy (o .reading) d) (y .handed))) (i .hands))
       (subst (λ w. Proper aRead w (o .reading)) (sym z) (moves-on (c .moves))) (c .nonce) (c .real) (idle-intact sealed q) (none-written y aRead o refl)
-      (idle-shows sealed q) (idle-said sealed q)
+      (idle-shows sealed q) (idle-said sealed q) (idle-stops sealed q) refl
 
   -- the mask question again
   pub masks-again : (a : Ask) → b .question ≡ question.Mask a
@@ -454,7 +476,9 @@ module _ (y : Receiver) (i : Sound y) where
         (masked-by (λ p. FlagAsked (p .0 .datagram .question) (getD (drop (b .at) (y .arrived)) 0 0)) (λ j. masked-flag j _ k b a m d)))
         (mask-spares (z .2 .0))
         (masked-by (λ p. Shows (p .0 .reading) (t .rest) (shownBy (p .0 .reading) (maskedOut k p .datagram))) (λ j. masked-shows j k b a m d (t .rest) _))
-        (i .later t (z .1) (o .reading)))
+        (i .later t (z .1) (o .reading))
+        (masked-by (λ p. Ends (p .0 .reading) (t .rest) (t .count)) (λ j. masked-stops j k b a m d (t .rest) (t .count) (i .waits t (z .1) .there)))
+        (i .waits t (z .1) .count))
 
   masks : (m : List ℕ) (q : Question) → b .question ≡ q → UnderWay q (b .at) (y .account .waits) (y .trial) → Sound (maskBy y (maskOut (y .state) m d))
   masks m question.Nothing q z =
@@ -539,7 +563,7 @@ module _ (y : Receiver) (i : Sound y) where
         (step-sound y i (opensTo m) t unused (anOpenReply reply.No) (c .moves) same-keys (opened-made reply.No m e) (i .table) tt (i .hands)
         (subst (λ w. Proper (anOpenReply reply.No) w (says.Dropped reason.NotOpened)) (sym waits-is) refl) tt tt
         (settled-intact (opensTo m) (c .moves) refl refl) (none-written y (anOpenReply reply.No) (opensTo m) refl) tt
-        (i .later t (z .1) (says.Dropped reason.NotOpened))))
+        (i .later t (z .1) (says.Dropped reason.NotOpened)) (i .waits t (z .1) .there) (i .waits t (z .1) .count)))
 
     module _ (len j : ℕ) (f : find (k .entries) (a .epoch) (k .count) ≡ found.At j) where
       abbrev pub o : Out
@@ -582,7 +606,9 @@ module _ (y : Receiver) (i : Sound y) where
           (subst (λ w. Proper (anOpenReply (reply.Yes len)) w (o .reading)) (sym waits-is)
           (λ r. settles .fate, λ wrong. absurd (wrong (right ∙ sym (z .2 .4)))))
           (settles .nonce) (settles .real (t .plain) (t .encrypted)) (settled-intact o (settles .moves) (settles .fate) refl)
-          (none-written y (anOpenReply (reply.Yes len)) o refl) (settles .shows (t .rest) _) (i .later t (z .1) (o .reading))))
+          (none-written y (anOpenReply (reply.Yes len)) o refl) (settles .shows (t .rest) _) (i .later t (z .1) (o .reading))
+          (subst (λ (x : ℕ). Ends (o .reading) (t .rest) x) (sym (i .waits t (z .1) .count ∙ i .tally .readings)) (settles .stops (t .rest) (i .waits t (z .1) .there)))
+          (i .waits t (z .1) .count)))
 
       open-yes : Sound (openBy y (reply.Yes len) (openOut (y .state) (reply.Yes len) d))
       unfolding openedAt

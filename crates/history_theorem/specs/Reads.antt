@@ -39,8 +39,8 @@ use Rattle.recv_keys.specs.declared.Found.the-variants as found
 use Rattle.recv_keys.specs.declared.Found.{Found}
 use Rattle.recv_keys.specs.declared.RecvKeys.{RecvKeys}
 use Rattle.history_theorem.specs.Account.{plainHead, Shown, nothing, aMask, anOpening, Account, headSize, saidSize, recordSize, goodPlain}
-use Rattle.history_theorem.specs.Claim.{Real, SaysPlaintext, SaysUnopened, Shows, RightNonce}
-use Rattle.history_theorem.specs.Cut.{Cuts, head-same, plain-parsed, sealed-parsed, nonce-own}
+use Rattle.history_theorem.specs.Claim.{Real, SaysPlaintext, SaysUnopened, Shows, There, Ends, RightNonce}
+use Rattle.history_theorem.specs.Cut.{Cuts, Finds, head-same, plain-parsed, sealed-parsed, nonce-own}
 use Rattle.history_theorem.specs.Lists.{splice-behind, splice-other}
 use Rattle.history_theorem.specs.Receiver.{Handed, Out, outOf, readTo, maskedTo, turnedDown, fateOf, handedBy, questionIn}
 use Rattle.history_theorem.specs.Sound.{Asked, FreshAsked, FlagAsked, Goes, Moves}
@@ -233,6 +233,31 @@ module _ (k : RecvKeys) (used ivs : ℕ → List ℕ) (tab : Table k used ivs) (
         len,
         shown-there rest q (x .«header_len») (headSize (getD rest 0 0)) (x .length) head ∙ ap (λ (l : ℕ). part (headSize (getD rest 0 0)) l rest) len,
       )))
+
+  -- the end is told where the datagram is over, 2 where a record is cut short, and everything else of a record that is there
+  abbrev Stops : List ℕ → Step → Type 0
+  Stops rest t = Ends (readsOut k t d₀ .reading) rest (b .readings)
+
+  counted-stops : (rest : List ℕ) → There rest → (next : ℕ) (x : Reading) → (b .readings ≤ 15 → Stops rest (told (moved b next (b .readings + 1)) x))
+      → Stops rest (counted b next x)
+  unfolding counted
+  counted-stops rest w next x z =
+      by-test (Stops rest) (λ f. (w, leb-true 16 (b .readings) f)) (λ f. z (omega (arith, leb-false 16 (b .readings) f)))
+
+  locked-stops : (rest : List ℕ) → There rest → (c : Ciphertext) (f : Found) → Stops rest (lockedStep f k b c)
+  unfolding lockedStep
+  locked-stops rest w c found.Nothing = w
+  locked-stops rest w c (found.At i) = by-test (Stops rest) (λ f. w) (λ f. by-test (Stops rest) (λ g. w) (λ g. w))
+
+  pub read-stops : (rest : List ℕ) (p : Parsed) → Finds rest p → Stops rest (stepOf p k b)
+  unfolding stepOf sealedStep
+  read-stops rest parse.End w = w
+  read-stops rest parse.Incomplete w = w
+  read-stops rest (parse.Invalid n) w = w
+  read-stops rest (parse.Plaintext p) w = counted-stops rest w _ _ (λ few. (w, few))
+  read-stops rest (parse.Ciphertext x) w =
+      by-test (Stops rest) (λ f. locked-stops rest w x (resolve k (x .«epoch_bits»)))
+      (λ f. by-test (Stops rest) (λ g. w) (λ g. counted-stops rest w _ _ (λ low. (w, low))))
 
   -- a record of which a plaintext or unopened reading is due is said to be that
   counted-says : (next : ℕ) (x : Reading) → b .readings ≤ 15 → counted b next x ≡ told (moved b next (b .readings + 1)) x

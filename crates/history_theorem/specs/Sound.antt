@@ -23,7 +23,7 @@ use Rattle.recv_keys.specs.declared.Found.the-variants as found
 use Rattle.recv_keys.specs.declared.RecvKeys.{RecvKeys}
 use Rattle.window.specs.Window.{isFresh}
 use Rattle.history_theorem.specs.Account.{upd, Shown, nothing, aMask, anOpening, Account}
-use Rattle.history_theorem.specs.Claim.{Once, Real, PlainDue, UnopenedDue, SaysPlaintext, SaysUnopened, Shows, Proper, RightNonce, Spares}
+use Rattle.history_theorem.specs.Claim.{Once, Real, PlainDue, UnopenedDue, SaysPlaintext, SaysUnopened, Shows, There, Ends, Proper, RightNonce, Spares}
 use Rattle.history_theorem.specs.Lists.{upd-same, upd-other, upd-by, some-inj, some≢none, mem-by, drops-on}
 use Rattle.history_theorem.specs.Receiver.{
   Sealed,
@@ -115,6 +115,11 @@ pub record Said (t : Trial) (r : Reading) : Type 0 where
   pub plain : PlainDue t → SaysPlaintext r
   pub unopened : UnopenedDue t → SaysUnopened r
 
+-- a record under way is there, and the readings before it are those made
+pub record Waits (t : Trial) (readings : ℕ) : Type 0 where
+  pub there : There (t .rest)
+  pub count : t .count ≡ readings
+
 pub record Sound (y : Receiver) : Type 0 where
   pub made : Made (y .state)
   pub table : Table (y .state .keys) (y .used) (y .account .ivs)
@@ -133,6 +138,8 @@ pub record Sound (y : Receiver) : Type 0 where
   pub said : (d : Tried) → Mem d (y .tried) → Said (d .trial) (d .reading)
   -- of a record under way none is due, so whatever settles it is right
   pub later : (t : Trial) → y .trial ≡ some t → (r : Reading) → Said t r
+  pub stops : (d : Tried) → Mem d (y .tried) → Ends (d .reading) (d .trial .rest) (d .trial .count)
+  pub waits : (t : Trial) → y .trial ≡ some t → Waits t (y .account .readings)
 
 -- ---- handing over
 
@@ -190,6 +197,21 @@ asked-said t r e s x = record {
   plain = λ p. absurd (asks-neither r e .0 (s .plain p));
   unopened = λ p. absurd (asks-neither r e .1 (s .unopened p));
 }
+
+-- ---- and is asked of a record that is there
+
+asks-there : (r : Reading) (rest : List ℕ) (n : ℕ) → fateOf r ≡ underway → Ends r rest n → There rest
+asks-there (says.Mask k s) rest n e z = z
+asks-there (says.Opening k m s h l) rest n e z = z
+asks-there says.Setting rest n e z = underway≢down (sym e)
+asks-there says.Reply rest n e z = underway≢down (sym e)
+asks-there says.End rest n e z = underway≢settled (sym e)
+asks-there says.Incomplete rest n e z = underway≢settled (sym e)
+asks-there says.TooMany rest n e z = underway≢settled (sym e)
+asks-there (says.Dropped r) rest n e z = underway≢settled (sym e)
+asks-there (says.Plaintext t m s l) rest n e z = underway≢settled (sym e)
+asks-there (says.Unopened b m s l) rest n e z = underway≢settled (sym e)
+asks-there (says.Opened k m t s l) rest n e z = underway≢settled (sym e)
 
 -- ---- a reading call that is not refused
 
@@ -309,7 +331,7 @@ module _ (y : Receiver) (i : Sound y) (o : Out) (t : Trial) (u : Use) (deed : De
     (pro : Proper deed (y .account .waits) (o .reading)) (non : RightNonce (o .reading) (y .account .ivs) (o .nonce))
     (rea : Real (o .reading) (t .plain) (t .encrypted)) (int : Intact (o .state .datagram) (o .datagram) (y .arrived))
     (spa : Spares (spokenBy y deed o)) (sho : Shows (o .reading) (t .rest) (shownBy (o .reading) (o .datagram)))
-    (sai : Said t (o .reading)) where
+    (sai : Said t (o .reading)) (sto : Ends (o .reading) (t .rest) (t .count)) (cou : t .count ≡ y .account .readings) where
   fate-sound : (f : Fate) → fateOf (o .reading) ≡ f → Goes (y .state .datagram) (length (y .datagram)) (t .resolved) (t .ends) f o → Sound (record {
     state = o .state;
     datagram = o .datagram;
@@ -348,6 +370,9 @@ module _ (y : Receiver) (i : Sound y) (o : Out) (t : Trial) (u : Use) (deed : De
     shows = i .shows;
     said = i .said;
     later = λ a p r. subst (λ x. Said x r) (some-inj p) (asked-said t (o .reading) q sai r);
+    stops = i .stops;
+    waits = λ a p.
+        subst (λ x. Waits x (y .account .readings)) (some-inj p) (record { there = asks-there (o .reading) (t .rest) (t .count) q sto; count = cou });
   }
   fate-sound settled q g = record {
     made = made;
@@ -386,6 +411,12 @@ module _ (y : Receiver) (i : Sound y) (o : Out) (t : Trial) (u : Use) (deed : De
         subst (λ x. Said (x .trial) (x .reading)) (sym p) sai)
         (λ m′. i .said d m′);
     later = λ a p. some≢none (sym p);
+    stops = λ d m.
+        mem-by m
+        (λ (p : d ≡ record { trial = t; reading = o .reading; shown = shownBy (o .reading) (o .datagram) }).
+        subst (λ x. Ends (x .reading) (x .trial .rest) (x .trial .count)) (sym p) sto)
+        (λ m′. i .stops d m′);
+    waits = λ a p. some≢none (sym p);
   }
 
   pub step-sound : Sound (after y o (some t) u (questionIn (o .reading) (o .datagram)) deed)
