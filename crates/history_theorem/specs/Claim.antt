@@ -200,11 +200,11 @@ pub record UnopenedDue (t : Trial) : Type 0 where
   pub encryption-off : t .encrypted ≡ false
   pub among-16 : t .count ≤ 15
 
--- the datagram is over: nothing is left, or "0x10 ends the datagram"
+-- the datagram is over: nothing is left, or 0x10 ends it
 abbrev pub Over : List ℕ → Type 0
 Over rest = (length rest ≡ 0) ⊎ ((getD rest 0 0 / 32 ≡ 1) × (getD rest 0 0 / 16 % 2 ≡ 1))
 
--- "a header or length beyond its bytes", of a sealed record and of any other
+-- a header or length beyond its bytes (2), of a sealed record and of any other
 abbrev pub Short : List ℕ → Type 0
 Short rest =
     ((getD rest 0 0 / 32 ≡ 1) × ((length rest < headSize (getD rest 0 0)) ⊎ (length rest < saidSize rest (getD rest 0 0))))
