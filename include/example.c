@@ -1,4 +1,5 @@
-/* The two examples in C, run: reading.inc reads a datagram, sending.inc sends a record (include/example cuts them out of README.md). The cipher is a toy, which seals nothing
+/* The examples in C, run: reading.inc reads a datagram, sending.inc sends a record, flight.inc sends a message until it is acknowledged,
+ * notes.inc acknowledges (include/example cuts them out of README.md). The cipher is a toy, which seals nothing
  * from anyone, and ends the program where it is asked without end.
  *
  * Exit status: 0 both do what README says; 1 one does not. */
@@ -122,6 +123,56 @@ static void check_reading(const uint8_t *d, size_t n, size_t at, uint8_t change,
     need(refusal == NULL || (told != NULL && strcmp(told, refusal) == 0), "the refusal is not told");
 }
 
+/* ---- a message until it is acknowledged, and the ACK */
+
+enum { MTU = 1200, LIMIT = 4 };
+
+static int timer;
+
+static void start_timer(void)
+{
+    timer = 1;
+}
+
+static void stop_timer(void)
+{
+    timer = 0;
+}
+
+static void begin(HuskSending *s, HuskFlight *f)
+{
+    need(husk_sending_init(s, MTU, LIMIT) == HUSK_DONE && husk_sending_key(s, 2, iv) == HUSK_DONE, "no sending side");
+    husk_flight_init(f);
+}
+
+static void flight_example(void)
+{
+    static uint8_t queue[LIMIT * MTU], kept[12 * MTU], body[1000];
+    /* The message's one record, by the number of its first sending. */
+    static const uint8_t ack[18] = {0, 16, 0, 0, 0, 0, 0, 0, 0, 2};
+    size_t n = sizeof body, ack_len = sizeof ack;
+    HuskSending s;
+    HuskFlight f;
+    begin(&s, &f);
+#include "flight.inc"
+    need(again.refusal == HUSK_DONE && again.told == 1, "the message's one record is not sent again");
+    need(acked.marked == 1 && acked.saved == 0 && !timer, "the timer is not stopped");
+    need(husk_flight_status(&f).saved == 0 && husk_sending_status(&s).waiting == 2, "another status than two sealings and no flight");
+}
+
+static void notes_example(void)
+{
+    static uint8_t queue[LIMIT * MTU];
+    HuskReading r = {.kind = HUSK_READING_OPENED, .epoch = 2, .number = 0};
+    HuskSending s;
+    HuskFlight f;
+    HuskNotes notes;
+    begin(&s, &f);
+    husk_notes_init(&notes);
+#include "notes.inc"
+    need(sent.refusal == HUSK_DONE && sent.told == 1 && husk_sending_status(&s).queued == 1, "no ACK is queued");
+}
+
 int main(void)
 {
     uint8_t d[ROOM];
@@ -134,5 +185,7 @@ int main(void)
     check_reading(d, n, n - 1, 0x40, 0, husk_refusal_text(HUSK_OUT_OF_RANGE));
     seal_fails = 1;
     need(send_example(text, sizeof text, d) == 0, "a record that could not be sealed goes out");
+    flight_example();
+    notes_example();
     return 0;
 }
