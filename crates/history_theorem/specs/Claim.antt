@@ -1,6 +1,6 @@
 -- Demand 3 at a receiving end: what is asked of the host, and what then holds, against the records that the far end sealed.
 -- Quotations are the demand's, or from 01's paragraph e.
-use Prim.Native.Nat.{ℕ, _+_, _-_, _/_, _%_, _^_, _≤_, _<_}
+use Prim.Native.Nat.{ℕ, _+_, _-_, _/_, _%_, _^_, _≤_, _<_, max}
 use lib.Bits.{bitXor}
 use lib.Dec.{eqb}
 use lib.ListN.{length, take, drop, getD}
@@ -132,9 +132,10 @@ asHanded r = record { num = r .num; type = r .type; content = r .content }
 abbrev pub windowMarks : ℕ
 windowMarks = 64
 
--- the first number out of reach: "under 32,768 above that highest plus one (above 0 if none)"
+-- the first number out of reach: "under 32,768 above that highest plus one"; "With no number used, demand 3's reach becomes every number under
+-- 65,536" (02, 1), and so it is until that highest plus one is 32,768
 abbrev pub reachOf : List ℕ → ℕ
-reachOf used = above used + 32768
+reachOf used = max 65536 (above used + 32768)
 
 -- the record r may not be left out in epoch e, by the moment at which the cut came to it
 pub record Due (t : Trial) (e : ℕ) (r : Sealed) : Type 0 where
@@ -152,7 +153,7 @@ pub record Due (t : Trial) (e : ℕ) (r : Sealed) : Type 0 where
   pub not-used : Mem (r .num) (t .used e) → ⊥
   -- "at most 63 below the highest used"
   pub not-old : above (t .used e) ≤ r .num + windowMarks
-  -- "under 32,768 above that highest plus one (above 0 if none)"
+  -- "under 32,768 above that highest plus one", or under 65,536
   pub in-reach : r .num < reachOf (t .used e)
 
 -- a reading says opened in epoch e and shows the record h

@@ -1,6 +1,6 @@
 -- The mask that was put on asks the opening of an undamaged record under the number it was sealed with, if that number is within reach.
 -- Assumes nothing.
-use Prim.Native.Nat.{ℕ, zero, suc, _+_, _/_, _%_, _<_, _≤_}
+use Prim.Native.Nat.{ℕ, zero, suc, _+_, _/_, _%_, _<_, _≤_, max}
 use native.Mathlib.Nat.{div-one}
 use borrow.Author.Tests.{le-ltb}
 use lib.Bits.{bitXor}
@@ -125,9 +125,10 @@ same-bits : (s : Bool) (p n : ℕ) → p ≡ n % blockOf s → n % blockOf s ≡
 same-bits true p n e = omega arith
 same-bits false p n e = omega arith
 
--- bits of a number within reach stand for it: half a block around the expected one, 32,768 for two bytes and 128 for one
+-- bits of a number within reach stand for it: half a block around the expected one, 32,768 for two bytes and 128 for one, and all of the first
+-- block above it
 pub rebuilt-near : (w : ReplayWindow) (s : Bool) (p n : ℕ) → p ≡ n % blockOf s → n ≤ 0xFFFF_FFFF_FFFF
-    → n < expected w + blockOf s / 2 → expected w < n + blockOf s / 2 → rebuilt w p s ≡ n
+    → n < max (blockOf s) (expected w + blockOf s / 2) → expected w < n + blockOf s / 2 → rebuilt w p s ≡ n
 unfolding rebuilt
 rebuilt-near w s p n e small above below = near s p (expected w) n (omega arith) (same-bits s p n e) above below
 
@@ -140,7 +141,7 @@ module _ (k : RecvKeys) (b : Datagram) (a : Ask) (i n : ℕ) (m d : List ℕ) wh
   -- number bytes of either width
   opens : (s : Bool) → isSound k b ≡ true → length d ≡ b .size → b .question ≡ question.Mask a → find (k .entries) (a .epoch) (k .count) ≡ found.At i
       → a .«s_flag» ≡ s → partialOf (drop (b .at) (unmasked d (b .at) s m)) s ≡ n % blockOf s → n ≤ 0xFFFF_FFFF_FFFF
-      → n < expected (entryAt k i .replay) + blockOf s / 2 → expected (entryAt k i .replay) < n + blockOf s / 2
+      → n < max (blockOf s) (expected (entryAt k i .replay) + blockOf s / 2) → expected (entryAt k i .replay) < n + blockOf s / 2
       → isFresh (entryAt k i .replay) n ≡ true
       → maskStep k b m d ≡ (openingAsked (entryAt k i) b a n, unmasked d (b .at) s m)
   unfolding masking maskedBy maskedAt
@@ -159,7 +160,7 @@ module _ (k : RecvKeys) (b : Datagram) (a : Ask) (i n : ℕ) (m d : List ℕ) wh
   pub mask-opens : isSound k b ≡ true → length d ≡ b .size → b .question ≡ question.Mask a → find (k .entries) (a .epoch) (k .count) ≡ found.At i
       → a .«s_flag» ≡ true → b .at + 2 < length d
       → getD d (b .at + 1) 0 ≡ bitXor (n / 256 % 256) (getD m 0 0) → getD d (b .at + 2) 0 ≡ bitXor (n % 256) (getD m 1 0)
-      → n ≤ 0xFFFF_FFFF_FFFF → n < expected (entryAt k i .replay) + 32768 → expected (entryAt k i .replay) < n + 32768
+      → n ≤ 0xFFFF_FFFF_FFFF → n < max 65536 (expected (entryAt k i .replay) + 32768) → expected (entryAt k i .replay) < n + 32768
       → isFresh (entryAt k i .replay) n ≡ true
       → maskStep k b m d ≡ (openingAsked (entryAt k i) b a n, unmasked d (b .at) true m)
   mask-opens t l q f s room high low = opens true t l q f s (number-bytes d m (b .at) n room high low)
@@ -167,7 +168,7 @@ module _ (k : RecvKeys) (b : Datagram) (a : Ask) (i n : ℕ) (m d : List ℕ) wh
   -- one number byte
   pub mask-opens-short : isSound k b ≡ true → length d ≡ b .size → b .question ≡ question.Mask a → find (k .entries) (a .epoch) (k .count) ≡ found.At i
       → a .«s_flag» ≡ false → b .at + 1 < length d → getD d (b .at + 1) 0 ≡ bitXor (n % 256) (getD m 0 0)
-      → n ≤ 0xFFFF_FFFF_FFFF → n < expected (entryAt k i .replay) + 128 → expected (entryAt k i .replay) < n + 128
+      → n ≤ 0xFFFF_FFFF_FFFF → n < max 256 (expected (entryAt k i .replay) + 128) → expected (entryAt k i .replay) < n + 128
       → isFresh (entryAt k i .replay) n ≡ true
       → maskStep k b m d ≡ (openingAsked (entryAt k i) b a n, unmasked d (b .at) false m)
   mask-opens-short t l q f s room low = opens false t l q f s (number-byte d m (b .at) n room low)

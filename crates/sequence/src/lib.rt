@@ -3,7 +3,7 @@ ghost use mathlib.Core.Path.{_≡_};
 ghost use Prim.Native.Nat.{_+_, _-_, _%_, _^_, _<_, _≤_};
 ghost use Rattle.sequence.specs.Sequence.{blockOf, nearest};
 
-// The number nearest `expected` that is `partial` modulo `block`.
+// The number of 0 or more nearest `expected` that is `partial` modulo `block`.
 fn in_block(partial: u64, expected: u64, block: u64) -> u64
     requires { ⌜ (0 < block) × (block ≤ 65536) × (expected - expected % block + block ≤ 2 ^ 64) ⌝ }
     ensures { λ r. ⌜ r ≡ nearest block partial expected ⌝ }
@@ -13,7 +13,7 @@ fn in_block(partial: u64, expected: u64, block: u64) -> u64
     if expected < own {
         if half < own - expected {
             if own < block {
-                return 0;
+                return own;
             }
             return own - block;
         }

@@ -25,15 +25,15 @@ sub-if2 c = search needs
 
 returns : tie.Need-returns
 unfolding own
-returns c = is-nearest _ _ _ (λ s. omega arith) (λ s t v. omega arith) (λ s t v. omega arith) (λ s t. omega arith)
+returns c = is-nearest _ _ _ (λ s z. omega arith) (λ s z. omega arith) (λ s t v. omega arith) (λ s t v. omega arith) (λ s t. omega arith)
 
 returns-2 : tie.Need-returns-2
 unfolding own
-returns-2 c = is-nearest _ _ _ (λ s. omega arith) (λ s t v. omega arith) (λ s t v. omega arith) (λ s t. omega arith)
+returns-2 c = is-nearest _ _ _ (λ s z. omega arith) (λ s z. omega arith) (λ s t v. omega arith) (λ s t v. omega arith) (λ s t. omega arith)
 
 returns-3 : tie.Need-returns-3
 unfolding own
-returns-3 c = is-nearest _ _ _ (λ s. omega arith) (λ s t v. omega arith) (λ s t v. omega arith) (λ s t. omega arith)
+returns-3 c = is-nearest _ _ _ (λ s z. omega arith) (λ s z. omega arith) (λ s t v. omega arith) (λ s t v. omega arith) (λ s t. omega arith)
 
 sub-if5 : tie.Need-sub-if5
 sub-if5 c = search needs
@@ -43,15 +43,15 @@ add-result c = search needs
 
 returns-4 : tie.Need-returns-4
 unfolding own
-returns-4 c = is-nearest _ _ _ (λ s. omega arith) (λ s t v. omega arith) (λ s t v. omega arith) (λ s t. omega arith)
+returns-4 c = is-nearest _ _ _ (λ s z. omega arith) (λ s z. omega arith) (λ s t v. omega arith) (λ s t v. omega arith) (λ s t. omega arith)
 
 returns-5 : tie.Need-returns-5
 unfolding own
-returns-5 c = is-nearest _ _ _ (λ s. omega arith) (λ s t v. omega arith) (λ s t v. omega arith) (λ s t. omega arith)
+returns-5 c = is-nearest _ _ _ (λ s z. omega arith) (λ s z. omega arith) (λ s t v. omega arith) (λ s t v. omega arith) (λ s t. omega arith)
 
 returns-6 : tie.Need-returns-6
 unfolding own
-returns-6 c = is-nearest _ _ _ (λ s. omega arith) (λ s t v. omega arith) (λ s t v. omega arith) (λ s t. omega arith)
+returns-6 c = is-nearest _ _ _ (λ s z. omega arith) (λ s z. omega arith) (λ s t v. omega arith) (λ s t v. omega arith) (λ s t. omega arith)
 
 pub in-block-spec : {M : Type 1} → statement M
 in-block-spec =
