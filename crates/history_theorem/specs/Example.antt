@@ -1,5 +1,6 @@
 -- Worked lists whose premises are met, computed: records out of order, doubled and forged; a doubled record in front of a new one; a removal
--- under a question; a sixteenth and a seventeenth reading; a plaintext record and an unopened one; keys refused. Assumes nothing.
+-- under a question; a sixteenth and a seventeenth reading; a plaintext record and an unopened one; keys refused; the edges of the reach, and
+-- of that of an epoch of which nothing was used. Assumes nothing.
 use Prim.Native.Nat.{ℕ, zero, suc, _+_, _≤_}
 use borrow.Author.Tests.{eqb-false}
 use lib.Dec.{eqb}
@@ -323,3 +324,59 @@ edges-hands = refl
 edges-honest : Honest oneMask (fresh-half 16) edges
 unfolding oneMask edges sealedAs arrives doubled choose both either splice bit askSound askKeyed openingSound questionSound isSound counted nonceOf innerOf unmasked rebuilt judged maskedAt maskedBy masking maskStep typed openedAt openedBy openings openedStep cancelledAsk cancelled freshOf keyOf leaving removedBy removeOf encryptOf releaseOf beginOf headerLen fragmentLen partialOf parseCiphertext isType isVersion isPlaintext plaintextHeader parsePlaintext parsed unifiedHeader lockedStep sealedStep stepOf openingAsked askedAgain asking readStep fits lastFit find orElse two resolve wasFound isKeyed marked appOne apps windowsSound keysSound isFull installed leftAt left maskedHeader own below above nearest expected isFresh marking upd keyOwed keys resolvesTo sealedSize plainSize recordSize goodPlain removedFrom removed removeOwed begun beginOwed afterRead afterMask afterOpen
 edges-honest = (tt, (tt, (shape 2 100 1 (omega arith), (shape 2 37 2 (omega arith), (shape 2 36 3 (omega arith), (shape 2 32868 4 (omega arith), (shape 2 65637 5 (omega arith), (tt, (tt, ((refl, λ s. refl), (tt, (λ right. yes-fair (sealedAs 2 65637 5 ∷ sealedAs 2 32868 4 ∷ sealedAs 2 36 3 ∷ sealedAs 2 37 2 ∷ sealedAs 2 100 1 ∷ []) (sealedAs 2 100 1) (there (there (there (there (here refl))))) refl _ refl, (tt, (tt, ((refl, λ s. refl), (tt, (λ right. yes-fair (sealedAs 2 65637 5 ∷ sealedAs 2 32868 4 ∷ sealedAs 2 36 3 ∷ sealedAs 2 37 2 ∷ sealedAs 2 100 1 ∷ []) (sealedAs 2 37 2) (there (there (there (here refl)))) refl _ refl, (tt, (tt, ((refl, λ s. refl), (tt, (tt, ((refl, λ s. refl), (tt, (λ right. yes-fair (sealedAs 2 65637 5 ∷ sealedAs 2 32868 4 ∷ sealedAs 2 36 3 ∷ sealedAs 2 37 2 ∷ sealedAs 2 100 1 ∷ []) (sealedAs 2 32868 4) (there (here refl)) refl _ refl, (tt, (tt, ((refl, λ s. refl), tt))))))))))))))))))))))))))))
+
+-- ---- the first records of an epoch after a gap
+
+-- a record of which the cipher does not open the number that its bits stand for
+refused : Sealed → List Event → List Event
+refused r rest = here· (begin· (r .wire)) ∷ here· read· ∷ here· (mask· (1 ∷ 2 ∷ [])) ∷ here· (open· reply.No) ∷ rest
+
+-- nothing used in any of three epochs: the first to arrive are 65,536, 40,000 and 65,535
+gap : List Event
+gap =
+    here· (key· 2 (replicate 12 0)) ∷ here· (key· 3 (replicate 12 0)) ∷ here· (key· 4 (replicate 12 0)) ∷ here· encrypt· ∷ far· 2 (sealedAs 2 40000 1)
+    ∷ far· 3 (sealedAs 3 65535 2) ∷ far· 4 (sealedAs 4 65536 3)
+    ∷ refused (sealedAs 4 65536 3) (arrives (sealedAs 2 40000 1) 1 (arrives (sealedAs 3 65535 2) 2 []))
+
+-- 40,000 and 65,535 are handed over; 65,536 ends in the bits of 0, and is not
+gap-hands : (run (fresh-half 16) gap .end .into .handed 2 ≡ record { num = 40000; type = 23; content = 1 ∷ [] } ∷ [])
+    × (run (fresh-half 16) gap .end .into .handed 3 ≡ record { num = 65535; type = 23; content = 2 ∷ [] } ∷ [])
+    × (run (fresh-half 16) gap .end .into .handed 4 ≡ [])
+unfolding gap sealedAs arrives refused choose both either splice bit askSound askKeyed openingSound questionSound isSound counted nonceOf innerOf unmasked rebuilt judged maskedAt maskedBy masking maskStep typed openedAt openedBy openings openedStep cancelledAsk cancelled freshOf keyOf leaving removedBy removeOf encryptOf releaseOf beginOf headerLen fragmentLen partialOf parseCiphertext isType isVersion isPlaintext plaintextHeader parsePlaintext parsed unifiedHeader lockedStep sealedStep stepOf openingAsked askedAgain asking readStep fits lastFit find orElse two resolve wasFound isKeyed marked appOne apps windowsSound keysSound isFull installed leftAt left maskedHeader own below above nearest expected isFresh marking upd keyOwed keys resolvesTo sealedSize plainSize recordSize goodPlain removedFrom removed removeOwed begun beginOwed afterRead afterMask afterOpen
+gap-hands = (refl, refl, refl)
+
+none-used : (n : ℕ) → Mem n [] → ⊥
+none-used n m = elim m [ ]
+
+-- and so they were due, or out of reach
+gap-due : (z : Tried) → Due (lastOf (earlier (run (fresh-half 16) gap .end .into .tried)) z .trial) 2 (sealedAs 2 40000 1)
+    × Due (lastOf (run (fresh-half 16) gap .end .into .tried) z .trial) 3 (sealedAs 3 65535 2)
+    × (Due (lastOf (earlier (earlier (run (fresh-half 16) gap .end .into .tried))) z .trial) 4 (sealedAs 4 65536 3) → ⊥)
+unfolding gap sealedAs arrives refused choose both either splice bit askSound askKeyed openingSound questionSound isSound counted nonceOf innerOf unmasked rebuilt judged maskedAt maskedBy masking maskStep typed openedAt openedBy openings openedStep cancelledAsk cancelled freshOf keyOf leaving removedBy removeOf encryptOf releaseOf beginOf headerLen fragmentLen partialOf parseCiphertext isType isVersion isPlaintext plaintextHeader parsePlaintext parsed unifiedHeader lockedStep sealedStep stepOf openingAsked askedAgain asking readStep fits lastFit find orElse two resolve wasFound isKeyed marked appOne apps windowsSound keysSound isFull installed leftAt left maskedHeader own below above nearest expected isFresh marking upd keyOwed keys resolvesTo sealedSize plainSize recordSize goodPlain removedFrom removed removeOwed begun beginOwed afterRead afterMask afterOpen
+gap-due z = (
+  record {
+    sealed-then = here refl;
+    undamaged = refl;
+    encryption-on = refl;
+    among-16 = omega arith;
+    resolved = refl;
+    not-used = none-used 40000;
+    not-old = omega arith;
+    in-reach = omega arith;
+  },
+  record {
+    sealed-then = here refl;
+    undamaged = refl;
+    encryption-on = refl;
+    among-16 = omega arith;
+    resolved = refl;
+    not-used = none-used 65535;
+    not-old = omega arith;
+    in-reach = omega arith;
+  },
+  λ due. omega (arith, due .in-reach),
+)
+
+gap-honest : Honest oneMask (fresh-half 16) gap
+unfolding oneMask gap sealedAs arrives refused choose both either splice bit askSound askKeyed openingSound questionSound isSound counted nonceOf innerOf unmasked rebuilt judged maskedAt maskedBy masking maskStep typed openedAt openedBy openings openedStep cancelledAsk cancelled freshOf keyOf leaving removedBy removeOf encryptOf releaseOf beginOf headerLen fragmentLen partialOf parseCiphertext isType isVersion isPlaintext plaintextHeader parsePlaintext parsed unifiedHeader lockedStep sealedStep stepOf openingAsked askedAgain asking readStep fits lastFit find orElse two resolve wasFound isKeyed marked appOne apps windowsSound keysSound isFull installed leftAt left maskedHeader own below above nearest expected isFresh marking upd keyOwed keys resolvesTo sealedSize plainSize recordSize goodPlain removedFrom removed removeOwed begun beginOwed afterRead afterMask afterOpen
+gap-honest = (tt, (tt, (tt, (tt, (shape 2 40000 1 (omega arith), (shape 3 65535 2 (omega arith), (shape 4 65536 3 (omega arith), (tt, (tt, ((refl, λ s. refl), (λ right. no-fair (sealedAs 4 65536 3 ∷ []) 0 _ _ refl, (tt, (tt, ((refl, λ s. refl), (tt, (λ right. yes-fair (sealedAs 2 40000 1 ∷ []) (sealedAs 2 40000 1) (here refl) refl _ refl, (tt, (tt, ((refl, λ s. refl), (tt, (λ right. yes-fair (sealedAs 3 65535 2 ∷ []) (sealedAs 3 65535 2) (here refl) refl _ refl, tt)))))))))))))))))))))
