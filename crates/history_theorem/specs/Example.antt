@@ -1,10 +1,10 @@
 -- Worked lists whose premises are met, computed: records out of order, doubled and forged; a doubled record in front of a new one; a removal
 -- under a question; a sixteenth and a seventeenth reading; a plaintext record and an unopened one; keys refused; the edges of the reach, and
 -- of that of an epoch of which nothing was used. Assumes nothing.
-use Prim.Native.Nat.{ℕ, zero, suc, _+_, _≤_}
+use Prim.Native.Nat.{ℕ, zero, suc, _+_, _≤_, _<_}
 use borrow.Author.Tests.{eqb-false}
 use lib.Dec.{eqb}
-use lib.ListN.{length, replicate}
+use lib.ListN.{length, replicate, take}
 use mathlib.Core.Bool.{Bool, true, false, false≢true}
 use mathlib.Core.List.{List, [], _∷_, _++_, List·Memᴰ as Mem, List·Memᴰ·head as here, List·Memᴰ·tail as there}
 use mathlib.Core.Logic.{_↔_}
@@ -28,15 +28,16 @@ use Rattle.records.specs.Records.{lockedStep, sealedStep, stepOf, openingAsked,
 use Rattle.recv_keys.specs.Keys.{fits, lastFit, find, orElse, two, resolve, wasFound, isKeyed, marked, appOne, apps, windowsSound, keysSound, isFull, installed, leftAt, left}
 use Rattle.sealing.specs.Sealing.{maskedHeader}
 use Rattle.sequence.specs.Sequence.{own, below, above, nearest}
-use Rattle.window.specs.Used.{expected}
+use Rattle.window.specs.Used.{expected, above as aboveUsed}
 use Rattle.window.specs.Window.{isFresh, marking}
 use Rattle.history_theorem.specs.Account.{tagSize, upd, keyOwed, keys, resolvesTo, sealedSize, plainSize, recordSize, goodPlain}
-use Rattle.history_theorem.specs.Claim.{Masks, Opens, Due, PlainDue, UnopenedDue}
+use Rattle.history_theorem.specs.Claim.{Masks, Opens, windowMarks, reachOf, Due, PlainDue, UnopenedDue}
 use Rattle.history_theorem.specs.Half.{Shape, Event, here·, far·, Half, fresh-half, run, Honest}
 use Rattle.history_theorem.specs.Lists.{some-inj, mem-by, some≢none}
 use Rattle.history_theorem.specs.Receiver.{
   Sealed,
   Handed,
+  Trial,
   Tried,
   Lost,
   Told,
@@ -345,36 +346,32 @@ gap-hands : (run (fresh-half 16) gap .end .into .handed 2 ≡ record { num = 400
 unfolding gap sealedAs arrives refused choose both either splice bit askSound askKeyed openingSound questionSound isSound counted nonceOf innerOf unmasked rebuilt judged maskedAt maskedBy masking maskStep typed openedAt openedBy openings openedStep cancelledAsk cancelled freshOf keyOf leaving removedBy removeOf encryptOf releaseOf beginOf headerLen fragmentLen partialOf parseCiphertext isType isVersion isPlaintext plaintextHeader parsePlaintext parsed unifiedHeader lockedStep sealedStep stepOf openingAsked askedAgain asking readStep fits lastFit find orElse two resolve wasFound isKeyed marked appOne apps windowsSound keysSound isFull installed leftAt left maskedHeader own below above nearest expected isFresh marking upd keyOwed keys resolvesTo sealedSize plainSize recordSize goodPlain removedFrom removed removeOwed begun beginOwed afterRead afterMask afterOpen
 gap-hands = (refl, refl, refl)
 
-none-used : (n : ℕ) → Mem n [] → ⊥
-none-used n m = elim m [ ]
+-- the first record to arrive in an epoch is due if it is in reach
+first-due : (t : Trial) (e : ℕ) (r : Sealed) → Mem r (t .sealed e) → take (length (r .wire)) (t .rest) ≡ r .wire → t .encrypted ≡ true
+    → t .count ≤ 15 → t .resolved ≡ some e → t .used e ≡ [] → r .num < reachOf [] → Due t e r
+first-due t e r sent same on few found unused near = record {
+  sealed-then = sent;
+  undamaged = same;
+  encryption-on = on;
+  among-16 = few;
+  resolved = found;
+  not-used = λ m. nothing-in (subst (λ (l : List ℕ). Mem (r .num) l) unused m);
+  not-old = subst (λ (l : List ℕ). aboveUsed l ≤ r .num + windowMarks) (sym unused) (omega arith);
+  in-reach = subst (λ (l : List ℕ). r .num < reachOf l) (sym unused) near;
+}
+  where
+    nothing-in : Mem (r .num) [] → ⊥
+    nothing-in m = elim m [ ]
 
--- and so they were due, or out of reach
+-- and so they were due; 65,536 would be, were it in reach
 gap-due : (z : Tried) → Due (lastOf (earlier (run (fresh-half 16) gap .end .into .tried)) z .trial) 2 (sealedAs 2 40000 1)
     × Due (lastOf (run (fresh-half 16) gap .end .into .tried) z .trial) 3 (sealedAs 3 65535 2)
-    × (Due (lastOf (earlier (earlier (run (fresh-half 16) gap .end .into .tried))) z .trial) 4 (sealedAs 4 65536 3) → ⊥)
+    × (65536 < reachOf [] → Due (lastOf (earlier (earlier (run (fresh-half 16) gap .end .into .tried))) z .trial) 4 (sealedAs 4 65536 3))
 unfolding gap sealedAs arrives refused choose both either splice bit askSound askKeyed openingSound questionSound isSound counted nonceOf innerOf unmasked rebuilt judged maskedAt maskedBy masking maskStep typed openedAt openedBy openings openedStep cancelledAsk cancelled freshOf keyOf leaving removedBy removeOf encryptOf releaseOf beginOf headerLen fragmentLen partialOf parseCiphertext isType isVersion isPlaintext plaintextHeader parsePlaintext parsed unifiedHeader lockedStep sealedStep stepOf openingAsked askedAgain asking readStep fits lastFit find orElse two resolve wasFound isKeyed marked appOne apps windowsSound keysSound isFull installed leftAt left maskedHeader own below above nearest expected isFresh marking upd keyOwed keys resolvesTo sealedSize plainSize recordSize goodPlain removedFrom removed removeOwed begun beginOwed afterRead afterMask afterOpen
 gap-due z = (
-  record {
-    sealed-then = here refl;
-    undamaged = refl;
-    encryption-on = refl;
-    among-16 = omega arith;
-    resolved = refl;
-    not-used = none-used 40000;
-    not-old = omega arith;
-    in-reach = omega arith;
-  },
-  record {
-    sealed-then = here refl;
-    undamaged = refl;
-    encryption-on = refl;
-    among-16 = omega arith;
-    resolved = refl;
-    not-used = none-used 65535;
-    not-old = omega arith;
-    in-reach = omega arith;
-  },
-  λ due. omega (arith, due .in-reach),
+  first-due _ 2 (sealedAs 2 40000 1) (here refl) refl refl (omega arith) refl refl (omega arith),
+  first-due _ 3 (sealedAs 3 65535 2) (here refl) refl refl (omega arith) refl refl (omega arith),
+  λ near. first-due _ 4 (sealedAs 4 65536 3) (here refl) refl refl (omega arith) refl refl near,
 )
 
 gap-honest : Honest oneMask (fresh-half 16) gap
