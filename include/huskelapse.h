@@ -32,7 +32,7 @@ extern "C" {
 #define HUSK_VERSION_MAJOR 0
 #define HUSK_VERSION_MINOR 5
 #define HUSK_VERSION_PATCH 0
-#define HUSK_VERSION "0.5.0"
+#define HUSK_VERSION "0.6.0"
 
 /* ---- refusals */
 

@@ -76,6 +76,35 @@ fn contents_lie_in_the_datagram() {
     }
 }
 
+/// The datagrams of these numbers in epoch 3, a record in each.
+fn sent(numbers: &[u64]) -> Vec<Vec<u8>> {
+    let mut sender = Sender::new(1500, 1).unwrap();
+    sender.key(3, &[7; 12]).unwrap();
+    let last = numbers.iter().copied().max().unwrap_or(0);
+    let mut kept = Vec::new();
+    for number in 0..=last {
+        sender.send(3, APPLICATION_DATA, b"14.2 kWh").unwrap();
+        sender.seal(&mut Toy(5)).unwrap();
+        let datagram = sender.take_in_place().unwrap().unwrap();
+        if numbers.contains(&number) {
+            kept.push(datagram.to_vec());
+        }
+    }
+    kept
+}
+
+#[test]
+fn an_epoch_is_found_after_a_gap() {
+    let [mut first, mut last, mut beyond] = <[Vec<u8>; 3]>::try_from(sent(&[40_000, 65_535, 65_536])).unwrap();
+    let mut late = receiver();
+    assert_eq!(late.read(&mut first, &mut Toy(5)).unwrap().next(), Some(opened(40_000, b"14.2 kWh")));
+    assert_eq!(late.read(&mut last, &mut Toy(5)).unwrap().next(), Some(opened(65_535, b"14.2 kWh")));
+    // The bits of 65,536 are those of 0: they tell it only once higher numbers are used.
+    let mut again = beyond.clone();
+    assert_eq!(receiver().read(&mut again, &mut Toy(5)).unwrap().next(), Some(Reading::Dropped(Refusal::NotOpened)));
+    assert_eq!(late.read(&mut beyond, &mut Toy(5)).unwrap().next(), Some(opened(65_536, b"14.2 kWh")));
+}
+
 #[test]
 fn what_is_left_is_not_read() {
     let original = datagram(&[b"one", b"two", b"three"]);
