@@ -12,13 +12,18 @@ pub fn on(options: &Options, report: &Report) -> String {
     match report.verdict.word {
         Word::DoesNotHold => format!("keep this page; {again}"),
         Word::NotFinished if report.verdict.ending == Ending::Ended => again,
-        Word::NotFinished => on_time(options, report),
+        Word::NotFinished => on_time(report),
         Word::Holds => on_records(options, &report.post_to_gateway.records),
     }
 }
 
-/// A run that was not finished: how long it would take.
-fn on_time(options: &Options, report: &Report) -> String {
+/// A run that was not finished: how long it would take, or why no time is enough.
+fn on_time(report: &Report) -> String {
+    if report.verdict.none_in_reach {
+        return "after 65,536 lost records an epoch goes on no more, since 16 bits do not tell its numbers from the lost ones: \
+                key a new epoch or shake hands anew; --lose-first 65535 is the most that goes on"
+            .to_string();
+    }
     let meter = &report.meter;
     if meter.sent == 0 {
         return "the handshake did not come to its end: lower --lose, or give more --seconds".to_string();
@@ -31,14 +36,16 @@ fn on_time(options: &Options, report: &Report) -> String {
     let records = &report.post_to_gateway.records;
     let settled = (records.sealed - records.on_their_way).max(1);
     let needed = report.seconds * meter.to_send as f64 / settled as f64;
-    let all = HumanCount(options.records as u64);
+    let all = HumanCount(meter.to_send as u64);
     format!("at this pace {all} meter records take {needed:.0} s: give --seconds {:.0}, or fewer --records", (1.5 * needed).ceil())
 }
 
 /// A run that holds: what most of the missing records are missing for.
 fn on_records(options: &Options, records: &Records) -> String {
-    let many = |n: usize| n * 100 > records.sealed;
-    let share = |n: usize| format!("{:.0} %", 100.0 * n as f64 / records.sealed as f64);
+    // But for those that --lose-first asked for.
+    let (sealed, lost) = (records.sealed - records.lost_first, records.lost - records.lost_first);
+    let many = |n: usize| n * 100 > sealed;
+    let share = |n: usize| format!("{:.0} %", 100.0 * n as f64 / sealed as f64);
     let reach = REACH as usize / options.pack;
     if many(records.too_late) && options.reorder > reach {
         let pack = if options.pack > 1 { ", or --pack" } else { "" };
@@ -57,8 +64,8 @@ fn on_records(options: &Options, records: &Records) -> String {
         let n = HumanCount(records.beside_another as u64);
         return format!("{n} records went along with another one in their datagram: a lower --pack loses fewer at once");
     }
-    if many(records.lost + records.damaged) {
-        let gone = share(records.lost + records.damaged);
+    if many(lost + records.damaged) {
+        let gone = share(lost + records.damaged);
         return format!(
             "{gone} were lost or damaged, and nothing sends them again: what has to arrive is saved and resent, as the orders are"
         );
