@@ -78,7 +78,7 @@ impl Account {
 
     /// Whether records of epoch 3 were read and none was in reach.
     pub fn none_in_reach(&self) -> bool {
-        self.lowest_in_epoch_3.is_none() && self.fates.contains(&Fate::OutOfReach)
+        self.lowest_in_epoch_3.is_none() && self.left_out == 0 && self.fates.contains(&Fate::OutOfReach)
     }
 
     pub fn count(&self, fate: Fate) -> usize {
@@ -104,7 +104,7 @@ struct Used {
 /// A number more than this below the highest is behind the window.
 pub const REACH: u64 = 63;
 /// A record carries the last 16 bits of its number, which stand for the nearest number that is 0 or more and ends in them.
-pub const BLOCK: u64 = 1 << 16;
+const BLOCK: u64 = 1 << 16;
 
 impl Used {
     /// Fresh is: unused, at most 63 below the highest, and under 65,536 or under 32,768 above the highest plus one. `passed` is the highest of
@@ -395,6 +395,18 @@ mod tests {
         let account = scene.account();
         assert_eq!(account.fates, [Fate::HandedOver, Fate::HandedOver, Fate::OnItsWay]);
         assert_eq!(findings(&account), [0; 5]);
+    }
+
+    #[test]
+    fn none_is_in_reach_unless_one_was_handed_over_or_left_out() {
+        let mut scene = Scene::from(65_535, &[1; 2]);
+        assert!(!scene.account().none_in_reach());
+        scene.read(1, Kind::Intact, &[]);
+        assert!(scene.account().none_in_reach());
+        scene.read(0, Kind::Intact, &[]);
+        assert!(!scene.account().none_in_reach());
+        scene.read(0, Kind::Intact, &[65_535]);
+        assert!(!scene.account().none_in_reach());
     }
 
     #[test]

@@ -13,15 +13,18 @@ pub fn on(options: &Options, report: &Report) -> String {
         Word::DoesNotHold => format!("keep this page; {again}"),
         Word::NotFinished if report.verdict.ending == Ending::Ended => again,
         Word::NotFinished => on_time(report),
-        Word::Holds => on_records(options, &report.post_to_gateway.records),
+        Word::Holds => {
+            let records = &report.post_to_gateway.records;
+            let but = if records.lost_first > 0 { "but for those lost first, " } else { "" };
+            format!("{but}{}", on_records(options, records))
+        }
     }
 }
 
 /// A run that was not finished: how long it would take, or why no time is enough.
 fn on_time(report: &Report) -> String {
     if report.verdict.none_in_reach {
-        return "after 65,536 lost records an epoch goes on no more, since 16 bits do not tell its numbers from the lost ones: \
-                key a new epoch or shake hands anew; --lose-first 65535 is the most that goes on"
+        return "a record carries 16 bits of its number, so an epoch whose first 65,536 are lost cannot go on: key a new one or shake hands anew"
             .to_string();
     }
     let meter = &report.meter;
@@ -42,7 +45,7 @@ fn on_time(report: &Report) -> String {
 
 /// A run that holds: what most of the missing records are missing for.
 fn on_records(options: &Options, records: &Records) -> String {
-    // But for those that --lose-first asked for.
+    // Without those that --lose-first asked for.
     let (sealed, lost) = (records.sealed - records.lost_first, records.lost - records.lost_first);
     let many = |n: usize| n * 100 > sealed;
     let share = |n: usize| format!("{:.0} %", 100.0 * n as f64 / sealed as f64);

@@ -295,14 +295,14 @@ mod tests {
         assert_eq!(row(&report, LOWEST).unwrap(), ["none", "none"]);
         assert_eq!(row(&report, OUT_OF_REACH).unwrap(), ["1", "0"]);
         let page = Page(&report).to_string();
-        assert!(page.contains("not finished: the time was over after 20 s; no record of epoch 3 could be handed over: "), "{page}");
-        assert!(page.contains("advice: after 65,536 lost records "), "{page}");
+        assert!(page.contains("not finished: the time was over after 20 s; no record of epoch 3 was in reach, since "), "{page}");
+        assert!(page.contains("advice: a record carries 16 bits of its number, so "), "{page}");
     }
 
     #[test]
     fn advice_on_losses_leaves_out_those_asked_for() {
         let report = report_without_first(40_000, Ending::Ended);
-        assert!(report.advice.starts_with("nearly all arrived"), "{}", report.advice);
+        assert!(report.advice.starts_with("but for those lost first, nearly all arrived"), "{}", report.advice);
     }
 
     #[test]

@@ -46,8 +46,7 @@ pub struct Verdict {
 }
 
 /// Why a run whose first 65,536 records of epoch 3 are gone cannot come to its end.
-const NONE_IN_REACH: &str =
-    "no record of epoch 3 could be handed over: none of the first 65,536 arrived, and the later ones are out of reach";
+const NONE_IN_REACH: &str = "no record of epoch 3 was in reach, since none of the first 65,536 arrived";
 
 impl Verdict {
     pub fn new(ending: Ending, accounts: &[Account; 2], told: &Told, meter: &Meter) -> Verdict {
