@@ -296,6 +296,7 @@ mod tests {
         assert_eq!(row(&report, OUT_OF_REACH).unwrap(), ["1", "0"]);
         let page = Page(&report).to_string();
         assert!(page.contains("not finished: the time was over after 20 s; no record of epoch 3 was in reach, since "), "{page}");
+        assert!(page.contains("; 65,537 of 65,537 meter records sent, "), "{page}");
         assert!(page.contains("advice: a record carries 16 bits of its number, so "), "{page}");
     }
 
