@@ -5,7 +5,7 @@ use std::ops::Range;
 use std::slice;
 
 use crate::ledger::{Delivery, Event, Ledger, Record};
-use crate::link::Kind;
+use crate::link::{Kind, Sent};
 
 /// What became of a sealed record. Of several copies that arrived, the one that comes last here counts.
 #[derive(Clone, Copy, Debug, Eq, Ord, PartialEq, PartialOrd)]
@@ -17,6 +17,8 @@ pub enum Fate {
     /// Read before its epoch was keyed.
     BeforeKeys,
     Damaged,
+    /// Read when its number could not be told from a lower one: too many before it had not arrived.
+    OutOfReach,
     /// Read when it was behind the window.
     TooLate,
     /// Read undamaged, unused and in reach, and yet not handed over.
@@ -39,8 +41,12 @@ pub struct Account {
     pub doubles: usize,
     /// Readings of undamaged records that were behind the window.
     pub late: usize,
-    /// Records lost or damaged together with another one in the same datagram.
+    /// Records lost or damaged together with another one in the same datagram, but for those lost as --lose-first says.
     pub beside: usize,
+    /// Records lost as --lose-first says.
+    pub lost_first: usize,
+    /// The lowest number of epoch 3 that was handed over.
+    pub lowest_in_epoch_3: Option<u64>,
     /// For each record sealed.
     pub fates: Vec<Fate>,
 }
@@ -62,8 +68,17 @@ impl Account {
         let acknowledged = ledger.acknowledged.iter().filter(|record| record.epoch >= 2);
         account.unacknowledged = acknowledged.filter(|record| !was_handed(ledger, &account.fates, record)).count();
         account.unread = ledger.delivered.len().saturating_sub(ledger.read);
-        account.beside = ledger.sent.iter().map(|sent| beside(&account.fates, &sent.records)).sum();
+        let (first, others): (Vec<&Sent>, Vec<&Sent>) = ledger.sent.iter().partition(|sent| sent.among_first);
+        account.beside = others.iter().map(|sent| beside(&account.fates, &sent.records)).sum();
+        account.lost_first = first.iter().map(|sent| fates_of(&account.fates, &sent.records).len()).sum();
+        let handed = ledger.sealed.iter().zip(&account.fates).filter(|(_, fate)| **fate == Fate::HandedOver);
+        account.lowest_in_epoch_3 = handed.filter(|(record, _)| record.epoch == 3).map(|(record, _)| record.number).min();
         account
+    }
+
+    /// Whether records of epoch 3 were read and none was in reach.
+    pub fn none_in_reach(&self) -> bool {
+        self.lowest_in_epoch_3.is_none() && self.left_out == 0 && self.fates.contains(&Fate::OutOfReach)
     }
 
     pub fn count(&self, fate: Fate) -> usize {
@@ -72,7 +87,6 @@ impl Account {
 }
 
 /// A number beside those that are used in its epoch.
-#[derive(PartialEq)]
 enum Standing {
     Used,
     Behind,
@@ -89,17 +103,21 @@ struct Used {
 
 /// A number more than this below the highest is behind the window.
 pub const REACH: u64 = 63;
+/// A record carries the last 16 bits of its number, which stand for the nearest number that is 0 or more and ends in them.
+const BLOCK: u64 = 1 << 16;
 
 impl Used {
-    /// Fresh is: unused, at most 63 below the highest, under 32,768 above the highest plus one.
-    fn standing(&self, number: u64) -> Standing {
-        let low = self.highest.unwrap_or(0).saturating_sub(REACH);
-        let next = self.highest.map_or(0, |highest| highest + 1);
+    /// Fresh is: unused, at most 63 below the highest, and under 65,536 or under 32,768 above the highest plus one. `passed` is the highest of
+    /// those handed over from the same datagram before.
+    fn standing(&self, number: u64, passed: Option<u64>) -> Standing {
+        let highest = self.highest.max(passed);
+        let low = highest.unwrap_or(0).saturating_sub(REACH);
+        let next = highest.map_or(0, |highest| highest + 1);
         if self.numbers.contains(&number) {
             Standing::Used
         } else if number < low {
             Standing::Behind
-        } else if number >= next + 32_768 {
+        } else if number >= BLOCK.max(next + BLOCK / 2) {
             Standing::Beyond
         } else {
             Standing::Fresh
@@ -118,9 +136,14 @@ fn was_handed(ledger: &Ledger, fates: &[Fate], a: &Record) -> bool {
     ledger.sealed.iter().zip(fates).any(|(record, fate)| *fate == Fate::HandedOver && same(record))
 }
 
+/// The fates of a datagram's records: none where the log of an end that broke off lacks them.
+fn fates_of<'a>(fates: &'a [Fate], records: &Range<usize>) -> &'a [Fate] {
+    fates.get(records.clone()).unwrap_or(&[])
+}
+
 /// Of the records of a datagram, those lost or damaged but for one.
 fn beside(fates: &[Fate], records: &Range<usize>) -> usize {
-    let here = fates.get(records.clone()).unwrap_or(&[]);
+    let here = fates_of(fates, records);
     here.iter().filter(|fate| matches!(fate, Fate::Lost | Fate::Damaged)).count().saturating_sub(1)
 }
 
@@ -197,6 +220,7 @@ impl Judge<'_> {
                         self.meets(i, Fate::TooLate);
                     }
                 }
+                Some(Standing::Beyond) if !replayed => self.meets(i, Fate::OutOfReach),
                 Some(Standing::Beyond) => {}
                 Some(Standing::Fresh) => {
                     self.account.left_out += 1;
@@ -209,20 +233,18 @@ impl Judge<'_> {
     /// How a record stood when it was read. Records of its datagram that were handed over before it count as used.
     fn standing(&self, i: usize) -> Option<Standing> {
         let record = &self.sealed[i];
-        let standing = self.used.get(&record.epoch)?.standing(record.number);
         let before = self.here.iter().filter(|before| **before < i).map(|before| &self.sealed[*before]);
         let passed = before.filter(|b| b.epoch == record.epoch).map(|b| b.number).max();
-        let late = passed.is_some_and(|highest| record.number + REACH < highest);
-        Some(if standing == Standing::Fresh && late { Standing::Behind } else { standing })
+        Some(self.used.get(&record.epoch)?.standing(record.number, passed))
     }
 }
 
 #[cfg(test)]
 mod tests {
     use super::*;
-    use crate::link::{Datagram, Sent};
+    use crate::link::Datagram;
 
-    /// A direction whose records are numbered from 0 in epoch 3.
+    /// A direction whose records are numbered in epoch 3.
     struct Scene {
         ledger: Ledger,
         datagrams: Vec<Datagram>,
@@ -231,22 +253,37 @@ mod tests {
     impl Scene {
         /// Each datagram is sent with so many records.
         fn new(counts: &[usize]) -> Scene {
+            Scene::from(0, counts)
+        }
+
+        /// The first number is this one.
+        fn from(mut number: usize, counts: &[usize]) -> Scene {
             let mut scene = Scene { ledger: Ledger::default(), datagrams: Vec::new() };
             scene.ledger.reads("k", &mut "3".split_ascii_whitespace());
-            for (i, count) in counts.iter().enumerate() {
-                let first = scene.ledger.sealed.len();
-                for number in first..first + count {
-                    scene.ledger.seals(&mut line(number).split_ascii_whitespace());
-                }
-                let records = first..first + count;
-                scene.ledger.sends(Sent { records: records.clone(), lost: false });
-                scene.datagrams.push(Datagram { bytes: i.to_be_bytes().to_vec(), records, kind: Kind::Intact });
+            for count in counts {
+                scene.send(number..number + count);
+                number += count;
             }
             scene
         }
 
+        /// A datagram is sent with records of these numbers.
+        fn send(&mut self, numbers: Range<usize>) {
+            let first = self.ledger.sealed.len();
+            let bytes = self.datagrams.len().to_be_bytes().to_vec();
+            numbers.for_each(|number| self.ledger.seals(&mut line(number).split_ascii_whitespace()));
+            let records = first..self.ledger.sealed.len();
+            self.ledger.sends(Sent { records: records.clone(), lost: false, among_first: false });
+            self.datagrams.push(Datagram { bytes, records, kind: Kind::Intact });
+        }
+
         fn lose(&mut self, i: usize) {
             self.ledger.sent[i].lost = true;
+        }
+
+        /// The first so many datagrams are lost as --lose-first says.
+        fn lose_first(&mut self, n: usize) {
+            self.ledger.sent[..n].iter_mut().for_each(|sent| (sent.lost, sent.among_first) = (true, true));
         }
 
         /// A datagram is delivered and read, and these records of it are handed over.
@@ -315,6 +352,92 @@ mod tests {
         scene.read(0, Kind::Replayed, &[]);
         let account = scene.account();
         assert_eq!((account.fates[0], account.late), (Fate::Lost, 1));
+    }
+
+    /// The fate of this number, read and not handed over after the highest, if there is one, was handed over.
+    fn fate_after(highest: Option<usize>, number: usize) -> Fate {
+        let mut scene = Scene::from(number, &[1]);
+        if let Some(highest) = highest {
+            scene.send(highest..highest + 1);
+            scene.read(1, Kind::Intact, &[highest]);
+        }
+        scene.read(0, Kind::Intact, &[]);
+        let account = scene.account();
+        assert_eq!(findings(&account), [0, 0, 0, usize::from(account.fates[0] == Fate::LeftOut), 0]);
+        account.fates[0]
+    }
+
+    #[test]
+    fn up_to_65_535_lost_first_leave_the_next_in_reach() {
+        for number in [0, 32_767, 32_768, 40_000, 65_535] {
+            assert_eq!(fate_after(None, number), Fate::LeftOut);
+        }
+        for number in [65_536, 65_537, 100_000] {
+            assert_eq!(fate_after(None, number), Fate::OutOfReach);
+        }
+    }
+
+    #[test]
+    fn the_reach_goes_up_to_65_535_and_with_the_highest() {
+        let edges = [(0, 65_536), (32_767, 65_536), (32_768, 65_537), (40_000, 72_769), (65_535, 98_304)];
+        for (highest, out) in edges {
+            assert_eq!((fate_after(Some(highest), out - 1), fate_after(Some(highest), out)), (Fate::LeftOut, Fate::OutOfReach));
+        }
+    }
+
+    #[test]
+    fn one_that_was_out_of_reach_can_arrive_once_more() {
+        let mut scene = Scene::from(65_535, &[1; 3]);
+        scene.read(1, Kind::Intact, &[]);
+        scene.read(2, Kind::Replayed, &[]);
+        scene.read(0, Kind::Intact, &[65_535]);
+        scene.read(1, Kind::Intact, &[65_536]);
+        let account = scene.account();
+        assert_eq!(account.fates, [Fate::HandedOver, Fate::HandedOver, Fate::OnItsWay]);
+        assert_eq!(findings(&account), [0; 5]);
+    }
+
+    #[test]
+    fn none_is_in_reach_unless_one_was_handed_over_or_left_out() {
+        let mut scene = Scene::from(65_535, &[1; 2]);
+        assert!(!scene.account().none_in_reach());
+        scene.read(1, Kind::Intact, &[]);
+        assert!(scene.account().none_in_reach());
+        scene.read(0, Kind::Intact, &[]);
+        assert!(!scene.account().none_in_reach());
+        scene.read(0, Kind::Intact, &[65_535]);
+        assert!(!scene.account().none_in_reach());
+    }
+
+    #[test]
+    fn one_handed_over_brings_the_next_of_its_datagram_into_reach() {
+        let mut scene = Scene::from(65_535, &[2]);
+        scene.read(0, Kind::Intact, &[65_535]);
+        let account = scene.account();
+        assert_eq!(account.fates, [Fate::HandedOver, Fate::LeftOut]);
+        assert_eq!(findings(&account), [0, 0, 0, 1, 0]);
+    }
+
+    #[test]
+    fn those_lost_first_are_told_apart() {
+        let mut scene = Scene::new(&[3, 3, 3, 1]);
+        scene.lose_first(2);
+        scene.lose(2);
+        scene.read(3, Kind::Intact, &[9]);
+        let account = scene.account();
+        assert_eq!((account.count(Fate::Lost), account.lost_first, account.beside), (9, 6, 2));
+        assert_eq!((account.lowest_in_epoch_3, findings(&account)), (Some(9), [0; 5]));
+    }
+
+    #[test]
+    fn the_lowest_number_is_the_lowest_and_not_the_first_read() {
+        let mut scene = Scene::new(&[1; 10]);
+        assert_eq!(scene.account().lowest_in_epoch_3, None);
+        scene.read(7, Kind::Intact, &[7]);
+        scene.read(4, Kind::Intact, &[4]);
+        scene.ledger.seals(&mut "2 1 22 00".split_ascii_whitespace());
+        scene.ledger.reads("r", &mut "2 1 22 00".split_ascii_whitespace());
+        assert_eq!(scene.account().lowest_in_epoch_3, Some(4));
     }
 
     #[test]

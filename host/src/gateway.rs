@@ -12,7 +12,7 @@ pub fn run(options: &Options, mut end: End) {
     let mut orders = 0;
     // The order that is not acknowledged, sent again by this timer.
     let mut given: Option<Timer> = None;
-    let step = options.records / (options.orders + 1) + 1;
+    let step = options.meter_records() / (options.orders + 1) + 1;
     let mut handshake = Handshake::begin(&mut end, false);
     while orders <= options.orders || given.is_some() {
         if !end.wait(5) {

@@ -71,6 +71,10 @@ pub struct Options {
     #[arg(long, value_name = "P", default_value = "1", value_parser = percent)]
     pub forge: f64,
 
+    /// It loses the post's first N records of epoch 3 (sent besides the --records) and not the next one, 0 to 100,000
+    #[arg(long, value_name = "N", default_value = "0", value_parser = whole(0, 100_000))]
+    pub lose_first: usize,
+
     /// Seconds until it ends, finished or not, 1 to 86,400
     #[arg(long, value_name = "N", default_value = "120", value_parser = clap::value_parser!(u64).range(1..=LONGEST))]
     pub seconds: u64,
@@ -118,10 +122,16 @@ fn suite(name: &str) -> Result<Suite, String> {
 }
 
 impl Options {
+    /// Meter records that the post sends in all.
+    pub fn meter_records(&self) -> usize {
+        self.lose_first + self.records
+    }
+
     /// The words for a process that is one end. It is told when to end; its own limit is for the case that nobody tells it.
     pub fn for_end(&self, name: &str, port: u16) -> Vec<String> {
         let words = [
             ("--records", self.records.to_string()),
+            ("--lose-first", self.lose_first.to_string()),
             ("--pack", self.pack.to_string()),
             ("--orders", self.orders.to_string()),
             ("--cipher", self.suite.name().to_string()),
@@ -143,5 +153,21 @@ mod tests {
     fn help_is_the_file() {
         let help = Options::command().render_help().to_string();
         assert!(help == include_str!("../help.txt"), "help.txt is to be:\n{help}");
+    }
+
+    #[test]
+    fn an_end_sends_and_expects_as_many_as_the_link() {
+        for (words, all) in [(&[][..], 10_000), (&["--lose-first", "40000"], 50_000), (&["--lose-first", "3", "--records", "2"], 5)] {
+            let options = Options::parse_from([&["host/run"], words].concat());
+            let end = Options::parse_from([vec!["host/run".to_string()], options.for_end("post", 1)].concat());
+            assert_eq!((options.meter_records(), end.meter_records()), (all, all));
+            assert_eq!(options.lose_first, end.lose_first);
+        }
+    }
+
+    #[test]
+    fn more_than_100_000_are_not_lost_first() {
+        assert!(Options::try_parse_from(["host/run", "--lose-first", "100000"]).is_ok());
+        assert!(Options::try_parse_from(["host/run", "--lose-first", "100001"]).is_err());
     }
 }

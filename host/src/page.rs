@@ -80,7 +80,19 @@ impl fmt::Display for Page<'_> {
 
 impl Page<'_> {
     fn row(&self, f: &mut fmt::Formatter<'_>, name: &str, count: fn(&Way) -> usize) -> fmt::Result {
-        let [up, down] = [&self.0.post_to_gateway, &self.0.gateway_to_post].map(|way| number(count(way)).to_string());
+        self.words(f, name, |way| number(count(way)).to_string())
+    }
+
+    /// A row that is there only where it says something.
+    fn row_if_any(&self, f: &mut fmt::Formatter<'_>, name: &str, count: fn(&Way) -> usize) -> fmt::Result {
+        if count(&self.0.post_to_gateway) + count(&self.0.gateway_to_post) > 0 {
+            self.row(f, name, count)?;
+        }
+        Ok(())
+    }
+
+    fn words(&self, f: &mut fmt::Formatter<'_>, name: &str, word: impl Fn(&Way) -> String) -> fmt::Result {
+        let [up, down] = [&self.0.post_to_gateway, &self.0.gateway_to_post].map(word);
         writeln!(f, "  {name:<52}{up:>16}{down:>18}")
     }
 
@@ -99,13 +111,16 @@ impl Page<'_> {
         self.row(f, "records sealed", |way| way.records.sealed)?;
         self.row(f, "  handed over", |way| way.records.handed_over)?;
         self.row(f, "  lost by the link", |way| way.records.lost)?;
+        self.row_if_any(f, "    of these the first ones, as --lose-first says", |way| way.records.lost_first)?;
         self.row(f, "  too late: overtaken by more than 63 records", |way| way.records.too_late)?;
+        self.row_if_any(f, "  out of reach: too many lost before them", |way| way.records.out_of_reach)?;
         self.row(f, "  damaged", |way| way.records.damaged)?;
         self.row(f, "  read before their keys", |way| way.records.before_keys)?;
         self.row(f, "  on their way at the end", |way| way.records.on_their_way)?;
-        if self.0.post_to_gateway.records.left_out + self.0.gateway_to_post.records.left_out > 0 {
-            self.row(f, "  LEFT OUT", |way| way.records.left_out)?;
-        }
+        self.row_if_any(f, "  LEFT OUT", |way| way.records.left_out)?;
+        self.words(f, "lowest number handed over in epoch 3", |way| {
+            way.records.lowest_number_handed_over_in_epoch_3.map_or("none".to_string(), |lowest| HumanCount(lowest).to_string())
+        })?;
         self.row(f, "what --pack cost: lost or damaged beside another", |way| way.records.beside_another)?;
         self.row(f, "records sent again", |way| way.records.sent_again)?;
         self.row(f, "saved records acknowledged", |way| way.records.acknowledged)

@@ -13,13 +13,27 @@ use crate::options::Options;
 
 const AGAIN: Duration = Duration::from_millis(10);
 
+/// Sends meter records until enough datagrams are on their way. How many are sent then.
+fn send_records(options: &Options, end: &mut End, random: &mut SmallRng, mut sent: usize) -> usize {
+    while sent < options.meter_records() && end.outstanding < PACE {
+        // The first ones, which the link loses, share no datagram with the next one, which would be lost along with them.
+        let last = if sent < options.lose_first { options.lose_first } else { options.meter_records() };
+        for _ in 0..random.gen_range(1..=options.pack).min(last - sent) {
+            end.send(&Word::Meter { index: sent as u32, wh: random.gen_range(0..30) }.bytes());
+            sent += 1;
+        }
+        end.flush();
+    }
+    sent
+}
+
 pub fn run(options: &Options, mut end: End) {
     let mut random = SmallRng::seed_from_u64(options.seed ^ 0x706F_7374);
     let (mut sent, mut obeyed, mut stopped) = (0, 0, false);
     let mut told: Option<Instant> = None;
     let mut handshake = Handshake::begin(&mut end, true);
     loop {
-        let busy = handshake.is_done() && sent < options.records && end.outstanding < PACE;
+        let busy = handshake.is_done() && sent < options.meter_records() && end.outstanding < PACE;
         if !end.wait(if busy { 0 } else { 5 }) {
             break;
         }
@@ -41,14 +55,8 @@ pub fn run(options: &Options, mut end: End) {
         if !handshake.is_done() {
             continue;
         }
-        while sent < options.records && end.outstanding < PACE {
-            for _ in 0..random.gen_range(1..=options.pack).min(options.records - sent) {
-                end.send(&Word::Meter { index: sent as u32, wh: random.gen_range(0..30) }.bytes());
-                sent += 1;
-            }
-            end.flush();
-        }
-        if sent == options.records && !stopped && told.is_none_or(|told| told.elapsed() > AGAIN) {
+        sent = send_records(options, &mut end, &mut random, sent);
+        if sent == options.meter_records() && !stopped && told.is_none_or(|told| told.elapsed() > AGAIN) {
             told = Some(Instant::now());
             end.send(&Word::Charged { records: sent as u32 }.bytes());
             end.flush();

@@ -63,9 +63,13 @@ pub struct Records {
     pub lost: usize,
     pub damaged: usize,
     pub too_late: usize,
+    pub out_of_reach: usize,
     pub before_keys: usize,
     pub on_their_way: usize,
     pub left_out: usize,
+    /// Of those lost, the ones that --lose-first asks for.
+    pub lost_first: usize,
+    pub lowest_number_handed_over_in_epoch_3: Option<u64>,
     /// Of those lost and damaged, the ones that shared a datagram with another one.
     pub beside_another: usize,
     pub sent_again: usize,
@@ -117,9 +121,12 @@ impl Way {
                 lost: account.count(Fate::Lost),
                 damaged: account.count(Fate::Damaged),
                 too_late: account.count(Fate::TooLate),
+                out_of_reach: account.count(Fate::OutOfReach),
                 before_keys: account.count(Fate::BeforeKeys),
                 on_their_way: account.count(Fate::OnItsWay),
                 left_out: account.count(Fate::LeftOut),
+                lost_first: account.lost_first,
+                lowest_number_handed_over_in_epoch_3: account.lowest_in_epoch_3,
                 beside_another: account.beside,
                 sent_again: told.resent[side],
                 acknowledged: told.marked[side],
@@ -155,7 +162,7 @@ impl Meter {
         let (sent, sent_wh) = energy(up.sealed.iter());
         let (handed_over, handed_over_wh) = energy(handed.map(|(record, _)| record));
         let (counted, counted_wh) = (told.counted, told.energy);
-        Meter { to_send: options.records, sent, sent_wh, handed_over, handed_over_wh, counted, counted_wh }
+        Meter { to_send: options.meter_records(), sent, sent_wh, handed_over, handed_over_wh, counted, counted_wh }
     }
 }
 
@@ -192,18 +199,44 @@ mod tests {
     use serde_json::Value;
 
     use super::*;
+    use crate::ledger::check;
+    use crate::link::{Datagram, Kind, Sent};
     use crate::page::Page;
 
     /// A run of one meter record of 14 Wh, which was handed over.
     fn report(ending: Ending) -> Report {
-        let options = Options::parse_from(["host/run", "--records", "1", "--orders", "0"]);
-        let content = Word::Meter { index: 0, wh: 14 }.bytes();
-        let line = format!("3 0 23 {}", hex::encode(content));
         let mut up = Ledger::default();
-        up.seals(&mut line.split_ascii_whitespace());
-        up.reads("r", &mut line.split_ascii_whitespace());
+        up.seals(&mut meter_record(0).split_ascii_whitespace());
+        up.reads("r", &mut meter_record(0).split_ascii_whitespace());
         up.reads("x", &mut "9".split_ascii_whitespace());
-        let told = Told { counted: 1, energy: 14, orders_given: 1, orders_obeyed: vec![1], done: [true, true], ..Told::default() };
+        report_of(up, &["--records", "1"], ending)
+    }
+
+    /// A run whose first meter records of epoch 3 were lost, all but the last, which was read, and handed over if it was in reach.
+    fn report_without_first(first: usize, ending: Ending) -> Report {
+        let mut up = Ledger::default();
+        up.reads("k", &mut "3".split_ascii_whitespace());
+        for number in 0..=first {
+            up.seals(&mut meter_record(number).split_ascii_whitespace());
+            up.sends(Sent { records: number..number + 1, lost: number < first, among_first: number < first });
+        }
+        up.delivers(&Datagram { bytes: vec![], records: first..first + 1, kind: Kind::Intact });
+        if first < 65_536 {
+            up.reads("r", &mut meter_record(first).split_ascii_whitespace());
+        }
+        up.reads("g", &mut check(&[]).to_string().split_ascii_whitespace());
+        report_of(up, &["--records", "1", "--lose-first", &first.to_string()], ending)
+    }
+
+    fn meter_record(number: usize) -> String {
+        format!("3 {number} 23 {}", hex::encode(Word::Meter { index: 0, wh: 14 }.bytes()))
+    }
+
+    fn report_of(up: Ledger, words: &[&str], ending: Ending) -> Report {
+        let options = Options::parse_from([&["host/run", "--orders", "0"], words].concat());
+        let (counted, energy) = (up.handed, 14 * up.handed as u64);
+        let obeyed = (1..=counted).collect();
+        let told = Told { counted, energy, orders_given: counted, orders_obeyed: obeyed, done: [true, true], ..Told::default() };
         let tally = Tally { sent: 1, delivered: 1, ..Tally::default() };
         Report::new(&options, [&tally, &Tally::default()], &[up, Ledger::default()], &told, ending, 0.25)
     }
@@ -226,6 +259,51 @@ mod tests {
         assert_eq!(json["verdict"], "not finished");
         assert_eq!(json["exit_status"], 2);
         assert_eq!(json["unfinished"], "the time was over after 1 s");
+    }
+
+    /// The two numbers in a row of the page.
+    fn row(report: &Report, name: &str) -> Option<Vec<String>> {
+        let page = Page(report).to_string();
+        let row = page.lines().find_map(|line| line.trim_start().strip_prefix(name))?;
+        Some(row.split_ascii_whitespace().map(str::to_string).collect())
+    }
+
+    const LOWEST: &str = "lowest number handed over in epoch 3";
+    const LOST_FIRST: &str = "of these the first ones, as --lose-first says";
+    const OUT_OF_REACH: &str = "out of reach: too many lost before them";
+
+    #[test]
+    fn the_page_says_from_which_number_on() {
+        for (first, told) in [(40_000, "40,000"), (65_535, "65,535")] {
+            let report = report_without_first(first, Ending::Ended);
+            let json: Value = serde_json::from_str(&report.json()).expect("JSON");
+            assert_eq!(row(&report, LOWEST).unwrap(), [told, "none"]);
+            assert_eq!(row(&report, LOST_FIRST).unwrap(), [told, "0"]);
+            assert_eq!(row(&report, OUT_OF_REACH), None);
+            assert_eq!(json["post_to_gateway"]["records"]["lowest_number_handed_over_in_epoch_3"], first);
+            assert_eq!(json["gateway_to_post"]["records"]["lowest_number_handed_over_in_epoch_3"], Value::Null);
+            assert_eq!((json["post_to_gateway"]["records"]["lost_first"].clone(), json["exit_status"].clone()), (first.into(), 0.into()));
+        }
+        assert_eq!(row(&report(Ending::Ended), LOWEST).unwrap(), ["0", "none"]);
+        assert_eq!(row(&report(Ending::Ended), LOST_FIRST), None);
+    }
+
+    #[test]
+    fn the_page_says_why_none_is_in_reach() {
+        let report = report_without_first(65_536, Ending::TimeOver(20));
+        assert_eq!((report.verdict.exit_status, report.verdict.findings.len()), (2, 0));
+        assert_eq!(row(&report, LOWEST).unwrap(), ["none", "none"]);
+        assert_eq!(row(&report, OUT_OF_REACH).unwrap(), ["1", "0"]);
+        let page = Page(&report).to_string();
+        assert!(page.contains("not finished: the time was over after 20 s; no record of epoch 3 was in reach, since "), "{page}");
+        assert!(page.contains("; 65,537 of 65,537 meter records sent, "), "{page}");
+        assert!(page.contains("advice: a record carries 16 bits of its number, so "), "{page}");
+    }
+
+    #[test]
+    fn advice_on_losses_leaves_out_those_asked_for() {
+        let report = report_without_first(40_000, Ending::Ended);
+        assert!(report.advice.starts_with("but for those lost first, nearly all arrived"), "{}", report.advice);
     }
 
     #[test]

@@ -71,12 +71,14 @@ impl<'a> Run<'a> {
     pub fn new(options: &'a Options) -> io::Result<Run<'a>> {
         let peers = [Peer::start(options, "post")?, Peer::start(options, "gateway")?];
         let [post, gateway] = &peers;
+        // The first records are lost on the way to the gateway alone.
+        let back = Options { lose_first: 0, ..options.clone() };
         let fds = [post.socket.as_raw_fd(), gateway.socket.as_raw_fd(), post.log.as_raw_fd(), gateway.log.as_raw_fd()];
         Ok(Run {
             options,
             sources: Sources::new(fds)?,
             peers,
-            directions: [Direction::new(options, 0x7570), Direction::new(options, 0x646F_776E)],
+            directions: [Direction::new(options, 0x7570), Direction::new(&back, 0x646F_776E)],
             ledgers: [Ledger::default(), Ledger::default()],
             told: Told::default(),
             started: Instant::now(),
@@ -186,7 +188,7 @@ impl<'a> Run<'a> {
 
     /// Until both ends have said all that they have to say, or do not say it in time.
     fn go(&mut self, interrupted: &AtomicBool) -> Ending {
-        let mut progress = Progress::new(self.options.records);
+        let mut progress = Progress::new(self.options.meter_records());
         let mut over: Option<(Ending, Instant)> = None;
         while self.peers.iter().any(|peer| peer.open) {
             self.turn();

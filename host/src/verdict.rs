@@ -40,19 +40,26 @@ pub struct Verdict {
     /// Whether both ends said all that they had to say.
     #[serde(skip)]
     pub whole: bool,
+    /// Whether in a direction all that came of epoch 3 was out of reach.
+    #[serde(skip)]
+    pub none_in_reach: bool,
 }
+
+/// Why a run whose first 65,536 records of epoch 3 are gone cannot come to its end.
+const NONE_IN_REACH: &str = "no record of epoch 3 was in reach, since none of the first 65,536 arrived";
 
 impl Verdict {
     pub fn new(ending: Ending, accounts: &[Account; 2], told: &Told, meter: &Meter) -> Verdict {
         let mut findings = wrong_records(accounts, told.done);
         findings.extend(wrong_counts(told, meter));
-        let unfinished = unfinished(ending, told);
+        let none_in_reach = accounts.iter().any(Account::none_in_reach);
+        let unfinished = unfinished(ending, told).map(|why| if none_in_reach { format!("{why}; {NONE_IN_REACH}") } else { why });
         let (word, exit_status) = match (findings.is_empty(), &unfinished) {
             (false, _) => (Word::DoesNotHold, 1),
             (true, Some(_)) => (Word::NotFinished, 2),
             (true, None) => (Word::Holds, 0),
         };
-        Verdict { word, exit_status, findings, unfinished, ending, whole: told.done == [true, true] }
+        Verdict { word, exit_status, findings, unfinished, ending, whole: told.done == [true, true], none_in_reach }
     }
 }
 
