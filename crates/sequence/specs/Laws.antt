@@ -39,7 +39,7 @@ near true p e n w m l u =
 near false p e n w m l u =
     cases (λ (x : ℕ). x ≡ n) 256 p e (λ s z. omega arith) (λ s z. omega arith) (λ s t v. omega arith) (λ s t v. omega arith) (λ s t. omega arith)
 
--- ---- request 1's words: "the nearest number that is 0 or more and ends in the received bits"
+-- ---- 02, 1: "the nearest number that is 0 or more and ends in the received bits"
 
 -- how far apart two numbers are
 abbrev pub distance : ℕ → ℕ → ℕ
