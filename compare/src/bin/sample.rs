@@ -96,7 +96,7 @@ fn write_leaves(folder: &Path) -> Result<(), Box<dyn Error>> {
         for input in inputs {
             assert!((leaf.domain)(&input));
             let mut answer = Vec::new();
-            (leaf.rust)(&input, &mut answer);
+            leaf.expected(&input, &mut answer);
             writeln!(stdin, "{} {}", leaf.letter, hex(&input))?;
             writeln!(stdout, "{} {}", leaf.letter, hex(&answer))?;
         }
