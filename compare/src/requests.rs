@@ -54,6 +54,21 @@ impl Changes {
         self.0[request] += 1;
     }
 
+    /// Says why a history left the equality with the Rust, if it did.
+    pub fn tell(&self) {
+        let met = REQUESTS.iter().zip(self.0).filter(|(_, n)| *n > 0);
+        for (request, _) in met {
+            let Request {
+                difference,
+                instead,
+                ..
+            } = request;
+            println!(
+                "  it left the equality with the Rust by difference {difference}: the Rust is shown with {instead}"
+            );
+        }
+    }
+
     pub fn add(&mut self, other: &Self) {
         self.0
             .iter_mut()

@@ -76,9 +76,12 @@ impl Sides {
         for (end, step) in &history.steps {
             println!("  {end} {step:?}");
         }
-        for (side, name, lines) in self.scripts(&ends::run(history)) {
+        let run = ends::run(history);
+        for (side, name, lines) in self.scripts(&run) {
             if beside::fails(side, lines)? {
-                return beside::report(side, name, lines);
+                beside::report(side, name, lines)?;
+                run.met.changes.tell();
+                return Ok(());
             }
         }
         Ok(())

@@ -199,8 +199,9 @@ fn compare(side: &dyn Answers, count: u64, seed: u64) -> io::Result<bool> {
         batch.compare(side)
     })?;
     if let Some(i) = differs {
-        let history = shrink(side, history(i))?;
-        beside::report(side, "histories", &reference::run(&history).lines)?;
+        let run = reference::run(&shrink(side, history(i))?);
+        beside::report(side, "histories", &run.lines)?;
+        run.changes.tell();
         return Ok(false);
     }
     let steps = tally.steps;
