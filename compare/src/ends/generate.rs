@@ -269,6 +269,14 @@ impl Making {
     }
 }
 
+/// One of so many steps, once in `n` times; else behind them all.
+fn place(dice: &mut Dice, n: usize, count: usize) -> usize {
+    match dice.once_in(n) {
+        true => dice.below(count),
+        false => count,
+    }
+}
+
 /// A history; one in the domain meets no refusal but 22.
 pub fn random(dice: &mut Dice, domain: bool) -> History {
     let history = History {
@@ -293,16 +301,8 @@ pub fn random(dice: &mut Dice, domain: bool) -> History {
         making.at_number(dice.below(2), dice.of(&[2, 3]), number);
     }
     let count = 10 + dice.below(70);
-    let again = if dice.once_in(25) {
-        dice.below(count)
-    } else {
-        count
-    };
-    let ahead = if dice.once_in(12) {
-        dice.below(count)
-    } else {
-        count
-    };
+    let again = place(dice, 25, count);
+    let ahead = place(dice, 12, count);
     for i in 0..count {
         if making.ends.longest() > LONG {
             break;

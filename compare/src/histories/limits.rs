@@ -545,6 +545,7 @@ pub fn all() -> Vec<History> {
         ),
     );
     all.extend(first_block());
+    all.extend(first_block_used());
     all.extend(first_block_short());
     all
 }
@@ -576,7 +577,12 @@ fn first_block() -> Vec<History> {
         expecting(&[3], e, &[vec![verdicts(3, &all)]])
     };
     let expected = [1, 2, 100, 32_766, 32_767, 65_535, 65_536].map(verdicts_at);
-    let others = [
+    [first, expected].concat()
+}
+
+/// What such a number leaves behind.
+fn first_block_used() -> Vec<History> {
+    vec![
         // Those about it are in the window, those far below are not.
         expecting(
             &[3],
@@ -610,8 +616,7 @@ fn first_block() -> Vec<History> {
                 numbers(3, &[3, 50_000, 50_001]),
             ],
         ),
-    ];
-    [&first[..], &expected, &others].concat()
+    ]
 }
 
 /// The same with 8 bits.
