@@ -25,7 +25,7 @@ pub struct Leaf {
     pub domain: fn(&[u8]) -> bool,
     /// The Rust's answer to an input of the domain.
     pub rust: fn(&[u8], &mut Vec<u8>),
-    /// The request that changes the Rust's answer, which is given, by its place: the answer is then the request's.
+    /// Given the Rust's answer: the place of the request that changes it, if one does. The answer is then the request's.
     pub changed: fn(&[u8], &mut Vec<u8>) -> Option<usize>,
     /// Inputs at the limits, a few dozen, each at most 100 bytes with few exceptions.
     pub limits: fn(Emit),
@@ -245,7 +245,7 @@ pub const SEALED: u8 = 4;
 pub const SEVENTEENTH: u8 = 5;
 
 impl Leaf {
-    /// The answer to hold a side to: the Rust's, or that of the request that changes it, which is then named by its place.
+    /// The answer to hold the Rattle to: the Rust's, or that of a request that changes it, and then the request's place.
     pub fn expected(&self, input: &[u8], out: &mut Vec<u8>) -> Option<usize> {
         (self.rust)(input, out);
         (self.changed)(input, out)
