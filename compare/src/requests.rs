@@ -18,13 +18,13 @@ pub const REQUESTS: [Request; 1] = [Request {
 
 pub const REBUILDING: usize = 0;
 
-/// The number that stands in the Rust's 0's place: where the number nearest to the expected one that ends in the bits is
-/// negative, the nearest of 0 or more. A negative one is nearest only in the first block, where the bits themselves are
-/// the smallest number of 0 or more that ends in them, and only if they are more than half a block above the expected one.
+/// The number that stands in the place of the Rust's 0: where the number nearest to the expected one that ends in the bits is
+/// negative, the nearest of 0 or more. The bits alone are the smallest of 0 or more that ends in them; if even they are more than
+/// half a block above the expected number, the one a block below them is nearer, and negative.
 pub fn rebuilt_negative(partial: u64, expected: u64, bits: u32) -> Option<u64> {
     let block = 1 << bits;
     let first = partial % block;
-    (expected < block && first > expected + block / 2).then_some(first)
+    (first > expected + block / 2).then_some(first)
 }
 
 /// The number that a record has: the Rust's, but where request 1 changes it. Stops if what is said above is not exact for the
