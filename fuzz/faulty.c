@@ -71,6 +71,10 @@ HuskReading __wrap_husk_receiving_mask(HuskReceiving *s, uint8_t m0, uint8_t m1,
     HuskReading r = __real_husk_receiving_mask(s, m0, m1, d, n);
     if (n > 0 && planted(6))
         d[n - 1] ^= 1;
+    if (r.kind == HUSK_READING_OPENING && r.number > 40000 && r.number < 65536 && planted(45))
+        r.number = 0;
+    if (r.kind == HUSK_READING_OPENING && r.header_len % 2 == 0 && r.number > 200 && r.number < 256 && planted(46))
+        r.number = 0;
     return r;
 }
 

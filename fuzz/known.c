@@ -34,6 +34,25 @@ static void known_receiving(void)
     require(r.kind == HUSK_READING_END && r.refusal == 0, "a known end");
 }
 
+/* The first record to arrive in epoch 3 has the number 40,000, of two bytes; in epoch 6 (bits 2) 200, of one. */
+static void known_first(void)
+{
+    uint8_t d[44] = {0x2F, 0x9C, 0x40, 0, 20};
+    HuskReceiving s;
+    d[25] = 0x22;
+    d[26] = 200;
+    calling(RECEIVING_MASK);
+    require(husk_receiving_init(&s, 16) == 0 && husk_receiving_key(&s, 3, iv) == 0, "a known start");
+    require(husk_receiving_key(&s, 6, iv) == 0 && husk_receiving_enable_encryption(&s) == 0, "a known start");
+    require(husk_receiving_begin(&s, sizeof d) == 0, "a known datagram");
+    check_reading(husk_receiving_read(&s, d, sizeof d), HUSK_READING_MASK, 0, 3, 0, 5, 0, 16);
+    check_reading(husk_receiving_mask(&s, 0, 0, d, sizeof d), HUSK_READING_OPENING, 0, 3, 40000, 0, 5, 20);
+    memcpy(d + 5, "hi\x17\0", 4);
+    check_reading(husk_receiving_opened(&s, 1, 4, d, sizeof d), HUSK_READING_OPENED, 23, 3, 40000, 5, 0, 2);
+    check_reading(husk_receiving_read(&s, d, sizeof d), HUSK_READING_MASK, 0, 6, 0, 27, 0, 16);
+    check_reading(husk_receiving_mask(&s, 0, 0, d, sizeof d), HUSK_READING_OPENING, 0, 6, 200, 25, 2, 17);
+}
+
 static void check_sealing(const HuskSending *s, uint64_t number, size_t start)
 {
     const uint8_t header[5] = {0x2E, 0, (uint8_t)number, 0, 20};
@@ -244,6 +263,7 @@ static void known_texts(void)
 void known(void)
 {
     known_receiving();
+    known_first();
     known_removal();
     known_sending();
     known_queue();

@@ -282,6 +282,18 @@ static void check_masked(const HuskReading *r, const uint8_t *d, size_t n, uint8
     require(n == 0 || memcmp(copy, d, n) == 0, "the datagram has other bytes than its mask gives");
 }
 
+/* The number that the opening is asked under ends in the record's bits, now unmasked, whatever number was expected. */
+static void check_rebuilt(const HuskReading *r, const uint8_t *d)
+{
+    if (r->kind != HUSK_READING_OPENING)
+        return;
+    const uint8_t *p = d + before.word[W_CURSOR];
+    if (before.word[W_TWO])
+        require(r->number % 65536 == p[1] * 256u + p[2], "a number that does not end in the record's 16 bits");
+    else
+        require(r->number % 256 == p[1], "a number that does not end in the record's 8 bits");
+}
+
 static void call_mask(void)
 {
     size_t n = length_lent();
@@ -294,6 +306,7 @@ static void call_mask(void)
     r = husk_receiving_mask(s, m0, m1, d, n);
     reading_answer(RECEIVING_MASK, r, n, 0);
     check_masked(&r, d, n, m0, m1);
+    check_rebuilt(&r, d);
 }
 
 /* The host's plaintext: content, type, zeros; or nothing but zeros. */

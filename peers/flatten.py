@@ -57,10 +57,10 @@ def byte_at(datagram, offset):
 
 
 def nearest(bits, block, expected):
-    """The number nearest the expected one that ends in these bits; at half a block's distance the one in its own block."""
+    """The nearest to the expected number that is 0 or more and ends in these bits; at half a block's distance the one in its own block."""
     own = expected - expected % block + bits
-    if own > expected + block // 2:
-        return max(own - block, 0)
+    if own > expected + block // 2 and own >= block:
+        return own - block
     return own + block if own + block // 2 < expected else own
 
 

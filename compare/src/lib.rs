@@ -41,4 +41,5 @@ pub mod histories;
 pub mod leaves;
 #[cfg(feature = "library")]
 pub mod library;
+pub mod requests;
 pub mod sendings;

@@ -6,7 +6,7 @@ use std::process::ExitCode;
 use std::{io, panic};
 
 use dimpl::beside::Answers;
-use dimpl::differences::{Found, receiving, sending};
+use dimpl::differences::{Found, rebuilding, receiving, sending};
 use dimpl::{driver, library};
 
 fn print(title: &str, found: &[Found]) {
@@ -20,6 +20,7 @@ fn print(title: &str, found: &[Found]) {
 }
 
 fn all(sends: &dyn Answers, receives: &dyn Answers, count: u64, seed: u64) -> io::Result<bool> {
+    print("number rebuilding", &rebuilding::all(receives)?);
     print("receiving", &receiving::all(receives)?);
     print("sending", &sending::all(sends, count, seed)?);
     print("a number sealed twice", &[sending::sealed_twice()]);

@@ -10,6 +10,7 @@ use dimpl::beside::{self, Answers, Batch, Line};
 use dimpl::dice::Dice;
 use dimpl::ends::generate::random;
 use dimpl::ends::{self, History, Met, Run, Step};
+use dimpl::requests::Left;
 use dimpl::{driver, library, sendings};
 
 struct Sides {
@@ -75,9 +76,12 @@ impl Sides {
         for (end, step) in &history.steps {
             println!("  {end} {step:?}");
         }
-        for (side, name, lines) in self.scripts(&ends::run(history)) {
+        let run = ends::run(history);
+        for (side, name, lines) in self.scripts(&run) {
             if beside::fails(side, lines)? {
-                return beside::report(side, name, lines);
+                beside::report(side, name, lines)?;
+                run.met.changes.tell();
+                return Ok(());
             }
         }
         Ok(())
@@ -97,6 +101,7 @@ struct Tally {
     steps: usize,
     lines: usize,
     met: Met,
+    left: Left,
 }
 
 impl driver::Tally for Tally {
@@ -104,6 +109,7 @@ impl driver::Tally for Tally {
         self.steps += other.steps;
         self.lines += other.lines;
         self.met.add(&other.met);
+        self.left.add(&other.left);
     }
 }
 
@@ -154,6 +160,7 @@ fn compare(sides: &Sides, count: u64, seed: u64) -> io::Result<bool> {
             tally.steps += history.steps.len();
             tally.lines += run.lines();
             tally.met.add(&run.met);
+            tally.left.count(&run.met.changes);
             if let Some(differs) = batches.add(sides, i, run)? {
                 return Ok(Some(differs));
             }
@@ -165,10 +172,13 @@ fn compare(sides: &Sides, count: u64, seed: u64) -> io::Result<bool> {
         sides.report(&history)?;
         return Ok(false);
     }
-    let Tally { steps, lines, met } = &tally;
+    let Tally {
+        steps, lines, met, ..
+    } = &tally;
     println!(
         "{total} histories of two ends agree: {count} in the domain, {beyond} with refusals (SEED {seed}), {steps} steps, {lines} answers"
     );
+    tally.left.print();
     print(met);
     Ok(true)
 }

@@ -11,6 +11,7 @@ use dimpl::beside::{self, Answers, Batch};
 use dimpl::dice::Dice;
 use dimpl::histories::generate::random;
 use dimpl::histories::{History, Run, Step, between, limits, reference};
+use dimpl::requests::Left;
 use dimpl::{driver, library};
 
 fn fails(side: &dyn Answers, history: &History) -> io::Result<bool> {
@@ -117,11 +118,13 @@ struct Tally {
     reasons: [u64; 12],
     refusals: [u64; 24],
     early: usize,
+    left: Left,
 }
 
 impl Tally {
     fn count(&mut self, run: &Run) {
         self.steps += run.lines.len();
+        self.left.count(&run.changes);
         self.early += between::at_questions(&run.lines);
         for line in &run.lines {
             self.refusals[line.refusal()] += 1;
@@ -137,6 +140,7 @@ impl Tally {
     }
 
     fn print(&self) {
+        self.left.print();
         let names = [
             "end",
             "fault 2",
@@ -168,6 +172,7 @@ impl driver::Tally for Tally {
     fn add(&mut self, other: &Self) {
         self.steps += other.steps;
         self.early += other.early;
+        self.left.add(&other.left);
         self.sum(&other.kinds, &other.reasons, &other.refusals);
     }
 }
@@ -194,8 +199,9 @@ fn compare(side: &dyn Answers, count: u64, seed: u64) -> io::Result<bool> {
         batch.compare(side)
     })?;
     if let Some(i) = differs {
-        let history = shrink(side, history(i))?;
-        beside::report(side, "histories", &reference::run(&history).lines)?;
+        let run = reference::run(&shrink(side, history(i))?);
+        beside::report(side, "histories", &run.lines)?;
+        run.changes.tell();
         return Ok(false);
     }
     let steps = tally.steps;

@@ -52,6 +52,15 @@ pub mod probe {
         handshake.chain(application).collect()
     }
 
+    /// The number expected next in an epoch, or 0 if it is not keyed: what the rebuilding of a number starts from.
+    pub fn expected(engine: &Engine, epoch: u16) -> u64 {
+        if epoch == 2 {
+            return engine.hs_expected_recv_seq;
+        }
+        let entry = engine.app_recv_keys.iter().find(|e| e.epoch == epoch);
+        entry.map_or(0, |entry| entry.expected_recv_seq)
+    }
+
     /// Keys an epoch to send, as `install_handshake_keys`, `install_application_keys` and, once a
     /// key update is acknowledged, `update_send_keys` do.
     pub fn key_send(engine: &mut Engine, epoch: u16, iv: [u8; 12]) {

@@ -207,6 +207,21 @@ impl Making {
         self.add(1 - end, Step::Receive(mark));
     }
 
+    /// An end goes on in an epoch at a number in the first block, far above those before, as if those between were lost:
+    /// nearer to what the other end expects there may be a negative number.
+    fn ahead(&mut self, dice: &mut Dice) {
+        let end = dice.below(2);
+        let sending = self.ends.world(end).sending();
+        let (epoch, next) = match dice.below(2) {
+            0 => (2, sending.handshake_next),
+            _ => (sending.application, sending.application_next),
+        };
+        let number = dice.of(&[32_767, 32_768, 32_769, 40_000, 65_520, 65_535]);
+        if epoch > 0 && next < number {
+            self.add(end, Step::Send(Call::Number { epoch, number }));
+        }
+    }
+
     fn step(&mut self, dice: &mut Dice) {
         let end = dice.below(2);
         let settings = self.history.settings[end];
@@ -254,6 +269,14 @@ impl Making {
     }
 }
 
+/// One of so many steps, once in `n` times; else behind them all.
+fn place(dice: &mut Dice, n: usize, count: usize) -> usize {
+    match dice.once_in(n) {
+        true => dice.below(count),
+        false => count,
+    }
+}
+
 /// A history; one in the domain meets no refusal but 22.
 pub fn random(dice: &mut Dice, domain: bool) -> History {
     let history = History {
@@ -278,14 +301,14 @@ pub fn random(dice: &mut Dice, domain: bool) -> History {
         making.at_number(dice.below(2), dice.of(&[2, 3]), number);
     }
     let count = 10 + dice.below(70);
-    let again = if dice.once_in(25) {
-        dice.below(count)
-    } else {
-        count
-    };
+    let again = place(dice, 25, count);
+    let ahead = place(dice, 12, count);
     for i in 0..count {
         if making.ends.longest() > LONG {
             break;
+        }
+        if i == ahead {
+            making.ahead(dice);
         }
         making.step(dice);
         if i == again {

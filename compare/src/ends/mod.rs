@@ -11,6 +11,7 @@ use crate::crypto::{script, stub};
 use crate::dtls13::engine::probe::Saved;
 use crate::histories::reference::Receiver;
 use crate::histories::{self, OPENED};
+use crate::requests::Changes;
 use crate::sendings::reference::World;
 use crate::sendings::{self, Settings, Tally};
 
@@ -68,6 +69,8 @@ pub struct Met {
     pub sent: Tally,
     pub kinds: [u64; 10],
     pub reasons: [u64; 12],
+    /// How often a request changed what the Rust does.
+    pub changes: Changes,
 }
 
 impl Met {
@@ -80,6 +83,7 @@ impl Met {
         self.by_remembered += other.by_remembered;
         self.emptied += other.emptied;
         self.sent.add(&other.sent);
+        self.changes.add(&other.changes);
         let sums = self.kinds.iter_mut().chain(&mut self.reasons);
         let more = other.kinds.iter().chain(&other.reasons);
         sums.zip(more).for_each(|(sum, n)| *sum += n);
@@ -294,6 +298,7 @@ impl Ends {
                 sent: world.run().tally.clone(),
                 kinds: receiver.run.kinds,
                 reasons: receiver.run.reasons,
+                changes: receiver.run.changes.clone(),
                 ..Met::default()
             });
         }

@@ -97,9 +97,17 @@ impl Packet {
 const LAST: u64 = (1 << 48) - 1;
 const TYPES: [u8; 8] = [21, 22, 23, 26, 23, 20, 99, 255];
 
+/// About the middle and the end of the first block of 16 and of 8 bits, where a number a block below may be negative.
+const FIRST_BLOCK: [u64; 12] = [
+    32_767, 32_768, 32_769, 40_000, 65_535, 65_536, 127, 128, 129, 200, 255, 256,
+];
+
 /// A number near what is expected, or at the edges of window and rebuilding.
 fn number(dice: &mut Dice, highest: Option<u64>) -> u64 {
     let e = highest.map_or(0, |highest| highest + 1);
+    if e < 65_536 && dice.once_in(40) {
+        return dice.of(&FIRST_BLOCK);
+    }
     let near = e as i64;
     let distance = match dice.below(12) {
         0..=4 => 0,
@@ -179,7 +187,8 @@ fn sealed(dice: &mut Dice, model: &mut Model, packet: &mut Packet, last: bool) {
     packet.reply(mask, Some(text));
     // Far numbers are rebuilt as others: what is told here only steers the making.
     let e = highest.map_or(0, |highest| highest + 1);
-    if n < e + 32_768 {
+    let block: u64 = if s_flag { 65_536 } else { 256 };
+    if n < block.max(e + block / 2) {
         model.epochs[i].1 = Some(highest.map_or(n, |highest| highest.max(n)));
     }
 }

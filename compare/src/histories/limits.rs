@@ -296,7 +296,7 @@ pub fn all() -> Vec<History> {
             vec![verdicts(3, &[32_767, 32_768, 32_769, 65_535])],
         ),
     );
-    // A negative answer becomes 0, and the record is the one with the number 0.
+    // No answer is negative: the record has the number 65,535, and 0 is then the number behind it.
     add(16, on(vec![key(3)], numbers(3, &[65_535, 0])));
 
     // The window.
@@ -544,7 +544,102 @@ pub fn all() -> Vec<History> {
             ],
         ),
     );
+    all.extend(first_block());
+    all.extend(first_block_used());
+    all.extend(first_block_short());
     all
+}
+
+/// Peer encryption on, epochs keyed, and the number expected in the first of them.
+fn expecting(epochs: &[u16], e: u64, steps: &[Vec<Step>]) -> History {
+    let mut all: Vec<Step> = epochs.iter().map(|epoch| key(*epoch)).collect();
+    all.push(Step::Encrypt);
+    if e > 0 {
+        all.push(mark(epochs[0], e - 1));
+    }
+    all.extend(steps.concat());
+    History {
+        min_protected: 16,
+        between: 0,
+        steps: all,
+    }
+}
+
+/// Numbers of 16 bits in the first block, where nearer to the expected one there may be a negative number: none is taken.
+fn first_block() -> Vec<History> {
+    let edges = [32_767, 32_768, 32_769, 65_534, 65_535, 65_536, 65_537];
+    // Each the first to arrive, then once more. The number a block below 65,536 is 0, and this is what it is rebuilt as.
+    let first = edges.map(|n| expecting(&[3], 0, &[numbers(3, &[n, n])]));
+    // A half block above the one expected; from 32,767 on that is the end of the block.
+    let verdicts_at = |e: u64| {
+        let half = [32_767, 32_768, 32_769].map(|n| e + n);
+        let all = [&half[..], &[65_535, 65_536]].concat();
+        expecting(&[3], e, &[vec![verdicts(3, &all)]])
+    };
+    let expected = [1, 2, 100, 32_766, 32_767, 65_535, 65_536].map(verdicts_at);
+    [first, expected].concat()
+}
+
+/// What such a number leaves behind.
+fn first_block_used() -> Vec<History> {
+    vec![
+        // Those about it are in the window, those far below are not.
+        expecting(
+            &[3],
+            0,
+            &[
+                numbers(3, &[40_000, 39_999, 40_000, 40_001]),
+                vec![verdicts(3, &[39_937, 39_938, 7_233, 7_234, 72_769, 72_770])],
+            ],
+        ),
+        // Each epoch for itself, epoch 2 too.
+        expecting(
+            &[2, 3],
+            0,
+            &[
+                numbers(2, &[40_000]),
+                numbers(3, &[65_535, 0]),
+                numbers(2, &[40_001, 0]),
+            ],
+        ),
+        // A number that the cipher says no to, and one with no content type.
+        expecting(
+            &[3],
+            0,
+            &[vec![verdicts(3, &[40_000])], numbers(3, &[0, 40_000])],
+        ),
+        expecting(
+            &[3],
+            3,
+            &[
+                vec![packet(|p| seal(p, 3, 50_000, Some(&[0, 0])))],
+                numbers(3, &[3, 50_000, 50_001]),
+            ],
+        ),
+    ]
+}
+
+/// The same with 8 bits.
+fn first_block_short() -> Vec<History> {
+    let first = [127, 128, 129, 200, 254, 255, 256]
+        .map(|n| expecting(&[3], 0, &[short_numbers(3, &[n, n])]));
+    let expected = [
+        (1, 129),
+        (1, 130),
+        (2, 131),
+        (126, 255),
+        (127, 255),
+        (128, 0),
+        (255, 127),
+        (256, 128),
+    ]
+    .map(|(e, n)| expecting(&[3], e, &[short_numbers(3, &[n])]));
+    let after = expecting(
+        &[2],
+        0,
+        &[short_numbers(2, &[200, 0, 72, 255]), numbers(2, &[40_000])],
+    );
+    [&first[..], &expected, &[after]].concat()
 }
 
 /// The longest datagram: its script is too long for a fixed list.

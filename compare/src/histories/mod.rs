@@ -8,6 +8,7 @@ pub mod reference;
 
 use crate::beside::Line;
 pub use crate::crypto::script::Reply;
+use crate::requests::Changes;
 
 /// A step of a history.
 #[derive(Debug, Clone, PartialEq, Eq)]
@@ -110,6 +111,8 @@ pub struct Run {
     pub handed: Vec<Answer>,
     pub kinds: [u64; 10],
     pub reasons: [u64; 12],
+    /// How often a request changed what the Rust does; if at all, the history has left the equality with it.
+    pub changes: Changes,
 }
 
 impl Run {

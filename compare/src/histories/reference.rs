@@ -12,6 +12,7 @@ use crate::crypto::script::{self, MaskAsked, OpeningAsked};
 use crate::dtls13::engine::{self, Engine};
 use crate::dtls13::incoming::{self, Record, RecordHandler};
 use crate::dtls13::message::{Dtls13Record, Sequence};
+use crate::requests::{self, REBUILDING};
 use crate::types::Dtls13CipherSuite;
 use crate::{Config, CryptoError, DtlsCertificate, Error, InternalError};
 
@@ -137,7 +138,7 @@ pub fn asked(min: u8, epochs: &[u16], highest: Option<u64>, bytes: &[u8]) -> Str
         engine: &mut engine,
         replies: Some(VecDeque::new()),
         seen: RefCell::default(),
-        above: true,
+        own: true,
     };
     let mut records: ArrayVec<Record, 16> = ArrayVec::new();
     let result = incoming::probe::parse_records(bytes, &mut tap, &mut records);
@@ -159,6 +160,8 @@ struct Seen {
     dropped: Option<Buf>,
     epoch: Option<u16>,
     number: Option<u64>,
+    /// Whether the number is that of request 1, in the place of the engine's.
+    renumbered: bool,
     fresh: Option<bool>,
     mask: Option<MaskAsked>,
     opening: Option<OpeningAsked>,
@@ -173,8 +176,9 @@ struct Tap<'a> {
     /// The replies to the questions in their order; none if the cipher itself answers.
     replies: Option<VecDeque<Reply>>,
     seen: RefCell<Vec<Seen>>,
-    /// Whether the cipher is asked for numbers above 2^48 - 1.
-    above: bool,
+    /// Whether the Rust goes its own way, with no difference allowed for: its cipher is asked for numbers above 2^48 - 1, and
+    /// a negative number becomes 0.
+    own: bool,
 }
 
 impl Tap<'_> {
@@ -207,8 +211,21 @@ impl RecordHandler for Tap<'_> {
     }
 
     fn resolve_sequence(&self, epoch: u16, seq_bits: u64, s_flag: bool) -> u64 {
-        let number = self.engine.resolve_sequence(epoch, seq_bits, s_flag);
-        self.note(|seen| seen.number = Some(number));
+        let rust = self.engine.resolve_sequence(epoch, seq_bits, s_flag);
+        let expected = engine::probe::expected(self.engine, epoch);
+        let bits = if s_flag { 16 } else { 8 };
+        // What the engine has told is what it makes of this expected number.
+        let again = engine::probe::reconstruct_sequence(seq_bits, expected, bits);
+        assert_eq!(rust, again);
+        let (number, renumbered) = match self.own {
+            true => (rust, false),
+            // Difference 5: the Rust makes 0 of a negative number; here it goes on with the number of request 1.
+            false => requests::rebuilt(seq_bits, expected, bits, rust),
+        };
+        self.note(|seen| {
+            seen.number = Some(number);
+            seen.renumbered = renumbered;
+        });
         number
     }
 
@@ -250,7 +267,7 @@ impl RecordHandler for Tap<'_> {
         ciphertext: &mut TmpBuf,
     ) -> Result<(), Error> {
         // Difference 14: the Rust asks the cipher for numbers above 2^48 - 1; it is told no.
-        if seq.sequence_number > LAST_NUMBER && !self.above {
+        if seq.sequence_number > LAST_NUMBER && !self.own {
             return Err(Error::CryptoError(CryptoError::NotOpened));
         }
         let result = self.engine.decrypt_record(header, seq, ciphertext);
@@ -288,7 +305,7 @@ fn datagram(engine: &mut Engine, min: u8, bytes: &[u8], replies: Option<&[Reply]
         engine,
         replies: replies.map(|replies| replies.iter().cloned().collect()),
         seen: RefCell::default(),
-        above: false,
+        own: false,
     };
     let mut records: ArrayVec<Record, 16> = ArrayVec::new();
     // Difference 19: the readings before a fault stand; the wrapper `Records::parse` discards them.
@@ -440,7 +457,16 @@ impl One<'_> {
             ..Answer::kind(MASK)
         };
         run.say('r', &[], question);
+        // A record dropped before this has no number here, and none in the Rust that matters.
+        if seen.renumbered {
+            run.changes.note(REBUILDING);
+        }
+        self.unmasked(epoch, run);
+    }
 
+    /// A sealed record whose number is known.
+    fn unmasked(&self, epoch: u16, run: &mut Run) {
+        let seen = self.seen;
         let number = seen.number.unwrap();
         let (opening, fresh) = (&seen.opening, seen.fresh.unwrap());
         if number > LAST_NUMBER {

@@ -327,6 +327,15 @@ pub fn sequence_limits(emit: Emit) {
         (1, 65_536, 65_536),
         (0, u64::MAX, 1_000),
         (1, u64::MAX, 100_000),
+        // Where the nearest number may be negative.
+        (0, 129, 0),
+        (0, 129, 1),
+        (0, 130, 1),
+        (0, 65_535, 126),
+        (1, 40_000, 0),
+        (1, 32_769, 1),
+        (1, 32_770, 1),
+        (1, 98_305, 0),
     ] {
         emit(&rebuild(s_flag, partial, expected));
     }

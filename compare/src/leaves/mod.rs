@@ -25,6 +25,8 @@ pub struct Leaf {
     pub domain: fn(&[u8]) -> bool,
     /// The Rust's answer to an input of the domain.
     pub rust: fn(&[u8], &mut Vec<u8>),
+    /// Given the Rust's answer: the place of the request that changes it, if one does. The answer is then the request's.
+    pub changed: fn(&[u8], &mut Vec<u8>) -> Option<usize>,
     /// Inputs at the limits, a few dozen, each at most 100 bytes with few exceptions.
     pub limits: fn(Emit),
     /// All short inputs, shortest first.
@@ -59,6 +61,7 @@ pub const LEAVES: &[Leaf] = &[
         unit: 9,
         domain: |d| d.len().is_multiple_of(9) && d.chunks(9).all(|step| step[0] <= 1),
         rust: reference::window,
+        changed: unchanged,
         limits: inputs::window_limits,
         short: inputs::window_short,
         random: inputs::window_random,
@@ -71,6 +74,7 @@ pub const LEAVES: &[Leaf] = &[
         unit: 0,
         domain: |d| d.len() == 17 && d[0] <= 1 && be(&d[9..]) < EXPECTED_LIMIT,
         rust: reference::sequence,
+        changed: reference::sequence_changed,
         limits: inputs::sequence_limits,
         short: inputs::sequence_short,
         random: inputs::sequence_random,
@@ -83,6 +87,7 @@ pub const LEAVES: &[Leaf] = &[
         unit: 0,
         domain: |d| d.len() == 20,
         rust: reference::nonce,
+        changed: unchanged,
         limits: inputs::nonce_limits,
         short: inputs::nonce_short,
         random: inputs::nonce_random,
@@ -95,6 +100,7 @@ pub const LEAVES: &[Leaf] = &[
         unit: 1,
         domain: |d| d.len() <= DATAGRAM_LIMIT,
         rust: reference::first_record,
+        changed: unchanged,
         limits: inputs::record_limits,
         short: inputs::record_short,
         random: inputs::record_random,
@@ -107,6 +113,7 @@ pub const LEAVES: &[Leaf] = &[
         unit: 1,
         domain: |d| d.len() <= DATAGRAM_LIMIT,
         rust: reference::all_records,
+        changed: unchanged,
         limits: inputs::datagram_limits,
         short: inputs::datagram_short,
         random: inputs::datagram_random,
@@ -119,6 +126,7 @@ pub const LEAVES: &[Leaf] = &[
         unit: 0,
         domain: |d| d.len() == 11,
         rust: reference::plaintext_header,
+        changed: unchanged,
         limits: inputs::plaintext_limits,
         short: inputs::plaintext_short,
         random: inputs::plaintext_random,
@@ -132,6 +140,7 @@ pub const LEAVES: &[Leaf] = &[
         // In epoch 0 the Rust writes a plaintext header.
         domain: |d| d.len() == 12 && be(&d[..2]) != 0,
         rust: reference::unified_header,
+        changed: unchanged,
         limits: inputs::unified_limits,
         short: inputs::unified_short,
         random: inputs::unified_random,
@@ -150,6 +159,7 @@ pub const LEAVES: &[Leaf] = &[
         unit: 0,
         domain: |d| d.len() == 15,
         rust: reference::handshake_header,
+        changed: unchanged,
         limits: inputs::handshake_limits,
         short: inputs::handshake_short,
         random: inputs::handshake_random,
@@ -169,6 +179,7 @@ pub const LEAVES: &[Leaf] = &[
         unit: 1,
         domain: |d| d.len() <= DATAGRAM_LIMIT,
         rust: reference::parse_handshake_header,
+        changed: unchanged,
         limits: inputs::parse_handshake_limits,
         short: inputs::parse_handshake_short,
         random: inputs::parse_handshake_random,
@@ -181,11 +192,17 @@ pub const LEAVES: &[Leaf] = &[
         unit: 1,
         domain: |d| d.len() <= DATAGRAM_LIMIT,
         rust: reference::inner_content_type,
+        changed: unchanged,
         limits: inputs::inner_limits,
         short: inputs::inner_short,
         random: inputs::inner_random,
     },
 ];
+
+/// No request changes an answer of the leaf.
+fn unchanged(_: &[u8], _: &mut Vec<u8>) -> Option<usize> {
+    None
+}
 
 /// What stands in the eight or fewer bytes.
 pub fn be(bytes: &[u8]) -> u64 {
@@ -226,6 +243,14 @@ pub const PLAIN: u8 = 3;
 pub const SEALED: u8 = 4;
 /// Only in a list of records: a seventeenth plaintext record is left.
 pub const SEVENTEENTH: u8 = 5;
+
+impl Leaf {
+    /// The answer to hold the Rattle to: the Rust's, or that of a request that changes it, and then the request's place.
+    pub fn expected(&self, input: &[u8], out: &mut Vec<u8>) -> Option<usize> {
+        (self.rust)(input, out);
+        (self.changed)(input, out)
+    }
+}
 
 impl Cut {
     pub fn of(kind: u8) -> Self {

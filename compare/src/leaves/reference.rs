@@ -14,6 +14,7 @@ use crate::dtls13::incoming::{self, Record, RecordHandler};
 use crate::dtls13::message::{
     Body, ContentType, Dtls13Record, Handshake, Header, MessageType, Sequence,
 };
+use crate::requests::{self, REBUILDING};
 use crate::window::ReplayWindow;
 use crate::{CryptoError, Error, InternalError};
 
@@ -29,14 +30,28 @@ pub fn window(input: &[u8], out: &mut Vec<u8>) {
     }
 }
 
-pub fn sequence(input: &[u8], out: &mut Vec<u8>) {
+/// Partial and expected number, and how many bits of the partial one count.
+fn rebuilding(input: &[u8]) -> (u64, u64, u32) {
     let bits = if input[0] == 1 { 16 } else { 8 };
-    let (partial, expected) = (be(&input[1..9]), be(&input[9..]));
+    (be(&input[1..9]), be(&input[9..]), bits)
+}
+
+pub fn sequence(input: &[u8], out: &mut Vec<u8>) {
+    let (partial, expected, bits) = rebuilding(input);
     put(
         out,
         8,
         engine::probe::reconstruct_sequence(partial, expected, bits),
     );
+}
+
+/// Difference 5: the Rust makes 0 of a negative number.
+pub fn sequence_changed(input: &[u8], out: &mut Vec<u8>) -> Option<usize> {
+    let (partial, expected, bits) = rebuilding(input);
+    let (number, changed) = requests::rebuilt(partial, expected, bits, be(out));
+    out.clear();
+    put(out, 8, number);
+    changed.then_some(REBUILDING)
 }
 
 pub fn nonce(input: &[u8], out: &mut Vec<u8>) {

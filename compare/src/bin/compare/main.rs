@@ -9,6 +9,7 @@ use std::time::Instant;
 
 use dimpl::SeededRng;
 use dimpl::leaves::{LEAVES, Leaf, hex, named};
+use dimpl::requests::{REQUESTS, Request};
 
 mod rattle;
 
@@ -16,8 +17,11 @@ mod rattle;
 const MOST: usize = 16_500;
 
 /// Both answers to one input.
+#[derive(Default)]
 struct Answers {
-    rust: Vec<u8>,
+    /// The Rust's, or that of the request that changes it.
+    expected: Vec<u8>,
+    changed: Option<usize>,
     rattle: Vec<u8>,
 }
 
@@ -25,17 +29,23 @@ struct Comparison<'a> {
     leaf: &'a Leaf,
     answers: Answers,
     count: u64,
+    /// Inputs that left the equality with the Rust, by the request.
+    left: [u64; REQUESTS.len()],
     failed: Option<Vec<u8>>,
 }
 
 impl Comparison<'_> {
     fn differ(&mut self, input: &[u8]) -> bool {
-        let Answers { rust, rattle } = &mut self.answers;
-        rust.clear();
+        let Answers {
+            expected,
+            changed,
+            rattle,
+        } = &mut self.answers;
+        expected.clear();
         rattle.clear();
-        (self.leaf.rust)(input, rust);
+        *changed = self.leaf.expected(input, expected);
         rattle::answer(self.leaf.letter, input, rattle);
-        rust != rattle
+        expected != rattle
     }
 
     /// Compares one input, until one has failed.
@@ -49,9 +59,12 @@ impl Comparison<'_> {
             self.leaf.letter,
             hex(input)
         );
-        self.count += 1;
         if self.differ(input) {
             self.failed = Some(input.to_vec());
+        }
+        match self.answers.changed {
+            Some(request) => self.left[request] += 1,
+            None => self.count += 1,
         }
     }
 
@@ -129,10 +142,32 @@ impl Comparison<'_> {
                 println!("          {names}");
             }
         };
-        println!("{} {}: the answers differ", leaf.letter, leaf.name);
+        let request = self.answers.changed.map(|request| &REQUESTS[request]);
+        let (what, label) = match request {
+            Some(Request { number, .. }) => (format!("not as request {number} says"), "request"),
+            None => ("the answers differ".to_string(), "Rust"),
+        };
+        println!("{} {}: {what}", leaf.letter, leaf.name);
         line("input", leaf.input, &input);
-        line("Rust", leaf.answer, &self.answers.rust);
+        line(label, leaf.answer, &self.answers.expected);
         line("Rattle", leaf.answer, &self.answers.rattle);
+    }
+
+    /// How many inputs were compared, and how many more left the equality with the Rust.
+    fn counts(&self) -> String {
+        let Leaf { letter, name, .. } = self.leaf;
+        let mut line = format!("{letter} {name:<28} {:>10} inputs compared", self.count);
+        for (request, left) in REQUESTS.iter().zip(self.left) {
+            if left > 0 {
+                let Request {
+                    number, difference, ..
+                } = request;
+                line += &format!(
+                    ", {left} more left out: difference {difference}, held to request {number}"
+                );
+            }
+        }
+        line
     }
 }
 
@@ -141,11 +176,9 @@ fn ask(leaf: &Leaf, count: u64, seed: u64) -> Comparison<'_> {
     eprintln!("leaves: {} {}", leaf.letter, leaf.name);
     let mut comparison = Comparison {
         leaf,
-        answers: Answers {
-            rust: Vec::new(),
-            rattle: Vec::new(),
-        },
+        answers: Answers::default(),
         count: 0,
+        left: Default::default(),
         failed: None,
     };
     (leaf.short)(&mut |input| comparison.input(input));
@@ -178,10 +211,7 @@ fn main() -> ExitCode {
             comparison.report(input);
             failures += 1;
         }
-        lines.push(format!(
-            "{} {:<28} {:>10} inputs compared",
-            leaf.letter, leaf.name, comparison.count
-        ));
+        lines.push(comparison.counts());
     }
     eprintln!("leaves: all asked, {} s", begun.elapsed().as_secs());
 
