@@ -1,5 +1,6 @@
 // Replays histories of receiving: one line of input, a letter and hex bytes, is one step and gives one line of output. What is
-// expected stands in the file stdout, written from the Rust's answers (compare/README.md says how, and what each letter means).
+// expected stands in the file stdout, written from the Rust's answers and, where 02 changes them, from 02's rule (compare/README.md says
+// how, which lines these are, and what each letter means).
 // The state is the words that a host keeps, and each step is a call of recv_calls.
 use datagram::Datagram;
 use datagram::Question;

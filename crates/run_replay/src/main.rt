@@ -1,5 +1,6 @@
 // Replays a recorded list of inputs through the leaves: one line of input, a letter and hex bytes, gives one line of output. What is
-// expected stands in the file stdout, written from the Rust's answers (compare/README.md says how, and what each letter means).
+// expected stands in the file stdout, written from the Rust's answers and, where 02 changes them, from 02's rule (compare/README.md says
+// how, which lines these are, and what each letter means).
 use handshake::Header;
 use handshake::ParsedHeader;
 use incoming::Inner;
