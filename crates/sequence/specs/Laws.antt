@@ -71,23 +71,24 @@ nearest-least false p e w =
     (λ s t v. record { held = omega arith; ends = omega arith; least = λ n l m. omega arith; tie = λ n m q d. omega arith })
     (λ s t. record { held = omega arith; ends = omega arith; least = λ n l m. omega arith; tie = λ n m q d. omega arith })
 
--- numbers as near lie on both sides of e
+-- two numbers as near are one, or lie on both sides of e
 same-or-around : (x y e : ℕ) → distance x e ≡ distance y e → (x ≡ y) ⊎ (x + y ≡ e + e)
 same-or-around x y e d = ⊎-elim (λ q. inl q) (λ q. inr (omega arith)) (eq-or-ne x y)
 
--- of those the one in e's own block is nearer, unless they are one or half a block away
+-- two of these that end in the bits are one if they are nearer than the number in e's own block
 own-nearer : (s : Bool) (p e x y : ℕ) → x % blockOf s ≡ p % blockOf s → y % blockOf s ≡ p % blockOf s → x + y ≡ e + e
     → distance x e < distance (own (blockOf s) p e) e → x ≡ y
 unfolding own
 own-nearer true p e x y f g around d = omega arith
 own-nearer false p e x y f g around d = omega arith
 
+-- which ends in the bits too
 own-is : (s : Bool) (p e : ℕ) → e < 2 ^ 64 → (own (blockOf s) p e < 2 ^ 64) × (own (blockOf s) p e % blockOf s ≡ p % blockOf s) × (own (blockOf s) p e / blockOf s ≡ e / blockOf s)
 unfolding own
 own-is true p e w = omega arith
 own-is false p e w = omega arith
 
--- no other number is: no other answer fits these words
+-- and it is the only one: no other answer fits these words
 pub only-nearest : (s : Bool) (p e x : ℕ) → e < 2 ^ 64 → Nearest (blockOf s) p e x → x ≡ nearest (blockOf s) p e
 only-nearest s p e x w f = ⊎-elim (λ q. q) (λ around. ⊎-elim own-both (own-less around) (eq-or-ne (distance o e) (distance x e))) (same-or-around x y e as-near)
   where
