@@ -30,7 +30,7 @@ extern "C" {
 #endif
 
 #define HUSK_VERSION_MAJOR 0
-#define HUSK_VERSION_MINOR 5
+#define HUSK_VERSION_MINOR 6
 #define HUSK_VERSION_PATCH 0
 #define HUSK_VERSION "0.6.0"
 

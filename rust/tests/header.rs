@@ -19,7 +19,12 @@ fn declarations() -> String {
 
 #[test]
 fn one_version() {
-    assert!(HEADER.contains(&format!("#define HUSK_VERSION \"{}\"", env!("CARGO_PKG_VERSION"))));
+    let version = env!("CARGO_PKG_VERSION");
+    assert!(HEADER.contains(&format!("#define HUSK_VERSION \"{version}\"\n")));
+    let parts = [("MAJOR", env!("CARGO_PKG_VERSION_MAJOR")), ("MINOR", env!("CARGO_PKG_VERSION_MINOR")), ("PATCH", env!("CARGO_PKG_VERSION_PATCH"))];
+    for (name, part) in parts {
+        assert!(HEADER.contains(&format!("#define HUSK_VERSION_{name} {part}\n")), "HUSK_VERSION_{name} is not {part}");
+    }
 }
 
 #[test]

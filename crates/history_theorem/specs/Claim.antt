@@ -9,6 +9,7 @@ use mathlib.Core.List.{List, [], _∷_, _++_, List·Memᴰ as Mem}
 use mathlib.Core.Logic.{_↔_, _⊎_}
 use mathlib.Core.Option.{Option, none, some}
 use mathlib.Core.Path.{_≡_}
+use native.Mathlib.Omega.{arith}
 use Rattle.base.specs.Bytes.{beAt}
 use Rattle.base.specs.Choose.{choose}
 use Rattle.base.specs.Parts.{part}
@@ -136,6 +137,13 @@ windowMarks = 64
 -- 65,536" (02, 1), and so it is until that highest plus one is 32,768
 abbrev pub reachOf : List ℕ → ℕ
 reachOf used = max 65536 (above used + 32768)
+
+-- so it is never less than before 02, 1, and with none used it is every number under 65,536
+pub reach-grows : (used : List ℕ) → above used + 32768 ≤ reachOf used
+reach-grows used = omega arith
+
+pub reach-first : (used : List ℕ) → 65536 ≤ reachOf used
+reach-first used = omega arith
 
 -- the record r may not be left out in epoch e, by the moment at which the cut came to it
 pub record Due (t : Trial) (e : ℕ) (r : Sealed) : Type 0 where

@@ -131,6 +131,32 @@ no-fair : (l : List Sealed) (n : ℕ) (head body : List ℕ) → free n l ≡ tr
     → (p : List ℕ) → (none ≡ some p) ↔ ((q : Sealed) × Mem q l × Opens q n head body p)
 no-fair l n head body t p = (λ e. some≢none (sym e), λ g. absurd (free-not n l t (g .0) (g .1) (g .2 .number)))
 
+-- no number of the list is n
+abbrev among : ℕ → List ℕ → Bool
+among n [] = false
+among n (m ∷ l) = choose (eqb n m) true (among n l)
+
+not-among : (n : ℕ) (l : List ℕ) → among n l ≡ false → Mem n l → ⊥
+not-among n [] t m = elim m [ ]
+not-among n (x ∷ l) t m =
+    by-test (λ (b : Bool). b ≡ false → ⊥) (λ f z. absurd (false≢true (sym z)))
+    (λ f z. mem-by m (λ (p : n ≡ x). eqb-false n x f p) (λ o. not-among n l z o)) t
+
+-- a record is due, condition by condition, where these numbers are used
+due-after : (used : List ℕ) (t : Trial) (e : ℕ) (r : Sealed) → t .used e ≡ used → Mem r (t .sealed e) → take (length (r .wire)) (t .rest) ≡ r .wire
+    → t .encrypted ≡ true → t .count ≤ 15 → t .resolved ≡ some e → among (r .num) used ≡ false → aboveUsed used ≤ r .num + windowMarks
+    → r .num < reachOf used → Due t e r
+due-after used t e r u sent same on few found new old near = record {
+  sealed-then = sent;
+  undamaged = same;
+  encryption-on = on;
+  among-16 = few;
+  resolved = found;
+  not-used = λ m. not-among (r .num) used new (subst (λ (l : List ℕ). Mem (r .num) l) u m);
+  not-old = subst (λ (l : List ℕ). aboveUsed l ≤ r .num + windowMarks) (sym u) old;
+  in-reach = subst (λ (l : List ℕ). r .num < reachOf l) (sym u) near;
+}
+
 abbrev epochsOf : List Lost → List ℕ
 epochsOf [] = []
 epochsOf (l ∷ ls) = l .epoch ∷ epochsOf ls
@@ -184,16 +210,7 @@ lastOf (t ∷ ts) z = t
 
 behind-due : (z : Tried) → Due (lastOf (run (fresh-half 16) behind .end .into .tried) z .trial) 2 (sealedAs 2 1 11)
 unfolding behind arrives sealedAs choose both either splice bit askSound askKeyed openingSound questionSound isSound counted nonceOf innerOf unmasked rebuilt judged maskedAt maskedBy masking maskStep typed openedAt openedBy openings openedStep cancelledAsk cancelled freshOf keyOf leaving removedBy removeOf encryptOf releaseOf beginOf headerLen fragmentLen partialOf parseCiphertext isType isVersion isPlaintext plaintextHeader parsePlaintext parsed unifiedHeader lockedStep sealedStep stepOf openingAsked askedAgain asking readStep fits lastFit find orElse two resolve wasFound isKeyed marked appOne apps windowsSound keysSound isFull installed leftAt left maskedHeader own below above nearest expected isFresh marking upd keyOwed keys resolvesTo sealedSize plainSize recordSize goodPlain removedFrom removed removeOwed begun beginOwed afterRead afterMask afterOpen
-behind-due z = record {
-  sealed-then = here refl;
-  undamaged = refl;
-  encryption-on = refl;
-  among-16 = omega arith;
-  resolved = refl;
-  not-used = λ m. mem-by m (λ (p : _≡_ {A = ℕ} 1 0). omega arith) (λ o. elim o [ ]);
-  not-old = omega arith;
-  in-reach = omega arith;
-}
+behind-due z = due-after (0 ∷ []) _ 2 (sealedAs 2 1 11) refl (here refl) refl refl (omega arith) refl refl (omega arith) (omega arith)
 
 behind-honest : Honest oneMask (fresh-half 16) behind
 unfolding oneMask behind arrives sealedAs choose both either splice bit askSound askKeyed openingSound questionSound isSound counted nonceOf innerOf unmasked rebuilt judged maskedAt maskedBy masking maskStep typed openedAt openedBy openings openedStep cancelledAsk cancelled freshOf keyOf leaving removedBy removeOf encryptOf releaseOf beginOf headerLen fragmentLen partialOf parseCiphertext isType isVersion isPlaintext plaintextHeader parsePlaintext parsed unifiedHeader lockedStep sealedStep stepOf openingAsked askedAgain asking readStep fits lastFit find orElse two resolve wasFound isKeyed marked appOne apps windowsSound keysSound isFull installed leftAt left maskedHeader own below above nearest expected isFresh marking upd keyOwed keys resolvesTo sealedSize plainSize recordSize goodPlain removedFrom removed removeOwed begun beginOwed afterRead afterMask afterOpen
@@ -309,26 +326,43 @@ refusals-honest = (tt, (tt, (tt, (tt, (tt, (tt, (tt, (tt, (tt, (tt, (tt, tt)))))
 
 -- ---- the edges of the reach
 
--- after 100: 37, 63 below, is read, and 36, 64 below, is dropped; then 32,868, 32,767 above 101, is read; and 65,637, 32,768 above 32,869, is not
--- found from its bits
+-- after 100: 37, 63 below, is read, and 36, 64 below, is dropped; then 32,868 is read; of 32,869, 65,637, 32,768 above, is not found from its
+-- bits, and 65,636 is read
 edges : List Event
 edges =
     here· (key· 2 (replicate 12 0)) ∷ here· encrypt· ∷ far· 2 (sealedAs 2 100 1) ∷ far· 2 (sealedAs 2 37 2) ∷ far· 2 (sealedAs 2 36 3)
-    ∷ far· 2 (sealedAs 2 32868 4) ∷ far· 2 (sealedAs 2 65637 5)
-    ∷ arrives (sealedAs 2 100 1) 1 (arrives (sealedAs 2 37 2) 2 (doubled (sealedAs 2 36 3) (arrives (sealedAs 2 32868 4) 4 (doubled (sealedAs 2 65637 5) []))))
+    ∷ far· 2 (sealedAs 2 32868 4) ∷ far· 2 (sealedAs 2 65637 5) ∷ far· 2 (sealedAs 2 65636 6)
+    ∷ arrives (sealedAs 2 100 1) 1
+    (arrives (sealedAs 2 37 2) 2 (doubled (sealedAs 2 36 3) (arrives (sealedAs 2 32868 4) 4 (doubled (sealedAs 2 65637 5) (arrives (sealedAs 2 65636 6) 6 [])))))
 
 edges-hands : run (fresh-half 16) edges .end .into .handed 2
-    ≡ record { num = 32868; type = 23; content = 4 ∷ [] } ∷ record { num = 37; type = 23; content = 2 ∷ [] } ∷ record { num = 100; type = 23; content = 1 ∷ [] } ∷ []
+    ≡ record { num = 65636; type = 23; content = 6 ∷ [] } ∷ record { num = 32868; type = 23; content = 4 ∷ [] }
+    ∷ record { num = 37; type = 23; content = 2 ∷ [] } ∷ record { num = 100; type = 23; content = 1 ∷ [] } ∷ []
 unfolding edges sealedAs arrives doubled choose both either splice bit askSound askKeyed openingSound questionSound isSound counted nonceOf innerOf unmasked rebuilt judged maskedAt maskedBy masking maskStep typed openedAt openedBy openings openedStep cancelledAsk cancelled freshOf keyOf leaving removedBy removeOf encryptOf releaseOf beginOf headerLen fragmentLen partialOf parseCiphertext isType isVersion isPlaintext plaintextHeader parsePlaintext parsed unifiedHeader lockedStep sealedStep stepOf openingAsked askedAgain asking readStep fits lastFit find orElse two resolve wasFound isKeyed marked appOne apps windowsSound keysSound isFull installed leftAt left maskedHeader own below above nearest expected isFresh marking upd keyOwed keys resolvesTo sealedSize plainSize recordSize goodPlain removedFrom removed removeOwed begun beginOwed afterRead afterMask afterOpen
 edges-hands = refl
 
+-- 65,636 and 37 were due; 65,637 would be, were it in reach, and 36, were it not too old
+edges-due : (z : Tried) → Due (lastOf (run (fresh-half 16) edges .end .into .tried) z .trial) 2 (sealedAs 2 65636 6)
+    × (65637 < reachOf (32868 ∷ 37 ∷ 100 ∷ [])
+    → Due (lastOf (earlier (run (fresh-half 16) edges .end .into .tried)) z .trial) 2 (sealedAs 2 65637 5))
+    × (aboveUsed (37 ∷ 100 ∷ []) ≤ 36 + windowMarks
+    → Due (lastOf (earlier (earlier (earlier (run (fresh-half 16) edges .end .into .tried)))) z .trial) 2 (sealedAs 2 36 3))
+    × Due (lastOf (earlier (earlier (earlier (earlier (run (fresh-half 16) edges .end .into .tried))))) z .trial) 2 (sealedAs 2 37 2)
+unfolding edges sealedAs arrives doubled choose both either splice bit askSound askKeyed openingSound questionSound isSound counted nonceOf innerOf unmasked rebuilt judged maskedAt maskedBy masking maskStep typed openedAt openedBy openings openedStep cancelledAsk cancelled freshOf keyOf leaving removedBy removeOf encryptOf releaseOf beginOf headerLen fragmentLen partialOf parseCiphertext isType isVersion isPlaintext plaintextHeader parsePlaintext parsed unifiedHeader lockedStep sealedStep stepOf openingAsked askedAgain asking readStep fits lastFit find orElse two resolve wasFound isKeyed marked appOne apps windowsSound keysSound isFull installed leftAt left maskedHeader own below above nearest expected isFresh marking upd keyOwed keys resolvesTo sealedSize plainSize recordSize goodPlain removedFrom removed removeOwed begun beginOwed afterRead afterMask afterOpen
+edges-due z = (
+  due-after (32868 ∷ 37 ∷ 100 ∷ []) _ 2 (sealedAs 2 65636 6) refl (here refl) refl refl (omega arith) refl refl (omega arith) (omega arith),
+  λ near. due-after (32868 ∷ 37 ∷ 100 ∷ []) _ 2 (sealedAs 2 65637 5) refl (there (here refl)) refl refl (omega arith) refl refl (omega arith) near,
+  λ old. due-after (37 ∷ 100 ∷ []) _ 2 (sealedAs 2 36 3) refl (there (there (there (here refl)))) refl refl (omega arith) refl refl old (omega arith),
+  due-after (100 ∷ []) _ 2 (sealedAs 2 37 2) refl (there (there (there (there (here refl))))) refl refl (omega arith) refl refl (omega arith) (omega arith),
+)
+
 edges-honest : Honest oneMask (fresh-half 16) edges
 unfolding oneMask edges sealedAs arrives doubled choose both either splice bit askSound askKeyed openingSound questionSound isSound counted nonceOf innerOf unmasked rebuilt judged maskedAt maskedBy masking maskStep typed openedAt openedBy openings openedStep cancelledAsk cancelled freshOf keyOf leaving removedBy removeOf encryptOf releaseOf beginOf headerLen fragmentLen partialOf parseCiphertext isType isVersion isPlaintext plaintextHeader parsePlaintext parsed unifiedHeader lockedStep sealedStep stepOf openingAsked askedAgain asking readStep fits lastFit find orElse two resolve wasFound isKeyed marked appOne apps windowsSound keysSound isFull installed leftAt left maskedHeader own below above nearest expected isFresh marking upd keyOwed keys resolvesTo sealedSize plainSize recordSize goodPlain removedFrom removed removeOwed begun beginOwed afterRead afterMask afterOpen
-edges-honest = (tt, (tt, (shape 2 100 1 (omega arith), (shape 2 37 2 (omega arith), (shape 2 36 3 (omega arith), (shape 2 32868 4 (omega arith), (shape 2 65637 5 (omega arith), (tt, (tt, ((refl, λ s. refl), (tt, (λ right. yes-fair (sealedAs 2 65637 5 ∷ sealedAs 2 32868 4 ∷ sealedAs 2 36 3 ∷ sealedAs 2 37 2 ∷ sealedAs 2 100 1 ∷ []) (sealedAs 2 100 1) (there (there (there (there (here refl))))) refl _ refl, (tt, (tt, ((refl, λ s. refl), (tt, (λ right. yes-fair (sealedAs 2 65637 5 ∷ sealedAs 2 32868 4 ∷ sealedAs 2 36 3 ∷ sealedAs 2 37 2 ∷ sealedAs 2 100 1 ∷ []) (sealedAs 2 37 2) (there (there (there (here refl)))) refl _ refl, (tt, (tt, ((refl, λ s. refl), (tt, (tt, ((refl, λ s. refl), (tt, (λ right. yes-fair (sealedAs 2 65637 5 ∷ sealedAs 2 32868 4 ∷ sealedAs 2 36 3 ∷ sealedAs 2 37 2 ∷ sealedAs 2 100 1 ∷ []) (sealedAs 2 32868 4) (there (here refl)) refl _ refl, (tt, (tt, ((refl, λ s. refl), tt))))))))))))))))))))))))))))
+edges-honest = (tt, (tt, (shape 2 100 1 (omega arith), (shape 2 37 2 (omega arith), (shape 2 36 3 (omega arith), (shape 2 32868 4 (omega arith), (shape 2 65637 5 (omega arith), (shape 2 65636 6 (omega arith), (tt, (tt, ((refl, λ s. refl), (tt, (λ right. yes-fair (sealedAs 2 65636 6 ∷ sealedAs 2 65637 5 ∷ sealedAs 2 32868 4 ∷ sealedAs 2 36 3 ∷ sealedAs 2 37 2 ∷ sealedAs 2 100 1 ∷ []) (sealedAs 2 100 1) (there (there (there (there (there (here refl)))))) refl _ refl, (tt, (tt, ((refl, λ s. refl), (tt, (λ right. yes-fair (sealedAs 2 65636 6 ∷ sealedAs 2 65637 5 ∷ sealedAs 2 32868 4 ∷ sealedAs 2 36 3 ∷ sealedAs 2 37 2 ∷ sealedAs 2 100 1 ∷ []) (sealedAs 2 37 2) (there (there (there (there (here refl))))) refl _ refl, (tt, (tt, ((refl, λ s. refl), (tt, (tt, ((refl, λ s. refl), (tt, (λ right. yes-fair (sealedAs 2 65636 6 ∷ sealedAs 2 65637 5 ∷ sealedAs 2 32868 4 ∷ sealedAs 2 36 3 ∷ sealedAs 2 37 2 ∷ sealedAs 2 100 1 ∷ []) (sealedAs 2 32868 4) (there (there (here refl))) refl _ refl, (tt, (tt, ((refl, λ s. refl), (tt, (tt, ((refl, λ s. refl), (tt, (λ right. yes-fair (sealedAs 2 65636 6 ∷ sealedAs 2 65637 5 ∷ sealedAs 2 32868 4 ∷ sealedAs 2 36 3 ∷ sealedAs 2 37 2 ∷ sealedAs 2 100 1 ∷ []) (sealedAs 2 65636 6) (here refl) refl _ refl, tt))))))))))))))))))))))))))))))))))
 
 -- ---- the first records of an epoch after a gap
 
--- a record of which the cipher does not open the number that its bits stand for
+-- a record that the cipher does not open under the number rebuilt from its bits
 refused : Sealed → List Event → List Event
 refused r rest = here· (begin· (r .wire)) ∷ here· read· ∷ here· (mask· (1 ∷ 2 ∷ [])) ∷ here· (open· reply.No) ∷ rest
 
@@ -346,32 +380,15 @@ gap-hands : (run (fresh-half 16) gap .end .into .handed 2 ≡ record { num = 400
 unfolding gap sealedAs arrives refused choose both either splice bit askSound askKeyed openingSound questionSound isSound counted nonceOf innerOf unmasked rebuilt judged maskedAt maskedBy masking maskStep typed openedAt openedBy openings openedStep cancelledAsk cancelled freshOf keyOf leaving removedBy removeOf encryptOf releaseOf beginOf headerLen fragmentLen partialOf parseCiphertext isType isVersion isPlaintext plaintextHeader parsePlaintext parsed unifiedHeader lockedStep sealedStep stepOf openingAsked askedAgain asking readStep fits lastFit find orElse two resolve wasFound isKeyed marked appOne apps windowsSound keysSound isFull installed leftAt left maskedHeader own below above nearest expected isFresh marking upd keyOwed keys resolvesTo sealedSize plainSize recordSize goodPlain removedFrom removed removeOwed begun beginOwed afterRead afterMask afterOpen
 gap-hands = (refl, refl, refl)
 
--- the first record to arrive in an epoch is due if it is in reach
-first-due : (t : Trial) (e : ℕ) (r : Sealed) → Mem r (t .sealed e) → take (length (r .wire)) (t .rest) ≡ r .wire → t .encrypted ≡ true
-    → t .count ≤ 15 → t .resolved ≡ some e → t .used e ≡ [] → r .num < reachOf [] → Due t e r
-first-due t e r sent same on few found unused near = record {
-  sealed-then = sent;
-  undamaged = same;
-  encryption-on = on;
-  among-16 = few;
-  resolved = found;
-  not-used = λ m. nothing-in (subst (λ (l : List ℕ). Mem (r .num) l) unused m);
-  not-old = subst (λ (l : List ℕ). aboveUsed l ≤ r .num + windowMarks) (sym unused) (omega arith);
-  in-reach = subst (λ (l : List ℕ). r .num < reachOf l) (sym unused) near;
-}
-  where
-    nothing-in : Mem (r .num) [] → ⊥
-    nothing-in m = elim m [ ]
-
 -- and so they were due; 65,536 would be, were it in reach
 gap-due : (z : Tried) → Due (lastOf (earlier (run (fresh-half 16) gap .end .into .tried)) z .trial) 2 (sealedAs 2 40000 1)
     × Due (lastOf (run (fresh-half 16) gap .end .into .tried) z .trial) 3 (sealedAs 3 65535 2)
     × (65536 < reachOf [] → Due (lastOf (earlier (earlier (run (fresh-half 16) gap .end .into .tried))) z .trial) 4 (sealedAs 4 65536 3))
 unfolding gap sealedAs arrives refused choose both either splice bit askSound askKeyed openingSound questionSound isSound counted nonceOf innerOf unmasked rebuilt judged maskedAt maskedBy masking maskStep typed openedAt openedBy openings openedStep cancelledAsk cancelled freshOf keyOf leaving removedBy removeOf encryptOf releaseOf beginOf headerLen fragmentLen partialOf parseCiphertext isType isVersion isPlaintext plaintextHeader parsePlaintext parsed unifiedHeader lockedStep sealedStep stepOf openingAsked askedAgain asking readStep fits lastFit find orElse two resolve wasFound isKeyed marked appOne apps windowsSound keysSound isFull installed leftAt left maskedHeader own below above nearest expected isFresh marking upd keyOwed keys resolvesTo sealedSize plainSize recordSize goodPlain removedFrom removed removeOwed begun beginOwed afterRead afterMask afterOpen
 gap-due z = (
-  first-due _ 2 (sealedAs 2 40000 1) (here refl) refl refl (omega arith) refl refl (omega arith),
-  first-due _ 3 (sealedAs 3 65535 2) (here refl) refl refl (omega arith) refl refl (omega arith),
-  λ near. first-due _ 4 (sealedAs 4 65536 3) (here refl) refl refl (omega arith) refl refl near,
+  due-after [] _ 2 (sealedAs 2 40000 1) refl (here refl) refl refl (omega arith) refl refl (omega arith) (omega arith),
+  due-after [] _ 3 (sealedAs 3 65535 2) refl (here refl) refl refl (omega arith) refl refl (omega arith) (omega arith),
+  λ near. due-after [] _ 4 (sealedAs 4 65536 3) refl (here refl) refl refl (omega arith) refl refl (omega arith) near,
 )
 
 gap-honest : Honest oneMask (fresh-half 16) gap

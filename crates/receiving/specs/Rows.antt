@@ -1,14 +1,25 @@
 -- Rows and short histories that the definitions compute. Assumes nothing.
 use Prim.Native.Nat.{ℕ}
-use lib.ListN.{replicate}
+use lib.ListN.{length, replicate}
 use mathlib.Core.List.{List, [], _∷_}
 use mathlib.Core.Path.{_≡_, refl}
-use Rattle.base.specs.Choose.{choose, both}
-use Rattle.datagram.specs.Datagram.{questionSound, isSound}
+use Rattle.base.specs.Bits.{bit}
+use Rattle.base.specs.Choose.{choose, both, either}
+use Rattle.base.specs.Parts.{splice}
+use Rattle.datagram.specs.Datagram.{askSound, askKeyed, openingSound, questionSound, isSound, counted}
+use Rattle.datagram.specs.declared.Reading.the-variants.{Opening}
+use Rattle.datagram.specs.declared.Reading.{Reading}
+use Rattle.dtls_aead.specs.Nonce.{nonceOf}
+use Rattle.mask_reply.specs.Mask.{unmasked, rebuilt, judged, maskedAt, maskedBy, masking, maskStep}
 use Rattle.opening_reply.specs.Opening.{cancelled}
+use Rattle.record.specs.Record.{headerLen, fragmentLen, partialOf, parseCiphertext, isType, isVersion, isPlaintext, parsePlaintext, parsed}
+use Rattle.records.specs.Records.{lockedStep, sealedStep, stepOf, openingAsked, askedAgain, asking, readStep}
 use Rattle.recv_keys.specs.Keys.{fits, lastFit, find, orElse, two, resolve, wasFound, isKeyed, appOne, apps, windowsSound, keysSound, isFull, installed, leftAt, left}
 use Rattle.recv_keys.specs.declared.Found.the-variants.{At, Nothing}
-use Rattle.receiving.specs.Receiving.{freshOf, keyOf, releaseOf, removeOf, removedBy, leaving}
+use Rattle.sequence.specs.Sequence.{own, below, above, nearest}
+use Rattle.window.specs.Used.{expected}
+use Rattle.window.specs.Window.{isFresh}
+use Rattle.receiving.specs.Receiving.{freshOf, keyOf, encryptOf, releaseOf, removeOf, removedBy, leaving, beginOf, readOf, maskOf}
 use Rattle.receiving.specs.declared.Receiving.{Receiving}
 
 -- epochs keyed one after the other
@@ -30,3 +41,14 @@ resolving :
     × (resolve (keyed [] .keys) 2 ≡ Nothing)
 unfolding choose both fits lastFit find orElse two resolve wasFound isKeyed appOne apps windowsSound keysSound isFull installed leftAt left questionSound isSound freshOf keyOf releaseOf removeOf removedBy leaving cancelled
 resolving = (refl, refl, refl, refl, refl, refl)
+
+-- what is asked of a lone record in epoch 3, nothing used in it and the mask zeros
+abbrev firstAsked : List ℕ → Reading
+firstAsked d =
+    maskOf (readOf (beginOf (encryptOf (keyed (3 ∷ [])) .state) (length d) .state) d .state) (0 ∷ 0 ∷ []) d .0 .reading
+
+-- 02, 1: its opening under the number that its bits are, 200 of one byte and 40,000 of two
+first-numbers :
+    (firstAsked (0x23 ∷ 200 ∷ replicate 16 0) ≡ Opening 3 200 0 2 16) × (firstAsked (0x2B ∷ 0x9C ∷ 0x40 ∷ replicate 16 0) ≡ Opening 3 40000 0 3 16)
+unfolding choose both either splice bit askSound askKeyed openingSound questionSound isSound counted nonceOf unmasked rebuilt judged maskedAt maskedBy masking maskStep freshOf keyOf encryptOf beginOf headerLen fragmentLen partialOf parseCiphertext isType isVersion isPlaintext parsePlaintext parsed lockedStep sealedStep stepOf openingAsked askedAgain asking readStep fits lastFit find orElse two resolve wasFound isKeyed appOne apps windowsSound keysSound isFull installed own below above nearest expected isFresh
+first-numbers = (refl, refl)

@@ -1,5 +1,5 @@
--- The worked rows of 01, as 02 changes them: every one that is marked there, and the two on settings and an empty body, as one table, and the one
--- fact that all of them hold of the definitions. Assumes nothing.
+-- The worked rows of 01, as 02 changes them: every one that is marked there, the two on settings and an empty body, and 02's own, as one table,
+-- and the one fact that all of them hold of the definitions. Assumes nothing.
 use mathlib.Core.Bool.{Bool, true, false, _&&_, not}
 use mathlib.Core.List.{List, [], _∷_}
 use mathlib.Core.Path.{_≡_, refl}
@@ -46,6 +46,8 @@ table =
     -- "* 16 bits, e 65,540, bits 65,535: 65,535. * e 65,530, bits 3: 65,539"
     rebuilt true 65540 65535 65535
     ∷ rebuilt true 65530 3 65539
+    -- 02, 1: "at e = 0 the received bits are 40,000"
+    ∷ rebuilt true 0 40000 40000
     -- "* 8 bits, e 266, bits 138: 394. * e 200, bits 72: 72. * e 0, bits 128: 128"; 02, 1: "Row "e 0, bits 200" now gives 200"
     ∷ rebuilt false 266 138 394
     ∷ rebuilt false 200 72 72

@@ -1,4 +1,4 @@
-// The worked rows of 01, run through the code; what they must give stands in the file stdout.
+// The worked rows of 01 and 02, run through the code; what they must give stands in the file stdout.
 use window::ReplayWindow;
 
 fn line(text: &[u8]) {
@@ -37,6 +37,7 @@ fn header(text: &[u8], epoch: u16, n: u64, length: u16) {
 fn main() {
     rebuilt(b"16 bits, e 65540, bits 65535: ", true, 65540, 65535);
     rebuilt(b"16 bits, e 65530, bits 3: ", true, 65530, 3);
+    rebuilt(b"16 bits, e 0, bits 40000: ", true, 0, 40000);
     rebuilt(b"8 bits, e 266, bits 138: ", false, 266, 138);
     rebuilt(b"8 bits, e 200, bits 72: ", false, 200, 72);
     rebuilt(b"8 bits, e 0, bits 128: ", false, 0, 128);
