@@ -107,7 +107,7 @@ impl Left {
             histories, left, ..
         } = self;
         println!(
-            "  {} as the Rust; {left} more left its equality",
+            "  {} as the Rust; {left} more left the equality with it",
             histories - left
         );
         let counts = self.by.0.iter().zip(&self.changes.0);

@@ -71,7 +71,7 @@ pub struct Options {
     #[arg(long, value_name = "P", default_value = "1", value_parser = percent)]
     pub forge: f64,
 
-    /// It loses the post's first N records of epoch 3 (sent besides the --records) and not the next one, 0 to 100,000
+    /// It loses the post's first N records of epoch 3 (sent besides the --records); the next one arrives, if late, 0 to 100,000
     #[arg(long, value_name = "N", default_value = "0", value_parser = whole(0, 100_000))]
     pub lose_first: usize,
 

@@ -163,7 +163,7 @@ impl Comparison<'_> {
                     number, difference, ..
                 } = request;
                 line += &format!(
-                    ", {left} more left out: difference {difference}, held to request {number}"
+                    ", {left} more as request {number} says: difference {difference}"
                 );
             }
         }
