@@ -131,7 +131,7 @@ no-fair : (l : List Sealed) (n : ℕ) (head body : List ℕ) → free n l ≡ tr
     → (p : List ℕ) → (none ≡ some p) ↔ ((q : Sealed) × Mem q l × Opens q n head body p)
 no-fair l n head body t p = (λ e. some≢none (sym e), λ g. absurd (free-not n l t (g .0) (g .1) (g .2 .number)))
 
--- no number of the list is n
+-- whether n is in the list
 abbrev among : ℕ → List ℕ → Bool
 among n [] = false
 among n (m ∷ l) = choose (eqb n m) true (among n l)
@@ -326,8 +326,8 @@ refusals-honest = (tt, (tt, (tt, (tt, (tt, (tt, (tt, (tt, (tt, (tt, (tt, tt)))))
 
 -- ---- the edges of the reach
 
--- after 100: 37, 63 below, is read, and 36, 64 below, is dropped; then 32,868 is read; of 32,869, 65,637, 32,768 above, is not found from its
--- bits, and 65,636 is read
+-- after 100: 37, 63 below, is read, and 36, 64 below, is dropped; then 32,868 is read; 65,637, 32,768 above 32,869, is not found
+-- from its bits, and 65,636 is read
 edges : List Event
 edges =
     here· (key· 2 (replicate 12 0)) ∷ here· encrypt· ∷ far· 2 (sealedAs 2 100 1) ∷ far· 2 (sealedAs 2 37 2) ∷ far· 2 (sealedAs 2 36 3)
