@@ -12,6 +12,10 @@ use borrow.Rule.Slice.PartMut.{putMid}
 abbrev pub part : ℕ → ℕ → List ℕ → List ℕ
 part a n d = take n (drop a d)
 
+-- how many bytes one move may have: as many as a message
+abbrev pub mostMoved : ℕ
+mostMoved = 16384
+
 -- d with v written over it from place a on
 unfoldable pub splice : ℕ → List ℕ → List ℕ → List ℕ
 splice a v d = take a d ++ (v ++ drop (length v) (drop a d))

@@ -1,9 +1,9 @@
 // Bytes and parts of a slice as every crate reads them; specs/ has the laws that all of them cite.
 ghost use mathlib.Core.Path.{_≡_};
 ghost use Prim.Native.Nat.{_+_, _<_, _≤_, min};
-ghost use lib.ListN.{length, getD, drop};
+ghost use lib.ListN.{length, getD, take, drop};
 ghost use Rattle.base.specs.Bytes.{beAt};
-ghost use Rattle.base.specs.Parts.{part};
+ghost use Rattle.base.specs.Parts.{part, mostMoved};
 
 // A byte as a wider number.
 pub fn wide(x: u8) -> u64
@@ -97,4 +97,59 @@ pub fn fragment(d: &[u8], start: usize, length: usize) -> &[u8]
         return &t[..length];
     }
     t
+}
+
+// ---- bytes moved
+
+// How many bytes one move may have: as many as a message.
+pub const MOST_MOVED: usize = 16384;
+
+fn count_of(b: &[u8]) -> usize
+    ensures { λ r. ⌜ r ≡ length (now (b .entry)) ⌝ }
+{
+    b.len()
+}
+
+// How many bytes the array has.
+fn sized(b: &[u8; MOST_MOVED]) -> usize
+    ensures { λ _. ⌜ length (now (b .entry)) ≡ mostMoved ⌝ }
+{
+    count_of(b)
+}
+
+// A slice put at the start of an array.
+fn into_array(src: &[u8], b: &mut [u8; MOST_MOVED])
+    requires { ⌜ length (now src) ≤ mostMoved ⌝ }
+    ensures { λ _. ⌜ take (length (now (src .entry))) (now (b .exit)) ≡ now (src .entry) ⌝ }
+{
+    sized(b);
+    let mut i = 0;
+    while i < src.len() {
+        b[i] = src[i];
+        i += 1;
+    }
+}
+
+// The start of an array put into a slice.
+fn from_array(b: &[u8; MOST_MOVED], dst: &mut [u8])
+    requires { ⌜ length (now dst) ≤ mostMoved ⌝ }
+    ensures { λ _. ⌜ now (dst .exit) ≡ take (length (now (dst .entry))) (now (b .entry)) ⌝ }
+{
+    sized(b);
+    let mut i = 0;
+    while i < dst.len() {
+        dst[i] = b[i];
+        i += 1;
+    }
+}
+
+// Copies a slice over another of the same length. The array between them overlaps neither: the compiler makes one memmove of it all, and no
+// array, where a loop from slice to slice stays a loop.
+pub fn move_bytes(src: &[u8], dst: &mut [u8])
+    requires { ⌜ (length (now src) ≡ length (now dst)) × (length (now src) ≤ mostMoved) ⌝ }
+    ensures { λ _. ⌜ now (dst .exit) ≡ now (src .entry) ⌝ }
+{
+    let mut b = [0u8; MOST_MOVED];
+    into_array(src, &mut b);
+    from_array(&b, dst);
 }

@@ -10,6 +10,8 @@ use Rattle.base.specs.Parts.{part}
 use Rattle.send_keys.specs.Keys.{nextOf}
 use Rattle.history_theorem.specs.Claim.{Masks, Once, asHanded, nonceFor, Received}
 use Rattle.history_theorem.specs.Receiver.{Sealed}
+use Rattle.assembly_theorem.specs.Claim.{Assembled}
+use Rattle.assembly_theorem.specs.Rules.{Within}
 use Rattle.history_theorem.specs.Account.{sealedTail}
 use Rattle.ends_theorem.specs.Flights.{handedAs, Arrived, Apart, Held}
 use Rattle.ends_theorem.specs.Ledger.{Kept, items, oldest}
@@ -46,6 +48,11 @@ pub record Holds (w : World) (s : Side) (e : ℕ) : Type 0 where
   pub acked-handed : (k : Kept) → 2 ≤ k .epoch → Mem k (w (far s) .ledger .saved) → k .acked ≡ true → Arrived (w s .into .into .handed) k
   -- "or of epoch 2 when an ACK empties the flight"
   pub cleared-handed : (k : Kept) → Mem k (w (far s) .cleared) → Arrived (w s .into .into .handed) k
+  -- 02, 2: each call of reassembly was answered as its account says; handshake messages came out whole, once, as 0, 1, 2 and so on, each byte from the
+  -- first piece given that has it; the buffer changed by what a taken piece brings anew alone (crate assembly_theorem, Claim)
+  pub assembled : Assembled (w s .pieces)
+  -- each of at most 50 pieces, all of its number, and at most 16,384 bytes (crate assembly_theorem, Rules)
+  pub within : Within (w s .pieces)
   -- the state holds the account's flight, record by record, marked as there: none goes in another way than the account's
   pub flight-held : Held (w (far s) .mtu) (w (far s) .out .stores .flight) (w (far s) .out .stores .kept) 0 (w (far s) .ledger .saved)
   pub flight-whole : length (w (far s) .ledger .saved) ≡ w (far s) .out .stores .flight .saved

@@ -33,3 +33,4 @@ pub mod Shown
 pub mod Proof
 pub mod Status
 pub mod Example
+pub mod Pieces

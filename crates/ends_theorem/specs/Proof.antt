@@ -13,6 +13,8 @@ use Rattle.waiting_laws.specs.Fresh.{fresh-holds}
 use Rattle.queue.specs.Queue.{isSetting}
 use Rattle.history_theorem.specs.Account.{sealedOver}
 use Rattle.ends_theorem.specs.Starting.{ranges-setting}
+use Rattle.assembly_theorem.specs.Proof.{Story, does-story, new-story}
+use Rattle.assembly_theorem.specs.Rules.{Within, does-within, new-within}
 use Rattle.ends_theorem.specs.Given.{Given, given-keeps, given-lies, took-all}
 use Rattle.base.specs.Choose.{by-test}
 use Rattle.opening_reply.specs.declared.Opening.{Opening}
@@ -72,7 +74,7 @@ use Rattle.ends_theorem.specs.Settling.{new-matches}
 use Rattle.ends_theorem.specs.Short.{short-answered, short-stays, over-all}
 use Rattle.ends_theorem.specs.Shown.{asked-oldest, wired}
 use Rattle.ends_theorem.specs.Width.{same-width, same-limit}
-use Rattle.ends_theorem.specs.World.{Side, post, gateway, far, Count, Said, End, Deed, sending, over, receiving, Event, World, takesIn, countsBy, acts, step, run, Setting, fresh-pair, FairDeed, Honest, Took, Over, givenBy}
+use Rattle.ends_theorem.specs.World.{Side, post, gateway, far, Count, Said, End, Deed, sending, over, receiving, piecing, Event, World, takesIn, countsBy, acts, step, run, Setting, fresh-pair, FairDeed, Honest, Took, Over, givenBy}
 
 -- the settings of the state are those that the end was created with
 pub record Sized (e : End) : Type 0 where
@@ -180,6 +182,7 @@ module _ (masks : Side → Masks) where
     pub given : (s : Side) → Given (w s .out .stores .state) (w s .out .stores .queue) (w s .given)
     pub heard : (s : Side) → Heard (w s .into .into .handed) (w (far s) .out .books .sent) (w (far s) .ledger)
     pub cleared : (s : Side) → (k : Kept) → Mem k (w (far s) .cleared) → Arrived (w s .into .into .handed) k
+    pub pieces : (s : Side) → Story (w s .pieces) × Within (w s .pieces)
 
   -- ---- one sending call
 
@@ -252,23 +255,27 @@ module _ (masks : Side → Masks) where
   out-keeps s f e (sending c) i o m h = sends-on s e c (h .0) m i
   out-keeps s f e (over c q k) i o m h = turned (masks s) (e .out) i _ (over-stores e c q k o h .0)
   out-keeps s f e (receiving c) i o m h = i
+  out-keeps s f e (piecing c) i o m h = i
 
   own-link : (s : Side) (f e : End) (d : Deed) → Link (masks (far s)) (f .out .sealed) (e .into) → FairDeed masks s f e d
       → Link (masks (far s)) (f .out .sealed) (acts f e d .into)
   own-link s f e (sending c) l h = l
   own-link s f e (over c q k) l h = l
   own-link s f e (receiving c) l h = call-keeps (masks (far s)) (f .out .sealed) (e .into) l c h
+  own-link s f e (piecing c) l h = l
 
   other-link : (s : Side) (f e : End) (d : Deed) → Sends (masks s) (e .out) → Matches (e .out .stores) (e .ledger) → FairDeed masks s f e d → Link (masks s) (e .out .sealed) (f .into)
       → Link (masks s) (acts f e d .out .sealed) (f .into)
   other-link s f e (sending c) i m h l = grown (e .out .sealed) (sends (e .out) (sentBy (e .ledger) c) c) (masks s) (sealed-on s e c (h .0) m) (sends-on s e c (h .0) m i) (f .into) l
   other-link s f e (over c q k) i m h l = l
   other-link s f e (receiving c) i m h l = l
+  other-link s f e (piecing c) i m h l = l
 
   own-counts : (f e : End) (d : Deed) → ((c : Count) → Mem c (e .counts) → SameNumbers c) → (c : Count) → Mem c (acts f e d .counts) → SameNumbers c
   own-counts f e (sending c) h = h
   own-counts f e (over c q k) h = h
   own-counts f e (receiving c) h = counts-keep e _ c h
+  own-counts f e (piecing c) h = h
 
   own-sized : (s : Side) (f e : End) (d : Deed) → FairDeed masks s f e d → Sized e → Sized (acts f e d)
   own-sized s f e (sending c) h o =
@@ -281,11 +288,13 @@ module _ (masks : Side → Masks) where
       let same = over-stores e c q k o h .0 in
       record { width = ap (λ (w : Stores). w .state .queue .mtu) same ∙ o .width; limit = ap (λ (w : Stores). w .state .queue .limit) same ∙ o .limit }
   own-sized s f e (receiving c) h o = record { width = o .width; limit = o .limit }
+  own-sized s f e (piecing c) h o = record { width = o .width; limit = o .limit }
 
   own-matches : (s : Side) (f e : End) (d : Deed) → FairDeed masks s f e d → Sized e → Matches (e .out .stores) (e .ledger) → Matches (acts f e d .out .stores) (acts f e d .ledger)
   own-matches s f e (sending c) h o m = matches-on s e c (h .0) m
   own-matches s f e (over c q k) h o m = subst (λ (w : Stores). Matches w (e .ledger)) (sym (over-stores e c q k o h .0)) m
   own-matches s f e (receiving c) h o m = m
+  own-matches s f e (piecing c) h o m = m
 
   one-said : (a : Said) (old : List Said) → a .reply ≡ a .owed → ((b : Said) → Mem b old → b .reply ≡ b .owed) → (b : Said) → Mem b (a ∷ old) → b .reply ≡ b .owed
   one-said a old new kept b n = mem-by n (λ (p : b ≡ a). subst (λ (v : Said). v .reply ≡ v .owed) (sym p) new) (λ o. kept b o)
@@ -295,17 +304,20 @@ module _ (masks : Side → Masks) where
   own-said s f e (sending c) h o m old = one-said _ (e .said) (done s e c (h .0) m .reply) old
   own-said s f e (over c q k) h o m old = one-said _ (e .said) (over-stores e c q k o h .1) old
   own-said s f e (receiving c) h o m old = old
+  own-said s f e (piecing c) h o m old = old
 
   own-took : (f e : End) (d : Deed) → ((t : Took) → Mem t (e .took) → TookOnly t) → (t : Took) → Mem t (acts f e d .took) → TookOnly t
   own-took f e (sending c) old = took-all (e .out .stores) c (e .took) old
   own-took f e (over c q k) old = took-all (lending (e .out .stores) q k) c (e .took) old
   own-took f e (receiving c) old = old
+  own-took f e (piecing c) old = old
 
   own-overs : (s : Side) (f e : End) (d : Deed) → FairDeed masks s f e d → Sized e → ((o : Over) → Mem o (e .overs) → (o .queue′ ≡ o .queue) × (o .kept′ ≡ o .kept))
       → (o : Over) → Mem o (acts f e d .overs) → (o .queue′ ≡ o .queue) × (o .kept′ ≡ o .kept)
   own-overs s f e (sending c) h z old = old
   own-overs s f e (over c q k) h z old = over-all (e .out .stores) q k c (e .overs) (own-short e c q k z h) old
   own-overs s f e (receiving c) h z old = old
+  own-overs s f e (piecing c) h z old = old
 
   own-given : (s : Side) (f e : End) (d : Deed) → FairDeed masks s f e d → Sized e → Matches (e .out .stores) (e .ledger) → Given (e .out .stores .state) (e .out .stores .queue) (e .given)
       → Given (acts f e d .out .stores .state) (acts f e d .out .stores .queue) (acts f e d .given)
@@ -315,6 +327,14 @@ module _ (masks : Side → Masks) where
       (λ k iv p. subst (FairSend (masks s) (e .out)) p (h .0)))
   own-given s f e (over c q k) h z m g = subst (λ (w : Stores). Given (w .state) (w .queue) (e .given)) (sym (over-stores e c q k z h .0)) g
   own-given s f e (receiving c) h z m g = g
+  own-given s f e (piecing c) h z m g = g
+
+  own-pieces : (s : Side) (f e : End) (d : Deed) → FairDeed masks s f e d → Story (e .pieces) × Within (e .pieces)
+      → Story (acts f e d .pieces) × Within (acts f e d .pieces)
+  own-pieces s f e (sending c) h p = p
+  own-pieces s f e (over c q k) h p = p
+  own-pieces s f e (receiving c) h p = p
+  own-pieces s f e (piecing c) h p = let t = does-story (e .pieces) c h (p .0) in (t, does-within (e .pieces) c (p .0) t (p .1))
 
   -- what was handed over was sent, and only once under its number
   one-handed : (m : Masks) (x : Sender) (i : Inbound) → Sends m x → Link m (x .sealed) i → (e : ℕ) (h k : Handed) → Mem h (i .into .handed e) → Mem k (x .books .sent e) → h .num ≡ k .num → h ≡ k
@@ -336,12 +356,14 @@ module _ (masks : Side → Masks) where
       (heard-keeps (f .into .into .handed) (e .out .books) (e .ledger) (one-handed (masks s) (e .out) (f .into) i l) (below-next (masks s) (e .out) (e .ledger) i m) o c (h .1))
   own-heard s f e (over c q k) i l m h o = o
   own-heard s f e (receiving c) i l m h o = o
+  own-heard s f e (piecing c) i l m h o = o
 
   other-heard : (f e : End) (d : Deed) → Heard (e .into .into .handed) (f .out .books .sent) (f .ledger) → Heard (acts f e d .into .into .handed) (f .out .books .sent) (f .ledger)
   other-heard f e (sending c) o = o
   other-heard f e (over c q k) o = o
   other-heard f e (receiving c) o =
       heard-grows (e .into .into .handed) (does (f .out .sealed) (e .into) c .into .handed) (f .out .books .sent) (f .out .books .sent) (handed-on (f .out .sealed) (e .into) c) (λ k h m. m) (f .ledger) o
+  other-heard f e (piecing c) o = o
 
   own-cleared : (s : Side) (f e : End) (d : Deed) → Sends (masks s) (e .out) → Link (masks s) (e .out .sealed) (f .into) → FairDeed masks s f e d
       → Heard (f .into .into .handed) (e .out .books .sent) (e .ledger) → ((k : Kept) → Mem k (e .cleared) → Arrived (f .into .into .handed) k)
@@ -351,6 +373,7 @@ module _ (masks : Side → Masks) where
       (mem-append (clears (e .ledger) c) n)
   own-cleared s f e (over c q m) i l h o old k n = old k n
   own-cleared s f e (receiving c) i l h o old k n = old k n
+  own-cleared s f e (piecing c) i l h o old k n = old k n
 
   arrived-grows : (a b : ℕ → List Handed) → Grows a b → (k : Kept) → Arrived a k → Arrived b k
   arrived-grows a b up k o = (o .0, o .1, up (k .epoch) _ (o .2))
@@ -360,6 +383,7 @@ module _ (masks : Side → Masks) where
   other-cleared f e (sending c) o k n = o k n
   other-cleared f e (over c q m) o k n = o k n
   other-cleared f e (receiving c) o k n = arrived-grows (e .into .into .handed) (does (f .out .sealed) (e .into) c .into .handed) (handed-on (f .out .sealed) (e .into) c) k (o k n)
+  other-cleared f e (piecing c) o k n = o k n
 
   -- ---- one event, at each side
 
@@ -422,6 +446,13 @@ module _ (masks : Side → Masks) where
     step-given gateway h post = g .given post
     step-given gateway h gateway = own-given gateway (w post) (w gateway) d h (g .sized gateway) (g .matches gateway) (g .given gateway)
 
+    step-pieces : (at : Side) → FairDeed masks at (w (far at)) (w at) d → (s : Side)
+        → Story (step w (record { side = at; deed = d }) s .pieces) × Within (step w (record { side = at; deed = d }) s .pieces)
+    step-pieces post h post = own-pieces post (w gateway) (w post) d h (g .pieces post)
+    step-pieces post h gateway = g .pieces gateway
+    step-pieces gateway h post = g .pieces post
+    step-pieces gateway h gateway = own-pieces gateway (w post) (w gateway) d h (g .pieces gateway)
+
     step-heard : (at : Side) → FairDeed masks at (w (far at)) (w at) d → (s : Side)
         → Heard (step w (record { side = at; deed = d }) s .into .into .handed) (step w (record { side = at; deed = d }) (far s) .out .books .sent) (step w (record { side = at; deed = d }) (far s) .ledger)
     step-heard post h post = other-heard (w gateway) (w post) d (g .heard post)
@@ -451,6 +482,7 @@ module _ (masks : Side → Masks) where
         given = step-given w (v .deed) g (v .side) (h .0);
         heard = step-heard w (v .deed) g (v .side) (h .0);
         cleared = step-cleared w (v .deed) g (v .side) (h .0);
+        pieces = step-pieces w (v .deed) g (v .side) (h .0);
       }) (h .1)
 
   pub new-good : (settings : Side → Setting) → ((s : Side) → Startable (settings s)) → Good (fresh-pair settings)
@@ -466,6 +498,7 @@ module _ (masks : Side → Masks) where
     given = λ s. record { ds = []; holds = fresh-holds (settings s .mtu) (settings s .limit) (settings s .queue) (in-range (settings s) (ok s)) (ok s .room); is = tt };
     heard = λ s. none-heard (λ e. []) (λ e. []);
     cleared = λ s k m. elim m [ ];
+    pieces = λ s. (new-story, new-within);
   }
 
   pub holds : (w : World) → Good w → (s : Side) (e : ℕ) → Holds w s e
@@ -476,6 +509,8 @@ module _ (masks : Side → Masks) where
         moved-no-number = g .counts s;
         acked-handed = λ k two n acked. g .heard s .each k n .acked-handed acked two;
         cleared-handed = g .cleared s;
+        assembled = g .pieces s .0 .holds;
+        within = g .pieces s .1;
         flight-held =
             subst (λ (n : ℕ). Held n (w (far s) .out .stores .flight) (w (far s) .out .stores .kept) 0 (w (far s) .ledger .saved)) (sym (m .mtu) ∙ g .sized (far s) .width)
             (flight-holds (w (far s) .ledger .mtu) (w (far s) .out .stores .flight) (w (far s) .out .stores .kept) (w (far s) .ledger .saved) (m .flight));

@@ -1,5 +1,5 @@
--- Two ends that talk: each sends and receives, and each call gets state, queue, flight and datagram as the last call at its end left them,
--- refused or not.
+-- Two ends that talk: each sends, receives and puts handshake messages together, and each call gets state, queue, flight and datagram as the last
+-- call at its end left them, refused or not.
 use Prim.Native.Nat.{ℕ}
 use lib.Dec.{eqb}
 use lib.ListN.{length}
@@ -15,6 +15,7 @@ use Rattle.waiting_laws.specs.Answers.{answered}
 use Rattle.waiting_laws.specs.Calls.{Stores, SendCall, keySend·, send·, save·, message·, beginFlight·, resend·, note·, sendAck·, ack·, fill·, sealed·, take·, stored, lending, Short, Reply}
 use Rattle.history_theorem.specs.Claim.{Masks, FairCall}
 use Rattle.history_theorem.specs.Receiver.{Inbound, newInbound, Call, key·, remove·, encrypt·, release·, begin·, read·, mask·, write·, open·, readOver·, maskOver·, openOver·, does}
+use Rattle.assembly_theorem.specs.Claim as assembly
 use Rattle.ends_theorem.specs.Flights.{FairNames}
 use Rattle.ends_theorem.specs.Ledger.{Kept, Ledger, newLedger, owed, after, sentBy, shortReply, clears}
 use Rattle.ends_theorem.specs.Sender.{Sender, newSender, sends, sendsOver, FairSend}
@@ -51,7 +52,7 @@ pub record Over : Type 0 where
   pub kept′ : List ℕ
 
 -- the MTU and the queue's limit it was created with, what it sends, the claim's account of it, what its calls were answered, the saved records that
--- went with a flight which an ACK emptied, what it receives, and the counts of its readings
+-- went with a flight which an ACK emptied, what it receives, the counts of its readings, and its reassembly
 pub record End : Type 0 where
   pub mtu : ℕ
   pub limit : ℕ
@@ -65,12 +66,14 @@ pub record End : Type 0 where
   pub cleared : List Kept
   pub into : Inbound
   pub counts : List Count
+  pub pieces : assembly.Piecing
 
--- a sending call over this end's own memory, or over other memory that is too short; a receiving call
+-- a sending call over this end's own memory, or over other memory that is too short; a receiving call; a call of reassembly
 pub data Deed : Type 0 where
   sending : SendCall → Deed
   over : SendCall → List ℕ → List ℕ → Deed
   receiving : Call → Deed
+  piecing : assembly.PieceCall → Deed
 
 pub record Event : Type 0 where
   pub side : Side
@@ -98,6 +101,24 @@ takesIn e i cs = record {
   cleared = e .cleared;
   into = i;
   counts = cs;
+  pieces = e .pieces;
+}
+
+-- other pieces, and nothing else
+abbrev pub puts : End → assembly.Piecing → End
+puts e p = record {
+  mtu = e .mtu;
+  limit = e .limit;
+  out = e .out;
+  ledger = e .ledger;
+  said = e .said;
+  took = e .took;
+  overs = e .overs;
+  given = e .given;
+  cleared = e .cleared;
+  into = e .into;
+  counts = e .counts;
+  pieces = p;
 }
 
 abbrev pub countsBy : End → End → Call → List Count
@@ -182,6 +203,7 @@ acts far-end e (sending c) =
       cleared = clears (e .ledger) c ++ e .cleared;
       into = e .into;
       counts = e .counts;
+      pieces = e .pieces;
     }
 acts far-end e (over c q k) =
     record {
@@ -196,10 +218,12 @@ acts far-end e (over c q k) =
       cleared = e .cleared;
       into = e .into;
       counts = e .counts;
+      pieces = e .pieces;
     }
 acts far-end e (receiving c) =
     let i = does (far-end .out .sealed) (e .into) c in
     takesIn e i (countsBy e (takesIn e i (e .counts)) c)
+acts far-end e (piecing c) = puts e (assembly.does (e .pieces) c)
 
 abbrev pub put : Side → End → World → World
 put post e w post = e
@@ -236,6 +260,7 @@ newEnd s = record {
   cleared = [];
   into = newInbound (s .min);
   counts = [];
+  pieces = assembly.newPiecing;
 }
 
 abbrev pub fresh-pair : (Side → Setting) → World
@@ -244,11 +269,13 @@ fresh-pair settings s = newEnd (settings s)
 -- ---- what is asked of the hosts
 
 -- the mask is "fixed by direction, epoch and the 16 bytes": one function for each sending side; and "every ACK acted on .. named, from
--- epoch 2 up, only records handed over to that end"; other memory than an end's own is lent to it only if too short
+-- epoch 2 up, only records handed over to that end"; other memory than an end's own is lent to it only if too short; a buffer for messages is lent with
+-- the bytes of the pieces taken as the last call left them
 abbrev pub FairDeed : (Side → Masks) → Side → End → End → Deed → Type 0
 FairDeed masks s far-end e (sending c) = FairSend (masks s) (e .out) c × FairNames (far-end .into .into .handed) c
 FairDeed masks s far-end e (over c q k) = Short (e .mtu) (e .limit) q k c
 FairDeed masks s far-end e (receiving c) = FairCall (masks (far s)) (far-end .out .sealed) (e .into) c
+FairDeed masks s far-end e (piecing c) = assembly.FairPiece (e .pieces) c
 
 abbrev pub Fair : (Side → Masks) → World → Event → Type 0
 Fair masks w v = FairDeed masks (v .side) (w (far (v .side))) (w (v .side)) (v .deed)

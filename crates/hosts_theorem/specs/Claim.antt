@@ -36,16 +36,20 @@ use Rattle.send_calls.specs.declared.HuskSealing.{HuskSealing}
 use Rattle.flight_calls.specs.Calls as flights
 use Rattle.status_calls.specs.Calls as status
 use Rattle.ack_calls.specs.Calls as acks
+use Rattle.assembly.specs.Assembly.{isSound, taken}
+use Rattle.assembly_calls.specs.Calls as pieces
 use Rattle.waiting_laws.specs.Calls.{Stores, ack·, fill·}
 use Rattle.history_theorem.specs.Account.{sealedHead, nothing, keyOwed}
 use Rattle.history_theorem.specs.Claim.{Masks, Proper, nonceFor}
 use Rattle.history_theorem.specs.Receiver.{aRead, aMaskReply, anOpenReply, removeOwed, beginOwed, Inbound, Call, key·, remove·, encrypt·, release·, begin·, read·, mask·, write·, open·, readOver·, maskOver·, openOver·}
+use Rattle.assembly_theorem.specs.Account.{owed as pieceOwed}
+use Rattle.assembly_theorem.specs.Claim as assembly
 use Rattle.ends_theorem.specs.Claim.{Holds}
 use Rattle.ends_theorem.specs.Ledger.{Item, Ledger, waiting, items, oldest, unacked, owed, shortReply, after as accountAfter}
 use Rattle.ends_theorem.specs.Sender.{Lent, sealedHeader}
-use Rattle.ends_theorem.specs.World.{Side, post, gateway, far, End, Deed, sending, over, receiving, Event, World, run, Setting, newEnd, fresh-pair, FairDeed, Honest}
+use Rattle.ends_theorem.specs.World.{Side, post, gateway, far, End, Deed, sending, over, receiving, piecing, Event, World, run, Setting, newEnd, fresh-pair, FairDeed, Honest}
 use Rattle.hosts_theorem.specs.Memory.{Incoming, Outgoing, InCall, «husk_receiving_key», «husk_receiving_remove», «husk_receiving_enable_encryption», «husk_receiving_release_application_data», «husk_receiving_begin», «husk_receiving_begin_read», «husk_receiving_read», «husk_receiving_mask», «husk_receiving_opened», «husk_receiving_read_over», «husk_receiving_mask_over», «husk_receiving_opened_over», «host_writes», OutCall, «husk_sending_key», «husk_sending_send», «husk_sending_sealed», «husk_sending_take», «husk_sending_take_in_place», «husk_flight_begin», «husk_flight_send», «husk_flight_message», «husk_flight_resend», «husk_flight_ack», «husk_notes_add», «husk_notes_send», behindOut, lends}
-use Rattle.hosts_theorem.specs.Log.{flatRead, readingOf, refusedTold, noNonce, Whole, replyOf, Host, Act, inward, «husk_sending_sealing», «husk_flight_status», «husk_sending_status», outward, outwardOver, «host_seals», Made, behind, storesOf, sealingOf, showsNow, sendOf}
+use Rattle.hosts_theorem.specs.Log.{flatRead, readingOf, refusedTold, noNonce, Whole, replyOf, Host, Act, inward, «husk_sending_sealing», «husk_flight_status», «husk_sending_status», outward, outwardOver, «host_seals», «husk_assembly_begin», «husk_assembly_take», pieceTold, Made, behind, storesOf, sealingOf, showsNow, sendOf}
 
 -- ---- two hosts and a list of calls
 
@@ -94,14 +98,15 @@ pub record StandsOut (h : Outgoing) (e : End) : Type 0 where
   pub stores : storesOf h ≡ e .out .stores
   pub shown : (old : Option Lent) × (e .out .lent ≡ showsNow (sealingOf (h .words)) (h .queue) old)
 
--- of both
+-- of both, and the log's words of reassembly are the host's
 pub record Stands (h : Host) : Type 0 where
   pub incoming : StandsIn (h .incoming) (h .seen .into)
   pub outgoing : StandsOut (h .outgoing) (h .seen)
+  pub assembly : h .assembly ≡ h .seen .pieces .words
 
 -- ---- the start
 
--- words made by husk_receiving_init and husk_sending_init, which answered 0, and by husk_flight_init; notes made by husk_notes_init; lent
+-- words made by husk_receiving_init and husk_sending_init, which answered 0, by husk_flight_init and husk_assembly_init; notes made by husk_notes_init; lent
 -- memory with any first contents, a queue not under its limit times the MTU; nothing in the log but the settings
 pub record Started (s : Setting) (h : Host) : Type 0 where
   pub receiving : receive.FreshCall 0 (h .incoming .words) (s .min)
@@ -112,6 +117,7 @@ pub record Started (s : Setting) (h : Host) : Type 0 where
   pub flight : flights.FreshCall (h .outgoing .flight) (h .outgoing .numbers)
   pub kept : h .outgoing .kept ≡ s .kept
   pub notes : acks.FreshNotesCall (acks.notesOf (h .outgoing .count) (h .outgoing .epochs) (h .outgoing .noted))
+  pub assembly : pieces.FreshCall (h .assembly)
   pub seen : h .seen ≡ newEnd s
 
 -- ---- the events that a call is
@@ -149,6 +155,8 @@ deedsOf («husk_sending_status» r) = []
 deedsOf (outward c) = sending (sendOf c) ∷ []
 deedsOf (outwardOver c q k) = over (sendOf c) q k ∷ []
 deedsOf («host_seals» r bytes) = sending (fill· bytes) ∷ []
+deedsOf («husk_assembly_begin» r v n) = piecing (assembly.begin· n) ∷ []
+deedsOf («husk_assembly_take» r v c d e) = piecing (assembly.take· c d) ∷ []
 
 -- at that side
 abbrev pub at : Side → List Deed → List Event
@@ -216,6 +224,8 @@ Answered h («husk_sending_status» r) = r ≡ status.queuedOf (storesOf (h .out
 Answered h (outward c) = AnsweredOut (storesOf (h .outgoing)) c
 Answered h (outwardOver c q k) = AnsweredOut (storesOf (lends (h .outgoing) q k)) c
 Answered h («host_seals» r bytes) = Shows (h .seen .out .lent) r
+Answered h («husk_assembly_begin» r v n) = r ≡ choose (isSound (h .assembly)) 0 12
+Answered h («husk_assembly_take» r v c d e) = r ≡ pieces.flatPiece (taken (h .assembly) c d .answer)
 
 -- of every call in the list, each over the memory that it met
 abbrev pub AllAnswered : Hosts → List CCall → Type 0
@@ -316,6 +326,9 @@ Owed h (outwardOver c q k) =
     let m = lends (h .outgoing) q k in
     (replyOf c ≡ shortReply (sendOf c)) × (behindOut m c .queue ≡ q) × (behindOut m c .kept ≡ k) × OwedOver c
 Owed h («host_seals» r bytes) = OwedSealing (h .seen .out .ivs) (oldest (items (h .seen .ledger .queue))) r
+-- reassembly: a record is always begun; of the next piece every field of the answer is told by the claim's own table, and the account's verdict
+Owed h («husk_assembly_begin» r v n) = r ≡ 0
+Owed h («husk_assembly_take» r v c d e) = r ≡ pieceTold (pieceOwed (h .seen .pieces .account) c (length d))
 
 -- of every call in the list, each by the account that it met
 abbrev pub AllOwed : Hosts → List CCall → Type 0

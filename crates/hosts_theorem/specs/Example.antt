@@ -1,13 +1,15 @@
--- A worked list of calls of the C library whose premises are met, computed: a record is keyed, sent, sealed and taken at the post, and read, unmasked,
--- opened and handed over at the gateway; the words behind each call are given. Assumes nothing.
-use Prim.Native.Nat.{ℕ}
+-- Two worked lists of calls of the C library whose premises are met, computed: a record is keyed, sent, sealed and taken at the post, and read, unmasked,
+-- opened and handed over at the gateway; a handshake message is put together at the gateway. The words behind each call are given. Assumes nothing.
+use Prim.Native.Nat.{ℕ, suc, _≤_}
 use native.Mathlib.Omega.{arith}
-use lib.ListN.{replicate, set}
-use mathlib.Core.Bool.{true, false}
+use borrow.Author.Tests.{le-ltb}
+use lib.ListN.{length, replicate, set}
+use mathlib.Core.Bool.{true, false, false≢true}
 use mathlib.Core.List.{List, [], _∷_, _++_, List·Memᴰ·head as here}
-use mathlib.Core.Path.{_≡_, refl}
+use mathlib.Core.Path.{_≡_, refl, sym, ap}
 use Rattle.base.specs.Bits as base-bits
 use Rattle.base.specs.Choose as base-choose
+use Rattle.base.specs.Choose.{if-false}
 use Rattle.base.specs.Parts as base-parts
 use Rattle.window.specs.Used as window-used
 use Rattle.window.specs.Window as window-window
@@ -39,6 +41,13 @@ use Rattle.recv_calls.specs.Flat as recv-flat
 use Rattle.recv_calls.specs.declared.HuskReading.{HuskReading}
 use Rattle.send_words.specs.Words as send-words
 use Rattle.send_calls.specs.declared.HuskSealing.{HuskSealing}
+use Rattle.handshake.specs.Header.{headerAt, parseHeader}
+use Rattle.assembly.specs.declared.Piece.the-variants as piece
+use Rattle.assembly.specs.Spans.{expected-at, type-at, total-at, size-at, place-at, length-at, within, covered, allCovered, isWhole, isSame, written}
+use Rattle.assembly.specs.Assembly.{Outcome, outcome, isSound, fresh, held, pieceAt, isFit, finished, offered, readAt, taken}
+use Rattle.assembly_calls.specs.Calls.{flatPiece}
+use Rattle.assembly_calls.specs.declared.HuskPiece.{HuskPiece}
+use Rattle.assembly_theorem.specs.Account.{Fragment, fragmentIn, covers}
 use Rattle.history_theorem.specs.Account as history-account
 use Rattle.history_theorem.specs.Claim.{Masks}
 use Rattle.history_theorem.specs.Example.{yes-fair}
@@ -50,7 +59,7 @@ use Rattle.ends_theorem.specs.Sender as ends-sender
 use Rattle.ends_theorem.specs.World.{Side, post, gateway, Setting}
 use Rattle.hosts_theorem.specs.Memory.{«husk_receiving_key», «husk_receiving_enable_encryption», «husk_receiving_begin_read», «husk_receiving_mask», «husk_receiving_opened», «host_writes», «husk_sending_key», «husk_sending_send», «husk_sending_sealed», «husk_sending_take»}
 use Rattle.hosts_theorem.specs.Log as hosts-log
-use Rattle.hosts_theorem.specs.Log.{Act, inward, «husk_sending_sealing», outward, «host_seals»}
+use Rattle.hosts_theorem.specs.Log.{Act, inward, «husk_sending_sealing», outward, «host_seals», «husk_assembly_begin», «husk_assembly_take»}
 use Rattle.hosts_theorem.specs.Claim.{Hosts, CCall, runs, AllMade, AllFair, Started, Refines}
 use Rattle.hosts_theorem.specs.Starts.{sendingWords, firstHost, starts}
 use Rattle.hosts_theorem.specs.Proof.{every-list-of-calls}
@@ -279,3 +288,58 @@ talk-refines = every-list-of-calls settings hosts begun oneMask talk talk-made t
 talk-hands : (runs hosts talk gateway .seen .into .into .handed 2 ≡ record { num = 0; type = 22; content = 5 ∷ [] } ∷ []) × (runs hosts talk post .seen .out .taken ≡ wire ∷ [])
 unfolding opened settings talk hosts
 talk-hands = (refl, refl)
+
+-- ---- a message put together: at a fresh gateway a record is begun that has one piece, of one byte, and the message comes out
+
+-- type 20, total 1, message 0, offset 0, length 1, and its byte
+abbrev content : List ℕ
+content = 20 ∷ 0 ∷ 0 ∷ 1 ∷ 0 ∷ 0 ∷ 0 ∷ 0 ∷ 0 ∷ 0 ∷ 0 ∷ 1 ∷ 7 ∷ []
+
+abbrev wholeTold : HuskPiece
+wholeTold = record { kind = 5; refusal = 0; «msg_type» = 20; number = 0; length = 1 }
+
+-- a record of 13 bytes begun
+abbrev w₁ : List ℕ
+w₁ = set fresh size-at 13
+
+-- message 1 is expected, the record is at its end; what was held stays written
+abbrev w₂ : List ℕ
+w₂ = set (set (set (set (set w₁ expected-at 1) type-at 20) total-at 1) place-at 13) (length-at 0) 1
+
+putTogether : List ℕ → List CCall
+putTogether rest =
+    by gateway («husk_assembly_begin» 0 w₁ 13) ∷ by gateway («husk_assembly_take» wholeTold w₂ content (0 ∷ rest) (7 ∷ rest)) ∷ []
+
+-- over any buffer that is long enough
+module _ (rest : List ℕ) (room : 16383 ≤ length rest) where
+  comes-out : taken w₁ content (0 ∷ rest) ≡ outcome (piece.Message 20 0 1) w₂ (7 ∷ rest)
+  unfolding base-choose.choose base-choose.both base-choose.either parseHeader headerAt within covered allCovered isWhole isSame written isSound pieceAt isFit held finished offered readAt taken
+  comes-out = if-false _ _ (le-ltb (suc (length rest)) 16384 (omega arith))
+
+  together-made : AllMade hosts (putTogether rest)
+  unfolding base-choose.choose base-choose.both base-choose.either isSound settings hosts putTogether
+  together-made = (
+    (refl, refl),
+    (
+      (
+        ap (λ (o : Outcome). flatPiece (o .answer)) (sym comes-out),
+        ap (λ (o : Outcome). o .words) (sym comes-out),
+        ap (λ (o : Outcome). o .bytes) (sym comes-out),
+      ),
+      tt,
+    ),
+  )
+
+  -- nothing is held yet, so that nothing is asked of the buffer
+  together-fair : AllFair oneMask hosts (putTogether rest)
+  unfolding covers settings hosts putTogether
+  together-fair = ((tt, tt), ((λ long i e. absurd (false≢true e), tt), tt))
+
+  together-refines : Refines oneMask settings hosts (putTogether rest)
+  together-refines = every-list-of-calls settings hosts begun oneMask (putTogether rest) together-made together-fair
+
+  -- the gateway has seen message 0, of type 20, with the piece's byte
+  together-seen : let ms = runs hosts (putTogether rest) gateway .seen .pieces .messages in
+      (p : Fragment) × (ms ≡ record { kind = 20; number = 0; body = 7 ∷ []; last = p; earlier = [] } ∷ [])
+  unfolding base-choose.choose hosts-log.verdictIn fragmentIn settings hosts putTogether
+  together-seen = (_, refl)

@@ -32,12 +32,16 @@ use Rattle.status_calls.specs.declared.HuskSaved.{HuskSaved}
 use Rattle.status_calls.specs.declared.HuskQueued.{HuskQueued}
 use Rattle.ack_calls.specs.Calls as acks
 use Rattle.ack_calls.specs.declared.HuskAcked.{HuskAcked}
+use Rattle.assembly_calls.specs.Calls as pieces
+use Rattle.assembly_calls.specs.declared.HuskPiece.{HuskPiece}
 use Rattle.waiting_laws.specs.Calls.{Stores, SendCall, keySend·, send·, save·, message·, beginFlight·, resend·, note·, sendAck·, ack·, fill·, sealed·, take·, Reply, only}
 use Rattle.history_theorem.specs.Account.{upd, keyOwed, keys, isIn}
 use Rattle.history_theorem.specs.Receiver.{Sealed, Receiver, Out, withState, flagged, removedFrom, removeOwed, startsOn, beginOwed, Inbound, takes, tells, logs, strays, readBy, maskBy, openBy, useOf, unused, fateOf}
 use Rattle.ends_theorem.specs.Ledger.{owed, after, sentBy, shortReply, clears}
 use Rattle.ends_theorem.specs.Sender.{Books, Lent, Sender, firstBytes, sealedAs, finish, entersAll}
-use Rattle.ends_theorem.specs.World.{Count, Took, End, takesIn}
+use Rattle.assembly_theorem.specs.Account.{Verdict, begun, turned, ended, over, other, same, held, whole}
+use Rattle.assembly_theorem.specs.Claim as assembly
+use Rattle.ends_theorem.specs.World.{Count, Took, End, takesIn, puts}
 use Rattle.hosts_theorem.specs.Memory.{Incoming, Outgoing, InCall, «husk_receiving_key», «husk_receiving_remove», «husk_receiving_enable_encryption», «husk_receiving_release_application_data», «husk_receiving_begin», «husk_receiving_begin_read», «husk_receiving_read», «husk_receiving_mask», «husk_receiving_opened», «husk_receiving_read_over», «husk_receiving_mask_over», «husk_receiving_opened_over», «host_writes», OutCall, «husk_sending_key», «husk_sending_send», «husk_sending_sealed», «husk_sending_take», «husk_sending_take_in_place», «husk_flight_begin», «husk_flight_send», «husk_flight_message», «husk_flight_resend», «husk_flight_ack», «husk_notes_add», «husk_notes_send», MadeIn, MadeOut, queues, behindIn, behindOut, lends}
 
 -- ---- what an answer of a reading call says
@@ -324,6 +328,7 @@ enters e c r x took given = record {
   cleared = clears (e .ledger) c ++ e .cleared;
   into = e .into;
   counts = e .counts;
+  pieces = e .pieces;
 }
 
 -- x the logs before, h and g the memory before and behind the call, b the books with what it sent: a keying, a sealing reply and a take add besides
@@ -385,14 +390,40 @@ enteredOver e h g own c = record {
   cleared = e .cleared;
   into = e .into;
   counts = e .counts;
+  pieces = e .pieces;
 }
+
+-- ---- a call of reassembly
+
+-- what an answer tells, by its kind and number, as the header lists them
+unfoldable pub verdictIn : HuskPiece → Verdict
+verdictIn r =
+    choose (eqb (r .kind) 0) (choose (leb 24 (r .refusal)) (ended (r .refusal)) (turned (r .refusal)))
+    (choose (eqb (r .kind) 1) over
+    (choose (eqb (r .kind) 2) (other (r .number)) (choose (eqb (r .kind) 3) same (choose (eqb (r .kind) 4) held (whole (r .«msg_type») (r .number) (r .length))))))
+
+-- every field of the answer that tells it, by the header's numbers: 16 tells what the buffer needs; of a record begun there is no such answer
+abbrev pub pieceTold : Verdict → HuskPiece
+pieceTold begun = record { kind = 0; refusal = 0; «msg_type» = 0; number = 0; length = 0 }
+pieceTold (turned n) = record { kind = 0; refusal = n; «msg_type» = 0; number = 0; length = choose (eqb n 16) 16384 0 }
+pieceTold (ended n) = record { kind = 0; refusal = n; «msg_type» = 0; number = 0; length = 0 }
+pieceTold over = record { kind = 1; refusal = 0; «msg_type» = 0; number = 0; length = 0 }
+pieceTold (other n) = record { kind = 2; refusal = 0; «msg_type» = 0; number = n; length = 0 }
+pieceTold same = record { kind = 3; refusal = 0; «msg_type» = 0; number = 0; length = 0 }
+pieceTold held = record { kind = 4; refusal = 0; «msg_type» = 0; number = 0; length = 0 }
+pieceTold (whole k n l) = record { kind = 5; refusal = 0; «msg_type» = k; number = n; length = l }
+
+-- 0 where the record is begun, else the number of the refusal
+abbrev pub verdictOfBegin : ℕ → Verdict
+verdictOfBegin r = choose (eqb r 0) begun (turned r)
 
 -- ---- a host: its memory, and its log, which the claim speaks of as an end
 
--- seen is entered from arguments, memory and answers alone
+-- the words of husk_assembly_init beside the memory of the two directions; seen is entered from arguments, memory and answers alone
 pub record Host : Type 0 where
   pub incoming : Incoming
   pub outgoing : Outgoing
+  pub assembly : List ℕ
   pub seen : End
 
 -- a call that reads the datagram with this serial number is counted; the keys to send are not lent to it
@@ -427,6 +458,9 @@ pub data Act : Type 0 where
   outwardOver : (c : OutCall) (q k : List ℕ) → Act
   -- no call: r is what husk_sending_sealing answers, and the host writes as many bytes as it names into the part of the queue that it names
   «host_seals» : (r : HuskSealing) (bytes : List ℕ) → Act
+  -- reassembly: v the words behind it, c the record's content, d the buffer before it and e behind
+  «husk_assembly_begin» : (r : ℕ) (v : List ℕ) (n : ℕ) → Act
+  «husk_assembly_take» : (r : HuskPiece) (v c d e : List ℕ) → Act
 
 -- it was made: its own contract, over the host's memory
 abbrev pub Made : Host → Act → Type 0
@@ -437,6 +471,8 @@ Made h («husk_sending_status» r) = status.SendingStatusCall r (h .outgoing .wo
 Made h (outward c) = MadeOut (h .outgoing) c
 Made h (outwardOver c q k) = MadeOut (lends (h .outgoing) q k) c
 Made h («host_seals» r bytes) = sends.SealingCall r (h .outgoing .words) × (r .kind ≡ 2) × (length bytes ≡ r .length)
+Made h («husk_assembly_begin» r v n) = pieces.BeginCall r v (h .assembly) n
+Made h («husk_assembly_take» r v c d e) = pieces.TakeCall r v (h .assembly) c e d
 
 -- the queue behind the host's writing
 abbrev pub sealedIn : Outgoing → HuskSealing → List ℕ → Outgoing
@@ -451,6 +487,7 @@ abbrev pub behind : Host → Host → Act → Host
 behind f h (inward c) = record {
   incoming = behindIn (h .incoming) c;
   outgoing = h .outgoing;
+  assembly = h .assembly;
   seen = takesIn (h .seen) (enteredIn (f .seen .out .sealed) (h .seen .into) c) (countsTo (h .seen) c);
 }
 behind f h («husk_sending_sealing» r) = h
@@ -459,14 +496,28 @@ behind f h («husk_sending_status» r) = h
 behind f h (outward c) = record {
   incoming = h .incoming;
   outgoing = behindOut (h .outgoing) c;
+  assembly = h .assembly;
   seen = enteredOut (h .seen) (h .outgoing) (behindOut (h .outgoing) c) c;
 }
 behind f h (outwardOver c q k) =
     let o = lends (h .outgoing) q k in
     let g = behindOut o c in
-    record { incoming = h .incoming; outgoing = returns (h .outgoing) g; seen = enteredOver (h .seen) o g (returns (h .outgoing) g) c }
+    record { incoming = h .incoming; outgoing = returns (h .outgoing) g; assembly = h .assembly; seen = enteredOver (h .seen) o g (returns (h .outgoing) g) c }
 behind f h («host_seals» r bytes) = record {
   incoming = h .incoming;
   outgoing = sealedIn (h .outgoing) r bytes;
+  assembly = h .assembly;
   seen = enteredFill (h .seen) (sealedIn (h .outgoing) r bytes) bytes;
+}
+behind f h («husk_assembly_begin» r v n) = record {
+  incoming = h .incoming;
+  outgoing = h .outgoing;
+  assembly = v;
+  seen = puts (h .seen) (assembly.starts (h .seen .pieces) n (verdictOfBegin r) v);
+}
+behind f h («husk_assembly_take» r v c d e) = record {
+  incoming = h .incoming;
+  outgoing = h .outgoing;
+  assembly = v;
+  seen = puts (h .seen) (assembly.takes (h .seen .pieces) c d (verdictIn r) v e);
 }

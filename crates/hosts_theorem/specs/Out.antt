@@ -496,6 +496,7 @@ module _ (h : Outgoing) (e : End) (a : StandsOut h e) where
           cleared = e .cleared;
           into = e .into;
           counts = e .counts;
+          pieces = e .pieces;
         }
 
     pub over-stands : StandsOut (returns h left) (enteredOver e lent left (returns h left) c)

@@ -44,6 +44,7 @@ use Rattle.history_theorem.specs.Account.{sealedHead, nothing}
 use Rattle.history_theorem.specs.Claim.{Masks, Proper, Turned, nonceFor}
 use Rattle.history_theorem.specs.Receiver.{Sealed, Spoken, Stray, Told, aRead, anOpenReply, beginOwed, Inbound}
 use Rattle.history_theorem.specs.Sound.{Sound}
+use Rattle.assembly_theorem.specs.Claim.{Assembled}
 use Rattle.ends_theorem.specs.Ledger.{Item, waiting, items, oldest, unacked, after, shortReply}
 use Rattle.ends_theorem.specs.Matches.{itemsOf, Matches}
 use Rattle.ends_theorem.specs.Proof.{Good, holds}
@@ -51,7 +52,8 @@ use Rattle.ends_theorem.specs.Status.{StatusIs, status-is}
 use Rattle.ends_theorem.specs.Sender.{Lent, AskedFor, sealedHeader}
 use Rattle.ends_theorem.specs.World.{Side, post, gateway, Said, Over, End, World}
 use Rattle.hosts_theorem.specs.Memory.{Incoming, Outgoing, InCall, «husk_receiving_key», «husk_receiving_remove», «husk_receiving_enable_encryption», «husk_receiving_release_application_data», «husk_receiving_begin», «husk_receiving_begin_read», «husk_receiving_read», «husk_receiving_mask», «husk_receiving_opened», «husk_receiving_read_over», «husk_receiving_mask_over», «husk_receiving_opened_over», «host_writes», OutCall, «husk_sending_key», «husk_sending_send», «husk_sending_sealed», «husk_sending_take», «husk_sending_take_in_place», «husk_flight_begin», «husk_flight_send», «husk_flight_message», «husk_flight_resend», «husk_flight_ack», «husk_notes_add», «husk_notes_send», MadeIn, MadeOut, behindOut, lends}
-use Rattle.hosts_theorem.specs.Log.{readingOf, enteredIn, storesOf, sendOf, replyOf, enteredOut, Host, Act, inward, «husk_sending_sealing», «husk_flight_status», «husk_sending_status», outward, outwardOver, «host_seals», Made, behind}
+use Rattle.hosts_theorem.specs.Log.{readingOf, enteredIn, storesOf, sendOf, replyOf, enteredOut, Host, Act, inward, «husk_sending_sealing», «husk_flight_status», «husk_sending_status», outward, outwardOver, «host_seals», «husk_assembly_begin», «husk_assembly_take», Made, behind}
+use Rattle.hosts_theorem.specs.Pieces.{begin-owed, take-owed}
 use Rattle.hosts_theorem.specs.Claim.{Stands, StandsIn, StandsOut, Shows, removalTold, OwedIn, OwedSealing, nothingToSeal, kindOwed, OwedMore, OwedOver, Owed}
 use Rattle.hosts_theorem.specs.In.{long-answer, first-whole, opened-answer, read-whole, mask-whole, opened-whole, remove-answer}
 use Rattle.hosts_theorem.specs.Out.{out-answer, sealing-answer}
@@ -85,6 +87,7 @@ pub record Fine (e : End) : Type 0 where
   nonce : (l : Lent) → e .out .lent ≡ some l → l .nonce ≡ nonceFor (e .out .ivs (l .epoch)) (l .num)
   shown : Plain (shownBy (questionOf (e .out .stores .state)))
   matches : Matches (e .out .stores) (e .ledger)
+  pieces : Assembled (e .pieces)
 
 asked-at : (masks : Side → Masks) (w : World) → Good masks w → (s : Side)
     → AskedFor (w s .out .lent) (oldest (items (w s .ledger .queue))) × ((l : Lent) → w s .out .lent ≡ some l → l .nonce ≡ nonceFor (w s .out .ivs (l .epoch)) (l .num))
@@ -100,6 +103,7 @@ fine masks w g s = record {
   nonce = asked-at masks w g s .1;
   shown = plain (w s .out .stores .state) (w s .out .stores .queue) (g .out s .ds) (g .out s .laying .holds);
   matches = g .matches s;
+  pieces = g .pieces s .0 .holds;
 }
 
 -- ---- receiving
@@ -320,3 +324,5 @@ owed-now f h o z g (outwardOver c q j) m k = (
   over-owed (lends (h .outgoing) q j) (o .outgoing .flat) (o .outgoing .flat-flight) c m (k .said _ (here refl)),
 )
 owed-now f h o z g («host_seals» r bytes) m k = sealing-now h o g r (m .0)
+owed-now f h o z g («husk_assembly_begin» r v n) m k = begin-owed r (k .pieces .answers _ (here refl))
+owed-now f h o z g («husk_assembly_take» r v c d e) m k = take-owed (h .assembly) (h .seen .pieces) (o .assembly) r v c d e m (k .pieces .answers _ (here refl))

@@ -24,14 +24,15 @@ use Rattle.ends_theorem.specs.Ledger.{applicationData, lastNumber, owed}
 use Rattle.ends_theorem.specs.Matches.{Matches}
 use Rattle.ends_theorem.specs.Proof.{Good, run-keeps, new-good, every-list, stop-order-sent as stop-order}
 use Rattle.ends_theorem.specs.Sender as world
-use Rattle.ends_theorem.specs.Sender.{lentBy}
+use Rattle.ends_theorem.specs.Sender.{Sender, lentBy}
 use Rattle.ends_theorem.specs.Starting.{sending-starts, receiving-starts}
-use Rattle.ends_theorem.specs.World.{Side, post, gateway, far, Count, End, Deed, Event, World, takesIn, acts, step, run, Setting, fresh-pair, FairDeed, Honest}
+use Rattle.ends_theorem.specs.World.{Side, post, gateway, far, Count, End, Deed, Event, World, takesIn, puts, acts, step, run, Setting, fresh-pair, FairDeed, Honest}
 use Rattle.hosts_theorem.specs.Memory.{InCall, «husk_receiving_key», «husk_receiving_remove», «husk_receiving_enable_encryption», «husk_receiving_release_application_data», «husk_receiving_begin», «husk_receiving_begin_read», «husk_receiving_read», «husk_receiving_mask», «husk_receiving_opened», «husk_receiving_read_over», «husk_receiving_mask_over», «husk_receiving_opened_over», «host_writes», «husk_sending_send», MadeOut, lends}
-use Rattle.hosts_theorem.specs.Log.{sendOf, count, countsTo, Host, Act, inward, «husk_sending_sealing», «husk_flight_status», «husk_sending_status», outward, outwardOver, «host_seals», Made, behind}
-use Rattle.hosts_theorem.specs.Claim.{Hosts, CCall, after, runs, AllMade, Stands, Started, callsOf, hearing, deedsOf, at, eventsOf, Answered, AllAnswered, Owed, AllOwed, FairDeeds, AllFair, sightOf, EveryListOfCalls}
+use Rattle.hosts_theorem.specs.Log.{sendOf, count, countsTo, Host, Act, inward, «husk_sending_sealing», «husk_flight_status», «husk_sending_status», outward, outwardOver, «host_seals», «husk_assembly_begin», «husk_assembly_take», Made, behind}
+use Rattle.hosts_theorem.specs.Claim.{Hosts, CCall, after, runs, AllMade, StandsOut, Stands, Started, callsOf, hearing, deedsOf, at, eventsOf, Answered, AllAnswered, Owed, AllOwed, FairDeeds, AllFair, sightOf, EveryListOfCalls}
 use Rattle.hosts_theorem.specs.In.{doesAll, in-square, in-stands, in-answer}
 use Rattle.hosts_theorem.specs.Owed.{fine, saved-answer, queued-answer, owed-now}
+use Rattle.hosts_theorem.specs.Pieces.{begin-square, take-square}
 use Rattle.hosts_theorem.specs.Out.{shows-now, out-reply, sealing-answer, out-answer, out-square, out-stands, over-square, over-stands, fill-square, fill-stands}
 
 -- ---- some deeds at one end
@@ -127,6 +128,8 @@ module _ (masks : Side → Masks) where
     fair (outward c) g = g
     fair (outwardOver c q k) g = g
     fair («host_seals» r bytes) g = g
+    fair («husk_assembly_begin» r v n) g = g
+    fair («husk_assembly_take» r v c d x) g = g
 
   -- ---- one call at one host; f the far host
 
@@ -139,6 +142,8 @@ module _ (masks : Side → Masks) where
   Owes e (outward c) = answered (e .out .stores) (sendOf c) ≡ owed (e .ledger) (sendOf c)
   Owes e (outwardOver c q k) = Unit {0}
   Owes e («host_seals» r bytes) = Unit {0}
+  Owes e («husk_assembly_begin» r v n) = Unit {0}
+  Owes e («husk_assembly_take» r v c d x) = Unit {0}
 
   owes : (w : World) → Good masks w → (s : Side) (a : Act) → FairDeeds masks s (w (far s)) (w s) (deedsOf a) → Owes (w s) a
   owes w g s (inward c) h = tt
@@ -148,6 +153,8 @@ module _ (masks : Side → Masks) where
   owes w g s (outward c) h = every-does (masks s) (w s .out) (w s .ledger) (sendOf c) (g .matches s) (h .0 .0) .reply
   owes w g s (outwardOver c q k) h = tt
   owes w g s («host_seals» r bytes) h = tt
+  owes w g s («husk_assembly_begin» r v n) h = tt
+  owes w g s («husk_assembly_take» r v c d x) h = tt
 
   module _ (f h : Host) (o : Stands h) where
     square : Sound (h .seen .into .into) → (a : Act) → Made h a → Owes (h .seen) a → behind f h a .seen ≡ actsAll (f .seen) (h .seen) (deedsOf a)
@@ -160,18 +167,32 @@ module _ (masks : Side → Masks) where
     square z (outward c) m d = out-square (h .outgoing) (h .seen) (o .outgoing) (f .seen) c m d
     square z (outwardOver c q k) m d = over-square (h .outgoing) (h .seen) (o .outgoing) c q k m (f .seen)
     square z («host_seals» r bytes) m d = fill-square (h .outgoing) (h .seen) (o .outgoing) r bytes (m .0) (m .1) (m .2) (f .seen)
+    square z («husk_assembly_begin» r v n) m d = ap (puts (h .seen)) (begin-square (h .assembly) (h .seen .pieces) (o .assembly) r v n m)
+    square z («husk_assembly_take» r v c b x) m d = ap (puts (h .seen)) (take-square (h .assembly) (h .seen .pieces) (o .assembly) r v c b x m)
+
+    -- the sending side beside calls that do not touch it
+    still-stands : {e : End} → e .out ≡ h .seen .out → StandsOut (h .outgoing) e
+    still-stands {e} q = record {
+      flat = o .outgoing .flat;
+      flat-flight = o .outgoing .flat-flight;
+      stores = o .outgoing .stores ∙ ap (λ (x : Sender). x .stores) (sym q);
+      shown = (o .outgoing .shown .0, ap (λ (x : Sender). x .lent) q ∙ o .outgoing .shown .1);
+    }
 
     stands-on : (a : Act) → Made h a → Stands (behind f h a)
     stands-on (inward c) m = record {
       incoming = in-stands (h .incoming) (h .seen .into) (o .incoming) (f .seen .out .sealed) c m;
-      outgoing = record { flat = o .outgoing .flat; flat-flight = o .outgoing .flat-flight; stores = o .outgoing .stores; shown = o .outgoing .shown };
+      outgoing = still-stands refl;
+      assembly = o .assembly;
     }
     stands-on («husk_sending_sealing» r) m = o
     stands-on («husk_flight_status» r) m = o
     stands-on («husk_sending_status» r) m = o
-    stands-on (outward c) m = record { incoming = o .incoming; outgoing = out-stands (h .outgoing) (h .seen) (o .outgoing) c m }
-    stands-on (outwardOver c q k) m = record { incoming = o .incoming; outgoing = over-stands (h .outgoing) (h .seen) (o .outgoing) c q k m }
-    stands-on («host_seals» r bytes) m = record { incoming = o .incoming; outgoing = fill-stands (h .outgoing) (h .seen) (o .outgoing) r bytes (m .0) (m .1) (m .2) }
+    stands-on (outward c) m = record { incoming = o .incoming; outgoing = out-stands (h .outgoing) (h .seen) (o .outgoing) c m; assembly = o .assembly }
+    stands-on (outwardOver c q k) m = record { incoming = o .incoming; outgoing = over-stands (h .outgoing) (h .seen) (o .outgoing) c q k m; assembly = o .assembly }
+    stands-on («host_seals» r bytes) m = record { incoming = o .incoming; outgoing = fill-stands (h .outgoing) (h .seen) (o .outgoing) r bytes (m .0) (m .1) (m .2); assembly = o .assembly }
+    stands-on («husk_assembly_begin» r v n) m = record { incoming = o .incoming; outgoing = still-stands refl; assembly = refl }
+    stands-on («husk_assembly_take» r v c d x) m = record { incoming = o .incoming; outgoing = still-stands refl; assembly = refl }
 
     answer : Matches (h .seen .out .stores) (h .seen .ledger) → (a : Act) → Made h a → Answered h a
     answer i (inward c) m = in-answer (h .incoming) (h .seen .into) (o .incoming) c m
@@ -181,6 +202,8 @@ module _ (masks : Side → Masks) where
     answer i (outward c) m = out-answer (h .outgoing) (o .outgoing .flat) (o .outgoing .flat-flight) c m
     answer i (outwardOver c q k) m = out-answer (lends (h .outgoing) q k) (o .outgoing .flat) (o .outgoing .flat-flight) c m
     answer i («host_seals» r bytes) m = sealing-answer (h .outgoing) (h .seen) (o .outgoing) r (m .0)
+    answer i («husk_assembly_begin» r v n) m = m .0
+    answer i («husk_assembly_take» r v c d x) m = m .0
 
   -- ---- one call at one of two
 
@@ -277,6 +300,7 @@ starts s h t =
               ∙ ap (λ (x : Sending). world.lends x (h .outgoing .queue) none) (sym z) ∙ sym (shows-now (h .outgoing) (t .sending .2) none),
         );
       };
+      assembly = t .assembly ∙ ap (λ (x : End). x .pieces .words) e;
     }
 
 -- ---- every list of calls

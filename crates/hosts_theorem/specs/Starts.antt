@@ -1,4 +1,4 @@
--- Hosts that start: for every setting in range the words that the four starting calls leave, so that the claim is not hollow. Assumes nothing.
+-- Hosts that start: for every setting in range the words that the five starting calls leave, so that the claim is not hollow. Assumes nothing.
 use Prim.Native.Nat.{ℕ, _≤_}
 use borrow.Author.Tests.{le-ltb}
 use lib.ListN.{replicate, set}
@@ -17,6 +17,7 @@ use Rattle.flight_words.specs.Words as flightWords
 use Rattle.flight_calls.specs.Calls as flights
 use Rattle.acks.specs.Acks.{freshNotes}
 use Rattle.ack_calls.specs.Calls as acks
+use Rattle.assembly.specs.Assembly as assembly
 use Rattle.ends_theorem.specs.Claim.{Startable}
 use Rattle.ends_theorem.specs.Starting.{ranges-setting}
 use Rattle.ends_theorem.specs.World.{Setting, newEnd}
@@ -41,6 +42,7 @@ firstHost s = record {
     epochs = replicate 32 0;
     noted = replicate 32 0;
   };
+  assembly = assembly.fresh;
   seen = newEnd s;
 }
 
@@ -63,5 +65,6 @@ starts s o = record {
   flight = flights.starts;
   kept = refl;
   notes = fresh-notes;
+  assembly = refl;
   seen = refl;
 }

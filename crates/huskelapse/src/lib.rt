@@ -1,12 +1,14 @@
-// The C interface, one static library for hosts: each call of recv_calls, send_calls, flight_calls, ack_calls and status_calls as
-// a C function with the same contract. The library keeps no state.
+// The C interface, one static library for hosts: each call of recv_calls, send_calls, flight_calls, ack_calls, status_calls and
+// assembly_calls as a C function with the same contract. The library keeps no state.
 ghost use Rattle.recv_calls.specs.Calls as receive;
 ghost use Rattle.send_calls.specs.Calls as sends;
 ghost use Rattle.flight_calls.specs.Calls as flights;
 ghost use Rattle.ack_calls.specs.Calls as acks;
 ghost use Rattle.status_calls.specs.Calls as status;
+ghost use Rattle.assembly_calls.specs.Calls as pieces;
 use ack_calls::HuskAcked;
 use answers::HuskTold;
+use assembly_calls::HuskPiece;
 use recv_calls::HuskReading;
 use recv_words::WORDS;
 use send_calls::HuskPart;
@@ -302,4 +304,31 @@ pub extern "C" fn husk_sending_status(w: &[u64; send_words::WORDS]) -> HuskQueue
     ensures { λ r. ⌜ status.SendingStatusCall r (now (w .entry)) ⌝ }
 {
     status_calls::sending_status(w)
+}
+
+// ---- whole handshake messages
+
+#[no_mangle]
+pub extern "C" fn husk_assembly_init(w: &mut [u64; assembly_steps::WORDS])
+    ensures { λ _. ⌜ pieces.FreshCall (now (w .exit)) ⌝ }
+{
+    assembly_calls::fresh(w)
+}
+
+#[no_mangle]
+pub extern "C" fn husk_assembly_begin(w: &mut [u64; assembly_steps::WORDS], n: usize) -> u8
+    ensures { λ r. ⌜ pieces.BeginCall r (now (w .exit)) (now (w .entry)) n ⌝ }
+{
+    assembly_calls::begin(w, n)
+}
+
+#[no_mangle]
+pub extern "C" fn husk_assembly_take(
+    w: &mut [u64; assembly_steps::WORDS],
+    content: &[u8],
+    buffer: &mut [u8],
+) -> HuskPiece
+    ensures { λ r. ⌜ pieces.TakeCall r (now (w .exit)) (now (w .entry)) (now (content .entry)) (now (buffer .exit)) (now (buffer .entry)) ⌝ }
+{
+    assembly_calls::take_piece(w, content, buffer)
 }

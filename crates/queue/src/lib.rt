@@ -98,56 +98,6 @@ pub fn copy(src: &[u8], dst: &mut [u8])
     }
 }
 
-fn count_of(b: &[u8]) -> usize
-    ensures { λ r. ⌜ r ≡ length (now (b .entry)) ⌝ }
-{
-    b.len()
-}
-
-// How many bytes the array has.
-fn sized(b: &[u8; 1500]) -> usize
-    ensures { λ _. ⌜ length (now (b .entry)) ≡ 1500 ⌝ }
-{
-    count_of(b)
-}
-
-// A slice put at the start of an array.
-fn into_array(src: &[u8], b: &mut [u8; 1500])
-    requires { ⌜ length (now src) ≤ 1500 ⌝ }
-    ensures { λ _. ⌜ take (length (now (src .entry))) (now (b .exit)) ≡ now (src .entry) ⌝ }
-{
-    sized(b);
-    let mut i = 0;
-    while i < src.len() {
-        b[i] = src[i];
-        i += 1;
-    }
-}
-
-// The start of an array put into a slice.
-fn from_array(b: &[u8; 1500], dst: &mut [u8])
-    requires { ⌜ length (now dst) ≤ 1500 ⌝ }
-    ensures { λ _. ⌜ now (dst .exit) ≡ take (length (now (dst .entry))) (now (b .entry)) ⌝ }
-{
-    sized(b);
-    let mut i = 0;
-    while i < dst.len() {
-        dst[i] = b[i];
-        i += 1;
-    }
-}
-
-// Copies a slice of at most a datagram's bytes over another of the same length. The array between them overlaps neither: the compiler
-// makes one memmove of it all, and no array, where a loop from slice to slice stays a loop.
-pub fn copy_short(src: &[u8], dst: &mut [u8])
-    requires { ⌜ (length (now src) ≡ length (now dst)) × (length (now src) ≤ 1500) ⌝ }
-    ensures { λ _. ⌜ now (dst .exit) ≡ now (src .entry) ⌝ }
-{
-    let mut b = [0u8; 1500];
-    into_array(src, &mut b);
-    from_array(&b, dst);
-}
-
 // Eight bytes of a number, the highest first.
 pub fn eight(x: u64) -> [u8; 8]
     ensures { λ r. ⌜ r ≡ be 8 x ⌝ }
@@ -194,7 +144,7 @@ fn lay_plaintext(d: &mut [u8], at: usize, content_type: u8, number: u64, content
     let end = inner + n;
     let header = headers::plaintext_header(content_type, number, n as u16);
     copy(&header, &mut d[at..inner]);
-    copy_short(content, &mut d[inner..end]);
+    base::move_bytes(content, &mut d[inner..end]);
 }
 
 // A record to be sealed, its number not yet masked, written from a place on. Its content comes last, so that nothing is kept across
@@ -218,7 +168,7 @@ fn lay_ciphertext(
     let behind = trailer(content_type, epoch, number);
     copy(&header, &mut d[at..inner]);
     copy(&behind, &mut d[end..after]);
-    copy_short(content, &mut d[inner..end]);
+    base::move_bytes(content, &mut d[inner..end]);
 }
 
 // Bytes of a record whose content has n.

@@ -122,7 +122,7 @@ pub fn send_saved(
     if send_keys::is_done(a) {
         let at = saved * (w[MTU] as usize);
         let end = at + n;
-        queue::copy_short(content, &mut kept[at..end]);
+        base::move_bytes(content, &mut kept[at..end]);
         lay_saved(w, f, p, epoch, t, content, memory);
         return a;
     }

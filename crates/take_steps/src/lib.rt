@@ -108,7 +108,7 @@ fn copy_out(memory: &[u8], from: usize, n: usize, buffer: &mut [u8])
 {
     let to = from + n;
     let start = 0;
-    queue::copy_short(&memory[from..to], &mut buffer[start..n]);
+    base::move_bytes(&memory[from..to], &mut buffer[start..n]);
 }
 
 // The front datagram, if it is wholly sealed, copied to the start of a lent buffer.

@@ -61,24 +61,24 @@ part-copy-end-2 c = search needs
 copy-requires-2 : tie.Need-copy-requires-2
 copy-requires-2 c κs = search needs
 
-sub-copy-short : tie.Need-sub-copy-short
-sub-copy-short c = search needs
+sub-move-bytes : tie.Need-sub-move-bytes
+sub-move-bytes c = search needs
 
-part-copy-short-start : tie.Need-part-copy-short-start
-part-copy-short-start c = search needs
+part-move-bytes-start : tie.Need-part-move-bytes-start
+part-move-bytes-start c = search needs
 
-part-copy-short-end : tie.Need-part-copy-short-end
-part-copy-short-end c = search needs
+part-move-bytes-end : tie.Need-part-move-bytes-end
+part-move-bytes-end c = search needs
 
-copy-short-requires : tie.Need-copy-short-requires
-copy-short-requires c κs = search needs
+move-bytes-requires : tie.Need-move-bytes-requires
+move-bytes-requires c κs = search needs
 
 same-length : tie.Need-same-length
 same-length c = search needs
 
 returns : tie.Need-returns
 returns c = let a = c .before .before .before .before .before .before .before .before .before .before .before .before .before .before .before .before .before .before .args in let n = length (a .content .now) in
-    three-parts (a .at) 5 n (unifiedHeader (a .epoch) (a .number) (n + 17)) (a .content .now) _ _ (a .d .now) (c .before .before .before .before .before .before .before .before .before .before .before .copy .ensures ∙ c .before .before .before .before .before .before .before .before .before .before .before .before .before .before .before .unified-header .ensures) (c .before .before .copy-short .ensures) (length-unified (a .epoch) (a .number) (n + 17)) refl
+    three-parts (a .at) 5 n (unifiedHeader (a .epoch) (a .number) (n + 17)) (a .content .now) _ _ (a .d .now) (c .before .before .before .before .before .before .before .before .before .before .before .copy .ensures ∙ c .before .before .before .before .before .before .before .before .before .before .before .before .before .before .before .unified-header .ensures) (c .before .before .move-bytes .ensures) (length-unified (a .epoch) (a .number) (n + 17)) refl
     17 (trailerOf (a .content-type) (a .epoch) (a .number)) _ (c .before .before .before .before .before .before .copy2 .ensures ∙ c .before .before .before .before .before .before .before .before .before .before .before .before .before .before .trailer .ensures) (length-trailer (a .content-type) (a .epoch) (a .number)) (omega (arith, c .before .before .before .before .before .before .before .before .before .before .before .before .before .before .before .before .before .before .pre .0))
 
 pub lay-ciphertext-spec : {M : Type 1} → statement M
@@ -102,9 +102,9 @@ lay-ciphertext-spec =
     part-copy-start-2
     part-copy-end-2
     copy-requires-2
-    sub-copy-short
-    part-copy-short-start
-    part-copy-short-end
-    copy-short-requires
+    sub-move-bytes
+    part-move-bytes-start
+    part-move-bytes-end
+    move-bytes-requires
     same-length
     returns)

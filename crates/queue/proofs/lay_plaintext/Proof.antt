@@ -35,24 +35,24 @@ part-copy-end c = search needs
 copy-requires : tie.Need-copy-requires
 copy-requires c κs = search needs
 
-sub-copy-short : tie.Need-sub-copy-short
-sub-copy-short c = search needs
+sub-move-bytes : tie.Need-sub-move-bytes
+sub-move-bytes c = search needs
 
-part-copy-short-start : tie.Need-part-copy-short-start
-part-copy-short-start c = search needs
+part-move-bytes-start : tie.Need-part-move-bytes-start
+part-move-bytes-start c = search needs
 
-part-copy-short-end : tie.Need-part-copy-short-end
-part-copy-short-end c = search needs
+part-move-bytes-end : tie.Need-part-move-bytes-end
+part-move-bytes-end c = search needs
 
-copy-short-requires : tie.Need-copy-short-requires
-copy-short-requires c κs = search needs
+move-bytes-requires : tie.Need-move-bytes-requires
+move-bytes-requires c κs = search needs
 
 same-length : tie.Need-same-length
 same-length c = search needs
 
 returns : tie.Need-returns
 returns c = let a = c .before .before .before .before .before .before .before .before .before .before .before .before .args in let n = length (a .content .now) in
-    two-parts (a .at) 13 n (plaintextHeader (a .content-type) (a .number) n) (a .content .now) _ _ (a .d .now) (c .before .before .before .before .before .before .copy .ensures ∙ c .before .before .before .before .before .before .before .before .before .plaintext-header .ensures) (c .before .before .copy-short .ensures) (length-plaintext (a .content-type) (a .number) n) refl (c .before .before .before .before .before .before .before .before .before .before .before .before .pre .0)
+    two-parts (a .at) 13 n (plaintextHeader (a .content-type) (a .number) n) (a .content .now) _ _ (a .d .now) (c .before .before .before .before .before .before .copy .ensures ∙ c .before .before .before .before .before .before .before .before .before .plaintext-header .ensures) (c .before .before .move-bytes .ensures) (length-plaintext (a .content-type) (a .number) n) refl (c .before .before .before .before .before .before .before .before .before .before .before .before .pre .0)
 
 pub lay-plaintext-spec : {M : Type 1} → statement M
 lay-plaintext-spec =
@@ -67,9 +67,9 @@ lay-plaintext-spec =
     part-copy-start
     part-copy-end
     copy-requires
-    sub-copy-short
-    part-copy-short-start
-    part-copy-short-end
-    copy-short-requires
+    sub-move-bytes
+    part-move-bytes-start
+    part-move-bytes-end
+    move-bytes-requires
     same-length
     returns)

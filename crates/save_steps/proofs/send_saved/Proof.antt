@@ -17,7 +17,7 @@ use Rattle.save_steps.proofs.send_saved.Tie as tie
 use Rattle.save_steps.proofs.send_saved.Reads as reads
 use Rattle.save_steps.proofs.send_saved.Lts as lts
 use Rattle.send_keys.proofs.is_done.Reads as is-done-reads
-use Rattle.queue.proofs.copy_short.Reads as copy-short-reads
+use Rattle.base.proofs.move_bytes.Reads as move-bytes-reads
 use Rattle.save_steps.proofs.lay_saved.Reads as lay-saved-reads
 use Rattle.save_steps.proofs.save_answer.Reads as save-answer-reads
 
@@ -46,20 +46,20 @@ add-end : tie.Need-add-end
 add-end c = let a = c .before .before .before .before .before .before .before .before .before .before .args in let f = kept-fits (save-safe (stateOf (a .w .now)) (counted (getD (a .f .now) saved-at 0)) (length (a .memory .now)) (length (a .kept .now)) (a .epoch) (a .t) (length (a .content .now)) (rw (c .before .before .before .before .save-answer .ensures .answer) at (sym (c .before .before .is-done .ensures) ∙ c .before .if1 .taken)) .keeps) in omega arith
 
 -- src/lib.rt:123:36
-sub-copy-short : tie.Need-sub-copy-short
-sub-copy-short c = search needs
+sub-move-bytes : tie.Need-sub-move-bytes
+sub-move-bytes c = search needs
 
 -- src/lib.rt:123:36
-part-copy-short-start : tie.Need-part-copy-short-start
-part-copy-short-start c = search needs
+part-move-bytes-start : tie.Need-part-move-bytes-start
+part-move-bytes-start c = search needs
 
 -- src/lib.rt:123:36
-part-copy-short-end : tie.Need-part-copy-short-end
-part-copy-short-end c = let a = c .before .before .before .before .before .before .before .before .before .before .args in let f = kept-fits (save-safe (stateOf (a .w .now)) (counted (getD (a .f .now) saved-at 0)) (length (a .memory .now)) (length (a .kept .now)) (a .epoch) (a .t) (length (a .content .now)) (rw (c .before .before .before .before .save-answer .ensures .answer) at (sym (c .before .before .is-done .ensures) ∙ c .before .if1 .taken)) .keeps) in omega arith
+part-move-bytes-end : tie.Need-part-move-bytes-end
+part-move-bytes-end c = let a = c .before .before .before .before .before .before .before .before .before .before .args in let f = kept-fits (save-safe (stateOf (a .w .now)) (counted (getD (a .f .now) saved-at 0)) (length (a .memory .now)) (length (a .kept .now)) (a .epoch) (a .t) (length (a .content .now)) (rw (c .before .before .before .before .save-answer .ensures .answer) at (sym (c .before .before .is-done .ensures) ∙ c .before .if1 .taken)) .keeps) in omega arith
 
 -- src/lib.rt:123:9
-copy-short-requires : tie.Need-copy-short-requires
-copy-short-requires c κs = let a = c .before .before .before .before .before .before .before .before .before .before .before .args in (search needs, clear-short (save-safe (stateOf (a .w .now)) (counted (getD (a .f .now) saved-at 0)) (length (a .memory .now)) (length (a .kept .now)) (a .epoch) (a .t) (length (a .content .now)) (rw (c .before .before .before .before .before .save-answer .ensures .answer) at (sym (c .before .before .before .is-done .ensures) ∙ c .before .before .if1 .taken)) .clear))
+move-bytes-requires : tie.Need-move-bytes-requires
+move-bytes-requires c κs = let a = c .before .before .before .before .before .before .before .before .before .before .before .args in let short = clear-short (save-safe (stateOf (a .w .now)) (counted (getD (a .f .now) saved-at 0)) (length (a .memory .now)) (length (a .kept .now)) (a .epoch) (a .t) (length (a .content .now)) (rw (c .before .before .before .before .before .save-answer .ensures .answer) at (sym (c .before .before .before .is-done .ensures) ∙ c .before .before .if1 .taken)) .clear) in (search needs, omega arith)
 
 -- src/lib.rt:124:9
 lay-saved-requires : tie.Need-lay-saved-requires
@@ -81,7 +81,7 @@ returns c =
     let n = length (a .content .now) in
     let y = c .before .before .lay-saved .ensures in
     saves-laid (a .epoch) (a .t) (a .content .now) (a .w .now) (a .f .now) (a .memory .now) (a .kept .now) (c .before .before .before .before .before .before .before .before .before .before .before .before .before .before .save-answer .ensures .answer) _ _ _ _ (sym (c .before .before .before .before .before .before .before .before .before .before .before .before .is-done .ensures) ∙ c .before .before .before .before .before .before .before .before .before .before .before .if1 .taken) (y .0) (y .1) (y .2)
-    (ap (putMid i (i + n - i) (a .kept .now)) (c .before .before .before .before .before .before .before .before .copy-short .ensures) ∙ lent i (i + n) (a .kept .now) (a .content .now) (omega arith))
+    (ap (putMid i (i + n - i) (a .kept .now)) (c .before .before .before .before .before .before .before .before .move-bytes .ensures) ∙ lent i (i + n) (a .kept .now) (a .content .now) (omega arith))
 
 -- src/lib.rt:104:1
 returns-2 : tie.Need-returns-2
@@ -97,10 +97,10 @@ send-saved-spec =
     element-copy-out-at
     mul-at
     add-end
-    sub-copy-short
-    part-copy-short-start
-    part-copy-short-end
-    copy-short-requires
+    sub-move-bytes
+    part-move-bytes-start
+    part-move-bytes-end
+    move-bytes-requires
     lay-saved-requires
     same-length
     same-length-2

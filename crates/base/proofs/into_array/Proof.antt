@@ -1,4 +1,4 @@
--- `queue::into_array` meets its contract. The loop's invariant: the bytes passed are those of `src`, and the lengths are as they were. Assumes nothing.
+-- `base::into_array` meets its contract. The loop's invariant: the bytes passed are those of `src`, and the lengths are as they were. Assumes nothing.
 use Prim.Native.Nat.{ℕ, _-_, _≤_}
 use borrow.Author.Needs.{needs}
 use lib.ListN.{length, take, getD, set, length-set}
@@ -7,11 +7,12 @@ use mathlib.Core.List.{List, [], _∷_, _++_}
 use mathlib.Core.Path.{_≡_, refl, sym, ap, _∙_}
 use native.Mathlib.Numerals.{add-one}
 use native.Mathlib.Omega.{arith}
-use Rattle.queue.proofs.into_array.Statement.{statement}
-use Rattle.queue.proofs.into_array.Tie as tie
+use Rattle.base.specs.Parts.{mostMoved}
+use Rattle.base.proofs.into_array.Statement.{statement}
+use Rattle.base.proofs.into_array.Tie as tie
 
 abbrev Inv-loop : tie.InvT-loop
-Inv-loop src b₀ i₀ b i = (i ≤ length src) × (take i b ≡ take i src) × (length b ≡ 1500)
+Inv-loop src b₀ i₀ b i = (i ≤ length src) × (take i b ≡ take i src) × (length b ≡ mostMoved)
 
 abbrev μ-loop : tie.MeasureT-loop
 μ-loop src b₀ i₀ b i = length src - i

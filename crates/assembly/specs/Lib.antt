@@ -1,0 +1,5 @@
+pub mod Spans
+pub mod Assembly
+pub mod Covering
+pub mod Words
+pub mod Rows

@@ -1,0 +1,9 @@
+pub mod Account
+pub mod Claim
+pub mod Laws
+pub mod Reads
+pub mod Story
+pub mod Proof
+pub mod Rules
+pub mod Answers
+pub mod Example
