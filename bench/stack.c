@@ -8,7 +8,7 @@
 
 #include "huskelapse.h"
 
-enum { SHALLOW = 65536, DEEP = 1 << 20, WORD = sizeof(uint64_t), CALLS = 28 };
+enum { SHALLOW = 65536, DEEP = 1 << 20, WORD = sizeof(uint64_t), CALLS = 31 };
 
 static const uint64_t paint = 0xA5C35A3C96E1781E;
 
@@ -117,6 +117,10 @@ MEASURED(25, HuskTold, husk_notes_send_words,
 
 MEASURED_SILENT(26, husk_flight_init_words, (uint64_t *f, uint64_t *m), (f, m))
 MEASURED_SILENT(27, husk_notes_init_words, (uint64_t *count, uint64_t *epochs, uint64_t *numbers), (count, epochs, numbers))
+
+MEASURED_SILENT(28, husk_assembly_init, (HuskAssembly *s), (s))
+MEASURED(29, uint8_t, husk_assembly_begin, (HuskAssembly *s, size_t n), (s, n))
+MEASURED(30, HuskPiece, husk_assembly_take, (HuskAssembly *s, const uint8_t *c, size_t cn, uint8_t *b, size_t bn), (s, c, cn, b, bn))
 
 /* The record with the longest padding: a datagram of 16,384 bytes, its header of two bytes, the rest zeros when opened. Twice, since the
  * first may write all that is painted. */

@@ -1,6 +1,7 @@
 /* Faults planted around the calls, one by the environment's FAULT, each of which the driver must find. Linked with --wrap,
  * and like the library built without sanitizers. Most keep clear of the known answers, so that a history has to find them. */
 #include <stdlib.h>
+#include <string.h>
 
 #include "huskelapse.h"
 
@@ -31,6 +32,9 @@ WRAPPED(HuskSaved, husk_flight_status_words, const uint64_t *f);
 WRAPPED(void, husk_notes_init_words, uint64_t *count, uint64_t *epochs, uint64_t *numbers);
 WRAPPED(HuskTold, husk_notes_add_words, uint64_t *count, uint64_t *epochs, uint64_t *numbers, uint64_t epoch, uint64_t number);
 WRAPPED(HuskTold, husk_notes_send_words, HuskSending *s, uint64_t *count, uint64_t *epochs, uint64_t *numbers, uint8_t *q, size_t qn);
+WRAPPED(void, husk_assembly_init, HuskAssembly *s);
+WRAPPED(uint8_t, husk_assembly_begin, HuskAssembly *s, size_t n);
+WRAPPED(HuskPiece, husk_assembly_take, HuskAssembly *s, const uint8_t *c, size_t cn, uint8_t *b, size_t bn);
 
 static volatile uint8_t sink;
 
@@ -255,4 +259,97 @@ HuskTold __wrap_husk_notes_send_words(HuskSending *s, uint64_t *count, uint64_t 
     if (t.told == 1 && noted < 32 && planted(44))
         t.told = 0;
     return t;
+}
+
+void __wrap_husk_assembly_init(HuskAssembly *s)
+{
+    uint64_t span = s->word[105];
+    __real_husk_assembly_init(s);
+    if (span % 2 == 0 && planted(47))
+        s->word[105] = span;
+}
+
+uint8_t __wrap_husk_assembly_begin(HuskAssembly *s, size_t n)
+{
+    uint64_t place = s->word[5];
+    uint8_t answer = __real_husk_assembly_begin(s, n);
+    if (answer == 0 && s->word[1] == 50 && n > 13 && planted(48))
+        s->word[1] = 0;
+    if (answer == 0 && place > 0 && place < n && planted(49))
+        s->word[5] = place;
+    return answer;
+}
+
+static uint64_t number_of(const uint8_t *p, int n)
+{
+    return n == 0 ? 0 : number_of(p, n - 1) * 256 + p[n - 1];
+}
+
+/* Faults in what is written, for a piece that is held as the last of those in the words w. */
+static void write_fault(uint64_t *w, const uint8_t *piece, uint64_t held, uint8_t *b, size_t bn)
+{
+    size_t offset = (size_t)number_of(piece + 6, 3), length = (size_t)number_of(piece + 9, 3);
+    if (held > 2 && planted(50))
+        memcpy(b + offset, piece + 12, length); /* over what earlier pieces brought */
+    if (held > 2 && w[1] > 0 && planted(51))
+        w[3] = number_of(piece + 1, 3); /* the total of a later piece */
+    if (held > 2 && w[1] > 0 && planted(52))
+        w[2] = piece[0]; /* the type of a later piece */
+    if (held > 2 && planted(53))
+        ((volatile uint8_t *)b)[bn] = 0;
+    if (offset + length < bn && length > 5 && planted(54))
+        b[offset + length] ^= 1;
+}
+
+/* Taken for whole once its pieces have as many bytes together as the message. */
+static void count_fault(HuskPiece *a, uint64_t *w)
+{
+    uint64_t sum = 0;
+    for (uint64_t k = 0; k < w[1]; k++)
+        sum += w[56 + k];
+    if (w[1] < 3 || sum < w[3])
+        return;
+    *a = (HuskPiece){HUSK_PIECE_MESSAGE, 0, (uint8_t)w[2], (uint16_t)w[0]++, (size_t)w[3]};
+    w[1] = 0;
+}
+
+/* Faults in the answer, where the place in the record was another before the call. */
+static void answer_fault(HuskPiece *a, HuskAssembly *s, uint64_t place, const uint8_t *c)
+{
+    uint64_t *w = s->word;
+    if (a->kind == HUSK_PIECE_HELD && planted(55))
+        count_fault(a, w);
+    if (a->kind == HUSK_PIECE_SAME && w[1] == 50 && w[3] != 200 && planted(56))
+        *a = (HuskPiece){HUSK_PIECE_REFUSED, 25, 0, 0, 0};
+    if (a->kind == HUSK_PIECE_OTHER && number_of(c + place + 4, 2) == w[0] + 1 && w[1] < 50 && planted(57)) {
+        w[6 + w[1]] = number_of(c + place + 6, 3); /* a piece of the next message */
+        w[56 + w[1]++] = number_of(c + place + 9, 3);
+        a->kind = HUSK_PIECE_HELD;
+    }
+    if (a->kind == HUSK_PIECE_OTHER && w[1] > 0 && planted(65))
+        a->number = (uint16_t)w[0]; /* the number expected */
+    if (a->refusal == 24 && w[1] > 0 && planted(58))
+        w[5] = place; /* the record goes on */
+    if (a->refusal == 25 && w[3] != 200 && planted(59))
+        w[1] = 0; /* the message so far is lost */
+    if (a->kind == HUSK_PIECE_MESSAGE && a->length > 5 && planted(60))
+        w[0]--; /* the number is not raised */
+    if (a->refusal == 16 && w[1] > 0 && planted(61))
+        w[5] = w[4];
+}
+
+HuskPiece __wrap_husk_assembly_take(HuskAssembly *s, const uint8_t *c, size_t cn, uint8_t *b, size_t bn)
+{
+    uint64_t place = s->word[5], held = s->word[1];
+    HuskPiece a = __real_husk_assembly_take(s, c, cn, b, bn);
+    if (a.kind == HUSK_PIECE_OTHER && planted(62))
+        sink = ((const volatile uint8_t *)c)[cn];
+    if (a.kind >= HUSK_PIECE_HELD)
+        write_fault(s->word, c + place, held, b, bn);
+    if (a.kind == HUSK_PIECE_HELD && held == 0 && s->word[3] == 16384 && planted(63))
+        a = (HuskPiece){HUSK_PIECE_REFUSED, 24, 0, 0, 0};
+    if (a.kind == HUSK_PIECE_MESSAGE && a.number == 65534 && planted(64))
+        s->word[0] = 0;
+    answer_fault(&a, s, place, c);
+    return a;
 }

@@ -47,10 +47,11 @@ enum {
     SENDING_INIT, SENDING_KEY, SENDING_SEND, SENDING_SEALING, SENDING_SEALED, SENDING_TAKE, SENDING_TAKE_IN_PLACE, SENDING_STATUS,
     FLIGHT_INIT, FLIGHT_BEGIN, FLIGHT_SEND, FLIGHT_MESSAGE, FLIGHT_RESEND, FLIGHT_ACK, FLIGHT_STATUS,
     NOTES_INIT, NOTES_ADD, NOTES_SEND,
+    ASSEMBLY_INIT, ASSEMBLY_BEGIN, ASSEMBLY_TAKE,
     CALLS
 };
 
-extern uint64_t datagrams, replies, calls_made, words_rewritten;
+extern uint64_t datagrams, replies, handshakes, calls_made, words_rewritten;
 
 /* Before a call, so that a fault names it. */
 void calling(int call);
@@ -65,5 +66,7 @@ void receiving_start(void);
 void receiving_history(void);
 void sending_start(void);
 void sending_history(void);
+void assembly_start(void);
+void assembly_history(void);
 
 #endif

@@ -251,13 +251,65 @@ static void known_ack(void)
     drain(&s, &f, queue, sizeof queue, 0, 514 + 17);
 }
 
+static void check_piece(HuskPiece a, unsigned kind, unsigned refusal, unsigned type, unsigned number, size_t length)
+{
+    require(a.kind == kind && a.refusal == refusal && a.msg_type == type, "a known piece");
+    require(a.number == number && a.length == length, "a known piece's number and length");
+}
+
+/* Message 0 has no body. Message 1 is "abcde" in two pieces that overlap, the first of them twice, the other with another type and total.
+ * Behind them are a piece of message 9 and two bytes of a header. */
+static void known_assembly(void)
+{
+    static const uint8_t record[] = {8, 0, 0, 0, 0, 0, 0, 0, 0, 0, 0, 0, /**/ 11, 0, 0, 5, 0, 1, 0, 0, 2, 0, 0, 3, 'c', 'd', 'e', /**/
+        7, 0, 0, 5, 0, 1, 0, 0, 2, 0, 0, 3, 'x', 'y', 'z', /**/ 7, 0, 0, 4, 0, 1, 0, 0, 0, 0, 0, 4, 'a', 'b', 'C', 'D', /**/
+        3, 0, 0, 1, 0, 9, 0, 0, 0, 0, 0, 1, '!', /**/ 20, 0};
+    static uint8_t buffer[HUSK_MESSAGE_ROOM];
+    const size_t n = sizeof record;
+    HuskAssembly s;
+    calling(ASSEMBLY_TAKE);
+    memset(&s, 0xFF, sizeof s);
+    require(husk_assembly_begin(&s, n) == HUSK_OUT_OF_RANGE, "known words that are none");
+    husk_assembly_init(&s);
+    check_piece(husk_assembly_take(&s, record, n, buffer, sizeof buffer), HUSK_PIECE_REFUSED, HUSK_NO_QUESTION, 0, 0, 0);
+    require(husk_assembly_begin(&s, n) == 0, "a known record");
+    check_piece(husk_assembly_take(&s, record, n, buffer, sizeof buffer - 1), HUSK_PIECE_REFUSED, HUSK_BUFFER_TOO_SMALL, 0, 0, 16384);
+    check_piece(husk_assembly_take(&s, record, n, buffer, sizeof buffer), HUSK_PIECE_MESSAGE, 0, 8, 0, 0);
+    check_piece(husk_assembly_take(&s, record, n, buffer, sizeof buffer), HUSK_PIECE_HELD, 0, 0, 0, 0);
+    check_piece(husk_assembly_take(&s, record, n, buffer, sizeof buffer), HUSK_PIECE_SAME, 0, 0, 0, 0);
+    check_piece(husk_assembly_take(&s, record, n, buffer, sizeof buffer), HUSK_PIECE_MESSAGE, 0, 11, 1, 5);
+    require(memcmp(buffer, "abcde", 6) == 0 && s.word[0] == 2 && s.word[1] == 0, "a known message");
+    check_piece(husk_assembly_take(&s, record, n, buffer, sizeof buffer), HUSK_PIECE_OTHER, 0, 0, 9, 0);
+    check_piece(husk_assembly_take(&s, record, n, buffer, sizeof buffer), HUSK_PIECE_REFUSED, HUSK_BAD_PIECE, 0, 0, 0);
+    check_piece(husk_assembly_take(&s, record, n, buffer, sizeof buffer), HUSK_PIECE_END, 0, 0, 0, 0);
+}
+
+/* 50 pieces of one byte are held; the fifty-first is refused, one that is held already is not, and the hole stays. */
+static void known_pieces(void)
+{
+    static uint8_t record[13] = {4, 0, 0, 200, 0, 0, 0, 0, 0, 0, 0, 1, 'p'}, buffer[HUSK_MESSAGE_ROOM];
+    HuskAssembly s;
+    calling(ASSEMBLY_TAKE);
+    husk_assembly_init(&s);
+    for (unsigned i = 0; i <= 50; i++) {
+        record[8] = (uint8_t)(2 * i);
+        require(husk_assembly_begin(&s, sizeof record) == 0, "a known record");
+        check_piece(husk_assembly_take(&s, record, sizeof record, buffer, sizeof buffer), i < 50 ? HUSK_PIECE_HELD : HUSK_PIECE_REFUSED,
+            i < 50 ? 0 : HUSK_TOO_MANY_PIECES, 0, 0, 0);
+    }
+    record[8] = 98;
+    require(husk_assembly_begin(&s, sizeof record) == 0, "a known record");
+    check_piece(husk_assembly_take(&s, record, sizeof record, buffer, sizeof buffer), HUSK_PIECE_SAME, 0, 0, 0, 0);
+    require(s.word[1] == 50 && buffer[98] == 'p' && buffer[99] == 0 && buffer[100] == 0, "known pieces held");
+}
+
 /* Every refusal has a text of its own; other numbers have another. */
 static void known_texts(void)
 {
-    for (unsigned i = 0; i <= HUSK_WAITING + 1; i++)
+    for (unsigned i = 0; i <= HUSK_TOO_MANY_PIECES + 1; i++)
         for (unsigned j = 0; j < i; j++)
             require(strcmp(husk_refusal_text((uint8_t)i), husk_refusal_text((uint8_t)j)) != 0, "a text that two refusals have");
-    require(strcmp(husk_refusal_text(HUSK_WAITING + 1), husk_refusal_text(255)) == 0, "a text for no refusal");
+    require(strcmp(husk_refusal_text(HUSK_TOO_MANY_PIECES + 1), husk_refusal_text(255)) == 0, "a text for no refusal");
 }
 
 void known(void)
@@ -270,5 +322,7 @@ void known(void)
     known_resends();
     known_flight();
     known_ack();
+    known_assembly();
+    known_pieces();
     known_texts();
 }

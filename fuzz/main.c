@@ -1,6 +1,7 @@
-/* Feeds random, truncated and mutated datagrams and replies, and arbitrary words as state, through the record layer's C interface.
+/* Feeds random, truncated and mutated datagrams, replies and handshake records, and arbitrary words as state, through the record layer's
+ * C interface.
  *
- *   driver COUNT SEED [HISTORY]   COUNT datagrams and replies; or the one history
+ *   driver COUNT SEED [HISTORY]   COUNT datagrams, replies and handshake records; or the one history
  *
  * Exit status: 0 nothing was found; 1 something was; 2 the driver cannot run. */
 #define _GNU_SOURCE
@@ -23,7 +24,7 @@
 #define HANG_SECONDS 60
 #endif
 
-enum { KINDS = 8, REFUSALS = 24, ENOUGH = 1000000 };
+enum { KINDS = 8, REFUSALS = 26, ENOUGH = 1000000 };
 
 #define R(n) (1u << (n))
 
@@ -62,9 +63,12 @@ static const struct {
     [NOTES_INIT] = {"husk_notes_init_words", {R(0)}},
     [NOTES_ADD] = {"husk_notes_add_words", {R(0) | R(12), R(0)}},
     [NOTES_SEND] = {"husk_notes_send_words", {R(0) | R(12) | R(13) | R(17) | R(19) | R(20), R(0)}},
+    [ASSEMBLY_INIT] = {"husk_assembly_init", {R(0)}},
+    [ASSEMBLY_BEGIN] = {"husk_assembly_begin", {R(0) | R(12)}},
+    [ASSEMBLY_TAKE] = {"husk_assembly_take", {R(12) | R(15) | R(16) | R(24) | R(25), R(0), R(0), R(0), R(0), R(0)}},
 };
 
-uint64_t datagrams, replies, calls_made, words_rewritten;
+uint64_t datagrams, replies, handshakes, calls_made, words_rewritten;
 static uint64_t seed, history, seen[CALLS][KINDS][REFUSALS];
 static volatile int now_calling;
 
@@ -148,10 +152,17 @@ static void one_history(void)
     const struct itimerval limit = {{0, 0}, {HANG_SECONDS, 0}};
     setitimer(ITIMER_VIRTUAL, &limit, NULL);
     begin_random(seed, history);
-    if (one_in(3))
+    if (one_in(16))
+        assembly_history();
+    else if (one_in(3))
         sending_history();
     else
         receiving_history();
+}
+
+static uint64_t fed(void)
+{
+    return datagrams + replies + handshakes;
 }
 
 int main(int argc, char **argv)
@@ -165,23 +176,24 @@ int main(int argc, char **argv)
     known();
     receiving_start();
     sending_start();
+    assembly_start();
     if (argc > 3) {
         history = strtoull(argv[3], NULL, 10);
         one_history();
         return 0;
     }
-    for (; datagrams + replies < count; history++) {
+    for (; fed() < count; history++) {
         one_history();
-        if (count >= ENOUGH && (datagrams + replies) / ENOUGH > told) {
-            told = (datagrams + replies) / ENOUGH;
+        if (count >= ENOUGH && fed() / ENOUGH > told) {
+            told = fed() / ENOUGH;
             printf("%" PRIu64 " million\n", told);
             fflush(stdout);
         }
     }
     printf("answers, as kind/refusal and how often:\n");
     unsigned never = tell();
-    printf("%" PRIu64 " histories, %" PRIu64 " calls, %" PRIu64 " datagrams, %" PRIu64 " replies: nothing found\n", history, calls_made,
-        datagrams, replies);
+    printf("%" PRIu64 " histories, %" PRIu64 " calls, %" PRIu64 " datagrams, %" PRIu64 " replies, %" PRIu64
+           " handshake records: nothing found\n", history, calls_made, datagrams, replies, handshakes);
     printf("forged words rewritten by a refused call, with the same meaning: %" PRIu64 "\n", words_rewritten);
     if (never != 0)
         printf("%u named answers were never given\n", never);

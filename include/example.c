@@ -1,8 +1,8 @@
 /* The examples in C, run: reading.inc reads a datagram, sending.inc sends a record, flight.inc sends a message until it is acknowledged,
- * notes.inc acknowledges (include/example cuts them out of README.md). The cipher is a toy, which seals nothing
- * from anyone, and ends the program where it is asked without end.
+ * assembly.inc puts one together, notes.inc acknowledges (include/example cuts them out of README.md). The cipher is a toy, which seals
+ * nothing from anyone, and ends the program where it is asked without end.
  *
- * Exit status: 0 both do what README says; 1 one does not. */
+ * Exit status: 0 all do what README says; 1 one does not. */
 #include <stdio.h>
 #include <stdlib.h>
 #include <string.h>
@@ -160,6 +160,42 @@ static void flight_example(void)
     need(husk_flight_status(&f).saved == 0 && husk_sending_status(&s).waiting == 2, "another status than two sealings and no flight");
 }
 
+/* ---- a message from its pieces */
+
+static unsigned acted;
+
+static void act(uint8_t msg_type, const uint8_t *body, size_t n)
+{
+    need(msg_type == 11 && n == 8 && memcmp(body, text, n) == 0, "another message than was sent");
+    acted++;
+}
+
+static void assembly_example(const uint8_t *content, size_t n)
+{
+#include "assembly.inc"
+}
+
+/* Two pieces of message 0, of type 11 with 8 bytes. */
+static const uint8_t first[] = {11, 0, 0, 8, 0, 0, 0, 0, 0, 0, 0, 5, '1', '4', '.', '2', ' '};
+static const uint8_t second[] = {11, 0, 0, 8, 0, 0, 0, 0, 5, 0, 0, 3, 'k', 'W', 'h'};
+
+/* A record with the second piece, the same again, and the first; then this record cut off anywhere. */
+static void check_assembly(void)
+{
+    uint8_t content[2 * sizeof second + sizeof first];
+    memcpy(content, second, sizeof second);
+    memcpy(content + sizeof second, second, sizeof second);
+    memcpy(content + 2 * sizeof second, first, sizeof first);
+    for (size_t n = 0; n <= sizeof content; n++) {
+        int whole = n == sizeof content, cut = !whole && n != 0 && n != sizeof second && n != 2 * sizeof second;
+        acted = 0;
+        told = NULL;
+        assembly_example(content, n);
+        need(acted == (unsigned)whole, whole ? "the message does not come out" : "a message comes out that is not whole");
+        need(cut ? told != NULL && strcmp(told, husk_refusal_text(HUSK_BAD_PIECE)) == 0 : told == NULL, "24 is told wrongly");
+    }
+}
+
 static void notes_example(void)
 {
     static uint8_t queue[LIMIT * MTU];
@@ -186,6 +222,7 @@ int main(void)
     seal_fails = 1;
     need(send_example(text, sizeof text, d) == 0, "a record that could not be sealed goes out");
     flight_example();
+    check_assembly();
     notes_example();
     return 0;
 }

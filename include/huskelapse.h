@@ -4,19 +4,21 @@
  * each pointer leads to what its type or the length beside it says, and that no two of them overlap. A state is words whose meaning the
  * library keeps. Whatever stands in them, a call ends with an answer. The host keeps keys, cipher, timers and sockets.
  *
- * Four objects, each begun by its _init call: HuskReceiving and HuskSending are the two directions of one end; HuskFlight holds the
- * records that go out again until they are acknowledged; HuskNotes the records to acknowledge. Names are husk_OBJECT_VERB.
+ * Five objects, each begun by its _init call: HuskReceiving and HuskSending are the two directions of one end; HuskFlight holds the
+ * records that go out again until they are acknowledged; HuskNotes the records to acknowledge; HuskAssembly puts whole handshake messages
+ * together. Names are husk_OBJECT_VERB.
  *
  * Answers. A call that answers a uint8_t answers 0 (HUSK_DONE), or the number of a refusal. Others answer a struct with a field
  * `refusal`, 0 where nothing is refused. A refused call leaves every buffer, and words that calls made, as they are, but for the _init
- * calls, which begin them; words that no call made it may write anew with the same meaning.
+ * calls, which begin them, and for 24 and 25, which end a handshake record; words that no call made it may write anew with the same meaning.
  *
  * What 12 covers: a setting outside its range; words that are no state; a queue under limit times mtu bytes, a flight's memory under 12
  * times mtu bytes; an opening reply above 1. Words are no state with a flag above 1; with more epochs, datagrams, readings, saved or noted
  * records than there can be; with a cursor, a question or a sealing that reaches beyond the datagram or its slot; with a question of no
- * kind or under an epoch that is not keyed; with a window or an opening question above number 2^48 - 1, or a sealing above 2^48 - 2. What
- * 12 does not cover: whether words are those that the last call at this end left, whether a buffer is the one lent before, a next number
- * to send that is too high (20), epochs and the message number (read modulo 65,536), and words that a call does not use.
+ * kind or under an epoch that is not keyed; with a window or an opening question above number 2^48 - 1, or a sealing above 2^48 - 2; and a
+ * HuskAssembly with a message number above 65,535, more than 50 pieces, a total above 16,384 or a place behind its record. What 12 does not
+ * cover: whether words are those that the last call at this end left, whether a buffer is the one lent before, a next number to send that is
+ * too high (20), epochs and the message number to send (read modulo 65,536), and words that a call does not use.
  *
  * Refusals are listed with each call in the order in which they are tested; docs/SPECIFICATION.md has every test. */
 #ifndef HUSKELAPSE_H
@@ -30,9 +32,9 @@ extern "C" {
 #endif
 
 #define HUSK_VERSION_MAJOR 0
-#define HUSK_VERSION_MINOR 6
+#define HUSK_VERSION_MINOR 7
 #define HUSK_VERSION_PATCH 0
-#define HUSK_VERSION "0.6.0"
+#define HUSK_VERSION "0.7.0"
 
 /* ---- refusals */
 
@@ -54,8 +56,8 @@ enum {
     HUSK_OUT_OF_RANGE = 12,     /* a setting or a state is out of its range, or a buffer too short for them */
     HUSK_BAD_EPOCH = 13,        /* the epoch cannot be used so */
     HUSK_BAD_RECORD = 14,       /* the content type is not allowed, the body over 16,384 bytes or the record over the MTU */
-    HUSK_NO_QUESTION = 15,      /* no such question waits, or the reply has the wrong length */
-    HUSK_BUFFER_TOO_SMALL = 16, /* the buffer is too small for the datagram; the answer says what is needed */
+    HUSK_NO_QUESTION = 15,      /* no such question waits, or the reply, or a handshake record, has the wrong length */
+    HUSK_BUFFER_TOO_SMALL = 16, /* the buffer is too small for the datagram or a message; the answer says what is needed */
     HUSK_KEYS_ABSENT = 17,      /* no keys to send in the epoch */
     /* Use causes these. */
     HUSK_FLIGHT_FULL = 18,      /* the flight would have a thirteenth record */
@@ -63,8 +65,12 @@ enum {
     HUSK_NUMBERS_SPENT = 20,    /* the epoch's record numbers are spent */
     HUSK_MESSAGES_SPENT = 21,   /* the handshake message numbers are spent */
     HUSK_RESENDS_SPENT = 22,    /* a handshake record remembers 32 numbers */
-    HUSK_WAITING = 23           /* the front datagram is not wholly sealed, four application epochs are keyed to receive, or a sealing
+    HUSK_WAITING = 23,          /* the front datagram is not wholly sealed, four application epochs are keyed to receive, or a sealing
                                    waits under the application epoch that would be replaced */
+    /* The far end or a stranger causes these; the rest of the record is left out, and it counts as handed over. */
+    HUSK_BAD_PIECE = 24,        /* a piece of a message runs past its own total, that of the first piece or its record, its total is over
+                                   16,384, or the message numbers are spent */
+    HUSK_TOO_MANY_PIECES = 25   /* a fifty-first different piece of one message */
 };
 
 /* What a refusal means, for a log. */
@@ -85,8 +91,8 @@ static inline const char *husk_refusal_text(uint8_t refusal) {
         "a setting or a state is out of its range, or a buffer too short for it",
         "the epoch cannot be used so",
         "the type is not allowed, the body over 16,384 bytes or the record over the MTU",
-        "the reply answers no waiting question or has the wrong length",
-        "the buffer is too small for the datagram",
+        "the reply answers no waiting question, or it or a handshake record has the wrong length",
+        "the buffer is too small for the datagram or a message",
         "no keys to send in this epoch",
         "the flight is full",
         "the queue is full",
@@ -94,6 +100,8 @@ static inline const char *husk_refusal_text(uint8_t refusal) {
         "the message numbers are spent",
         "a record was sent again 32 times",
         "a sealing still waits, or four application epochs are keyed to receive",
+        "a piece runs past its message or its record, its total is over 16,384 bytes, or the message numbers are spent",
+        "the message has more than 50 different pieces",
     };
     return refusal < sizeof text / sizeof *text ? text[refusal] : "no refusal of this version";
 }
@@ -364,6 +372,50 @@ static inline HuskTold husk_notes_add(HuskNotes *n, uint64_t epoch, uint64_t num
 static inline HuskTold husk_notes_send(HuskNotes *n, HuskSending *s, uint8_t *queue, size_t queue_len) {
     return husk_notes_send_words(s, n->count, n->epochs, n->numbers, queue, queue_len);
 }
+
+/* ---- whole handshake messages */
+
+/* The next handshake message: its number, the pieces of it that are held, and the record that is taken apart. */
+typedef struct {
+    uint64_t word[106];
+} HuskAssembly;
+
+/* Bytes of the buffer that a message is put together in: as many as a body may have. */
+enum { HUSK_MESSAGE_ROOM = 16384 };
+
+enum {
+    HUSK_PIECE_REFUSED = 0, /* refusal 12, 15 or 16 (length is what the buffer needs): nothing has changed; 24 or 25: the rest of the
+                               record is left out, and what was held stays */
+    HUSK_PIECE_END = 1,     /* the record has no more pieces */
+    HUSK_PIECE_OTHER = 2,   /* a piece of another message, passed over: number; one above those handed over has to come again */
+    HUSK_PIECE_SAME = 3,    /* a piece with the offset and length of one held: nothing has changed */
+    HUSK_PIECE_HELD = 4,    /* a piece of the message, which is not whole yet */
+    HUSK_PIECE_MESSAGE = 5  /* the message is whole: msg_type, number; its body is the first length bytes of the buffer */
+};
+
+/* Answer for the next piece of a record. */
+typedef struct {
+    uint8_t kind;
+    uint8_t refusal;
+    uint8_t msg_type;
+    uint16_t number;
+    size_t length;
+} HuskPiece;
+
+/* Message 0 is expected and nothing is held, whatever stood in the words. */
+void husk_assembly_init(HuskAssembly *s);
+
+/* Begins a record of type HUSK_HANDSHAKE whose content has n bytes. What an earlier record had left is left out. Anyone can write a plaintext
+ * record: once peer encryption is on give opened ones alone, and where the first message comes out wrong or not at all begin again with
+ * husk_assembly_init, which expects message 0. Refused by 12. */
+uint8_t husk_assembly_begin(HuskAssembly *s, size_t n);
+
+/* The next piece of the record begun, whose content is the same in every call: ask until HUSK_PIECE_END, 24 or 25. Messages come out whole,
+ * once, as 0, 1, 2 and so on. Type and total are those of the first piece held; where pieces overlap the earlier bytes stay. A message lies
+ * at the start of the buffer until the next call: use or copy it first. While a piece is held lend the buffer as the last call left it; a
+ * call writes only bytes that no piece held has brought, and none for a piece that is refused, the same as one held or of another message.
+ * Refused by 16 (ask again with HUSK_MESSAGE_ROOM bytes), 12, 15 (the content is not as long as the one begun), 24, 25. */
+HuskPiece husk_assembly_take(HuskAssembly *s, const uint8_t *content, size_t content_len, uint8_t *buffer, size_t buffer_len);
 
 #ifdef __cplusplus
 }

@@ -80,3 +80,13 @@ SIZED(HuskNotes, (1 + 32 + 32) * 8, 8);
 PLACED(HuskNotes, count, 0, 8);
 PLACED(HuskNotes, epochs, 8, 32 * 8);
 PLACED(HuskNotes, numbers, 33 * 8, 32 * 8);
+
+SIZED(HuskAssembly, 106 * 8, 8);
+PLACED(HuskAssembly, word, 0, 106 * 8);
+
+SIZED(HuskPiece, 16, 8);
+PLACED(HuskPiece, kind, 0, 1);
+PLACED(HuskPiece, refusal, 1, 1);
+PLACED(HuskPiece, msg_type, 2, 1);
+PLACED(HuskPiece, number, 4, 2);
+PLACED(HuskPiece, length, 8, 8);

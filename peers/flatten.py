@@ -3,6 +3,7 @@
 order, to be written again.
 
     session NAME
+    message DIR TYPE BODY                          the next handshake message that the sender of DIR sent, from number 0 on
     key-receive DIR EPOCH SUITE KEY IV SN_KEY      the receiver of DIR keys an epoch
     remove DIR EPOCH                               it removes one
     release DIR                                    it releases application data
@@ -20,10 +21,12 @@ order, to be written again.
 DIR is 0 from client to server, 1 from server to client. Bytes are hexadecimal, none is `-`. README.md says when a host keys and what it
 expects of a record; here this is `Receiver`.
 
-    flatten.py [--flip-keys] [--must-not-open] SESSION
+    flatten.py [--flip-keys] [--must-not-open] [--change-message] [--spoil WHAT] SESSION
 
 --flip-keys changes a bit of every key, --must-not-open expects that no sealed record opens: together they must agree, alone they must
-differ. Of a session that must not open nothing is written again.
+differ. Of a session that must not open nothing is written again. --change-message changes a bit of the last message, and --spoil adds a
+line by which the host changes messages that come out (`byte`, `type`), keeps them back (`whole`), lets the later of two bytes stay
+(`later`) or tells the number expected for a piece of another message (`number`): each must differ.
 """
 import argparse
 import json
@@ -43,6 +46,9 @@ LONGEST = 16384
 WINDOW = 64
 MOST_APPLICATIONS = 4
 MOST_READINGS = 16
+
+HANDSHAKE = 22
+PIECE_HEADER = 12
 
 # Refusals of the header.
 TOO_MANY_READINGS, NO_KEYS, TOO_SHORT, NUMBER_TOO_LARGE, NOT_FRESH, NOT_OPENED = 3, 6, 7, 8, 9, 10
@@ -157,6 +163,45 @@ def key_words(key):
     return " ".join([key["cipher_suite"], key["key"], key["iv"], key["sn_key"]])
 
 
+def pieces_of(content):
+    """Number, type, total, offset and bytes of each piece of a handshake record."""
+    while len(content) >= PIECE_HEADER:
+        total, number, offset, length = (int.from_bytes(content[a:b], "big") for a, b in [(1, 4), (4, 6), (6, 9), (9, 12)])
+        end = PIECE_HEADER + length
+        yield number, content[0], total, offset, content[PIECE_HEADER:end]
+        content = content[end:]
+
+
+def captured_messages(side, session, records):
+    """The messages that a side sent, by their numbers: type and bytes, None for one that was not captured."""
+    found = {}
+    for index, datagram in enumerate(session["datagrams"]):
+        for record in records[index]:
+            if datagram["dir"] != DIRECTIONS[side] or record["content_type"] != HANDSHAKE:
+                continue
+            for number, kind, total, offset, body in pieces_of(bytes.fromhex(record["content"] or "")):
+                _, known = found.setdefault(number, (kind, [None] * total))
+                for i, byte in enumerate(body, offset):
+                    if i < len(known) and known[i] is None:
+                        known[i] = byte
+    return found
+
+
+def messages(session, records, change):
+    """The messages of both sides, up to the first that is not wholly captured or too long to be put together."""
+    lines = []
+    for side in range(2):
+        found = captured_messages(side, session, records)
+        number = 0
+        while number in found and None not in found[number][1] and len(found[number][1]) <= LONGEST:
+            lines.append((side, found[number][0], bytearray(found[number][1])))
+            number += 1
+    if change:
+        [body for _, _, body in lines if body][-1][-1] ^= 1
+    for side, kind, body in lines:
+        print("message", side, kind, hex_or_dash(body.hex()))
+
+
 def delivered(session, records):
     receivers = [Receiver(side, session) for side in range(2)]
     for index in session["delivery_order"]:
@@ -229,6 +274,9 @@ def main(options):
     if options.flip_keys:
         flip(session)
     print("session", session["name"])
+    if options.spoil:
+        print("spoil", options.spoil)
+    messages(session, records, options.change_message)
     delivered(session, records)
     if not session["must_not_open"]:
         sent(session, records)
@@ -240,6 +288,8 @@ if __name__ == "__main__":
     parser = argparse.ArgumentParser(description="Turns a captured session into lines for the host.")
     parser.add_argument("--flip-keys", action="store_true", help="change a bit of every key")
     parser.add_argument("--must-not-open", action="store_true", help="expect that no sealed record opens")
+    parser.add_argument("--change-message", action="store_true", help="change a bit of the last message")
+    parser.add_argument("--spoil", choices=["byte", "type", "whole", "later", "number"], help="have the host change what the layer answers")
     parser.add_argument("session")
     reason = main(parser.parse_args())
     if reason:

@@ -110,6 +110,12 @@ static void check_content(const HuskReading *r, const uint8_t *d, uint64_t numbe
         stop(1, "another content");
 }
 
+static void put_together(const Receiver *r, const HuskReading *got, const uint8_t *d)
+{
+    if (got->content_type == HUSK_HANDSHAKE)
+        messages_record((unsigned)(r - receivers), d + got->start, got->length);
+}
+
 /* The record must be dropped by one of the refusals of the line, and is counted by its reason. */
 static void expect_dropped(const HuskReading *got, const char *line)
 {
@@ -148,11 +154,13 @@ static void expect(Receiver *r, uint8_t *d, size_t n, char *line)
         if (got.kind != HUSK_READING_PLAINTEXT)
             stop(1, "no plaintext record is read");
         check_content(&got, d, number, type, start, content + 1);
+        put_together(r, &got, d);
         plaintext_records++;
     } else if (sscanf(line, "opened %u %" SCNu64 " %u %zu", &epoch, &number, &type, &start) == 4) {
         if (got.kind != HUSK_READING_OPENED || got.epoch != epoch)
             stop(1, "no record of this epoch is opened");
         check_content(&got, d, number, type, start, content + 1);
+        put_together(r, &got, d);
         opened_records++;
     } else if (strncmp(line, "dropped ", 8) == 0) {
         expect_dropped(&got, line);
@@ -180,6 +188,15 @@ static void written(char *line)
     r.length = bytes_of(line + at, bytes, sizeof bytes);
     r.content_len = bytes_of(last + 1, content, sizeof content);
     writer_record(side, &r);
+}
+
+static void sent(const char *line)
+{
+    static uint8_t body[ROOM];
+    unsigned side, type;
+    if (sscanf(line, "message %u %u", &side, &type) != 2 || side > 1)
+        stop(2, "bad line");
+    messages_sent(side, type, body, bytes_of(strrchr(line, ' ') + 1, body, sizeof body));
 }
 
 static void key(const char *line)
@@ -210,6 +227,10 @@ static Receiver *step(char *line)
         key(line);
     } else if (strncmp(line, "write ", 6) == 0) {
         written(line);
+    } else if (strncmp(line, "message ", 8) == 0) {
+        sent(line);
+    } else if (strncmp(line, "spoil ", 6) == 0) {
+        messages_spoil(line + 6);
     } else if (sscanf(line, "take %u", &side) == 1 && side < 2) {
         writer_take(side);
     } else if (sscanf(line, "remove %u %u", &side, &epoch) == 2 && side < 2) {
@@ -243,6 +264,7 @@ static void report(void)
         printf(", %zu datagrams over %d bytes refused", oversized, LONGEST);
     writer_report();
     printf("\n");
+    messages_report(name);
 }
 
 int main(void)
@@ -256,6 +278,7 @@ int main(void)
         take(husk_receiving_enable_encryption(&receivers[side].layer));
     }
     writer_begin();
+    messages_begin();
     while (getline(&line, &room, stdin) > 0) {
         line_number++;
         line[strcspn(line, "\n")] = 0;
@@ -272,6 +295,7 @@ int main(void)
     free(line);
     if (!done || datagrams == 0 || reading || !writer_done())
         stop(2, "the session is cut off");
+    messages_reorder();
     report();
     return 0;
 }

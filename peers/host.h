@@ -1,4 +1,4 @@
-/* What the halves of the host share: the session's lines, the ciphers, the writer. */
+/* What the parts of the host share: the session's lines, the ciphers, the writer, the handshake messages. */
 #ifndef HOST_H
 #define HOST_H
 
@@ -56,5 +56,19 @@ void writer_take(unsigned side);
 int writer_done(void);
 /* Prints how many records were written again, and how many cannot be made, by reason. */
 void writer_report(void);
+
+/* ---- handshake messages (messages.c) */
+
+void messages_begin(void);
+/* The next message that a side sent, as it was captured. */
+void messages_sent(unsigned side, unsigned type, const uint8_t *body, size_t length);
+/* A handshake record was read: its pieces are taken and judged. */
+void messages_record(unsigned side, const uint8_t *content, size_t length);
+/* For a control: from now on the layer's answers are changed. */
+void messages_spoil(const char *what);
+/* Gives the records again in other orders. */
+void messages_reorder(void);
+/* Prints how many messages came out of how many pieces. */
+void messages_report(const char *name);
 
 #endif

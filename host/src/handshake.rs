@@ -1,95 +1,11 @@
-//! An exchange of messages in epochs 0 and 2 as a handshake has it: flights, pieces put together, resends, ACKs. The bodies are made up;
-//! each begins with a checksum in place of a transcript.
+//! An exchange of messages in epochs 0 and 2 as a handshake has it: flights, resends, ACKs.
 
-use std::collections::HashMap;
 use std::time::{Duration, Instant};
 
 use huskelapse::content_type::{ACK, HANDSHAKE};
 
-use crate::crypto::sha256;
 use crate::end::{End, Record};
-
-pub const CLIENT_HELLO: u8 = 1;
-pub const SERVER_HELLO: u8 = 2;
-pub const EXTENSIONS: u8 = 8;
-pub const CERTIFICATE: u8 = 11;
-pub const VERIFY: u8 = 15;
-pub const FINISHED: u8 = 20;
-
-/// A message's body of so many bytes.
-fn body(kind: u8, length: usize) -> Vec<u8> {
-    let rest: Vec<u8> = (0..length - 8).map(|i| (i * 7 + usize::from(kind)) as u8).collect();
-    let mut body = sum(kind, &rest).to_vec();
-    body.extend(rest);
-    body
-}
-
-fn sum(kind: u8, rest: &[u8]) -> [u8; 8] {
-    let mut whole = vec![kind];
-    whole.extend(rest);
-    *sha256(&whole).first_chunk().unwrap()
-}
-
-struct Partial {
-    kind: u8,
-    body: Vec<u8>,
-    have: Vec<bool>,
-}
-
-/// Pieces put together, message by message.
-#[derive(Default)]
-struct Pieces {
-    next: u16,
-    partial: HashMap<u16, Partial>,
-}
-
-enum Piece {
-    Bad,
-    Old,
-    New,
-}
-
-impl Pieces {
-    fn add(&mut self, epoch: u16, content: &[u8]) -> Piece {
-        let Some((header, piece)) = content.split_first_chunk::<12>() else { return Piece::Bad };
-        let three = |i: usize| usize::from(header[i]) << 16 | usize::from(header[i + 1]) << 8 | usize::from(header[i + 2]);
-        let (kind, length, offset) = (header[0], three(1), three(6));
-        let number = u16::from_be_bytes([header[4], header[5]]);
-        let right_epoch = (kind == CLIENT_HELLO || kind == SERVER_HELLO) == (epoch == 0);
-        if !right_epoch || length > 16_384 || three(9) != piece.len() || offset + piece.len() > length {
-            return Piece::Bad;
-        }
-        if number < self.next {
-            return Piece::Old;
-        }
-        if number - self.next > 8 {
-            return Piece::Bad;
-        }
-        let fresh = || Partial { kind, body: vec![0; length], have: vec![false; length] };
-        let partial = self.partial.entry(number).or_insert_with(fresh);
-        if partial.kind != kind || partial.body.len() != length {
-            *partial = fresh();
-        }
-        partial.body[offset..][..piece.len()].copy_from_slice(piece);
-        partial.have[offset..][..piece.len()].fill(true);
-        Piece::New
-    }
-
-    /// The type of the next message, if it is whole.
-    fn next(&mut self) -> Option<u8> {
-        let partial = self.partial.get(&self.next)?;
-        if !partial.have.iter().all(|have| *have) {
-            return None;
-        }
-        let partial = self.partial.remove(&self.next)?;
-        if partial.body.len() < 8 || sum(partial.kind, &partial.body[8..]) != partial.body[..8] {
-            // A piece in plaintext was changed on the way: it comes again.
-            return None;
-        }
-        self.next += 1;
-        Some(partial.kind)
-    }
-}
+use crate::messages::{body, Brought, Message, Messages, CERTIFICATE, CLIENT_HELLO, EXTENSIONS, FINISHED, SERVER_HELLO, VERIFY};
 
 /// When to send again: the time doubles.
 pub struct Timer {
@@ -126,10 +42,15 @@ enum State {
     Done,
 }
 
+/// Records kept that came too early: as many as a flight has.
+const EARLY: usize = 12;
+
 pub struct Handshake {
     is_post: bool,
     state: State,
-    pieces: Pieces,
+    messages: Messages,
+    /// Contents of records with pieces of later messages, given again when a message is whole.
+    early: Vec<Vec<u8>>,
     timer: Timer,
     /// A piece came since the last flight or ACK.
     partly: bool,
@@ -141,7 +62,8 @@ impl Handshake {
             end.begin_flight();
             end.message(CLIENT_HELLO, &body(CLIENT_HELLO, 420));
         }
-        Handshake { is_post, state: State::Hello, pieces: Pieces::default(), timer: Timer::new(), partly: false }
+        let messages = Messages::new(if is_post { SERVER_HELLO } else { CLIENT_HELLO });
+        Handshake { is_post, state: State::Hello, messages, early: Vec::new(), timer: Timer::new(), partly: false }
     }
 
     pub fn is_done(&self) -> bool {
@@ -160,21 +82,59 @@ impl Handshake {
             }
             return;
         }
-        if record.content_type != HANDSHAKE {
+        // In plaintext until there are keys, and sealed from then on: anyone can have written a record in plaintext.
+        if record.content_type != HANDSHAKE || (record.epoch == 0) != (self.state == State::Hello) {
             return;
         }
-        match self.pieces.add(record.epoch, &record.content) {
-            Piece::Bad => return,
-            Piece::Old => self.old(end, record),
-            Piece::New => {
-                self.partly = true;
-                if record.epoch >= 2 {
-                    end.note(record);
+        let brought = self.give(end, record.epoch, &record.content);
+        let is_kept = !brought.refused && (!brought.early || self.keep(record));
+        if is_kept && (brought.new || brought.same || brought.early) {
+            self.partly = true;
+            if record.epoch >= 2 {
+                end.note(record);
+            }
+        } else if is_kept && brought.old {
+            self.old(end, record);
+        }
+        self.whole(end, brought.messages);
+    }
+
+    /// Puts messages together. Of one in plaintext that is wrong nothing is kept: it comes again.
+    fn give(&mut self, end: &mut End, epoch: u16, content: &[u8]) -> Brought {
+        let mut brought = self.messages.give(epoch, content);
+        if brought.wrong && epoch >= 2 {
+            end.must(Err("a sealed message came out other than it was sent"))
+        }
+        if brought.wrong {
+            brought.messages.clear();
+        }
+        brought
+    }
+
+    /// Keeps a record with pieces of later messages. One that finds no room is not acknowledged, and so it is sent again.
+    fn keep(&mut self, record: &Record) -> bool {
+        let is_held = self.early.contains(&record.content);
+        let has_room = record.epoch >= 2 && self.early.len() < EARLY;
+        if !is_held && has_room {
+            self.early.push(record.content.clone());
+        }
+        is_held || has_room
+    }
+
+    /// Acts on messages that are whole, and on those that become it by what came too early.
+    fn whole(&mut self, end: &mut End, mut messages: Vec<Message>) {
+        while !messages.is_empty() {
+            for message in std::mem::take(&mut messages) {
+                end.say(format_args!("m {}", message.pieces));
+                self.message(end, message.kind);
+            }
+            for content in std::mem::take(&mut self.early) {
+                let brought = self.give(end, 2, &content);
+                messages.extend(brought.messages);
+                if brought.early {
+                    self.early.push(content);
                 }
             }
-        }
-        while let Some(kind) = self.pieces.next() {
-            self.message(end, kind);
         }
     }
 

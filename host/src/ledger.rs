@@ -45,6 +45,9 @@ pub struct Ledger {
     pub read: usize,
     pub plaintext: usize,
     pub unopened: usize,
+    /// Handshake messages that were put together, and their pieces.
+    pub messages: usize,
+    pub pieces: usize,
     pub dropped: [usize; 24],
 }
 
@@ -90,6 +93,10 @@ impl Ledger {
             "k" => self.events.extend(words.next().and_then(|epoch| epoch.parse().ok()).map(Event::Keyed)),
             "p" => self.plaintext += 1,
             "u" => self.unopened += 1,
+            "m" => {
+                self.messages += 1;
+                self.pieces += words.next().and_then(|n| n.parse().ok()).unwrap_or(0);
+            }
             "x" => {
                 let reason: usize = words.next().and_then(|n| n.parse().ok()).unwrap_or(0);
                 self.dropped[reason.min(23)] += 1;

@@ -8,6 +8,7 @@ mod gateway;
 mod handshake;
 mod ledger;
 mod link;
+mod messages;
 mod meter;
 mod options;
 mod page;

@@ -129,6 +129,8 @@ impl Page<'_> {
     fn readings(&self, f: &mut fmt::Formatter<'_>) -> fmt::Result {
         self.row(f, "records read in plaintext", |way| way.readings.plaintext)?;
         self.row(f, "sealed records read before encryption", |way| way.readings.unopened)?;
+        self.row(f, "handshake messages put together", |way| way.readings.messages)?;
+        self.row(f, "  from so many pieces", |way| way.readings.pieces)?;
         let [up, down] = [&self.0.post_to_gateway.readings, &self.0.gateway_to_post.readings];
         for (refusal, reason) in REASONS.iter().enumerate() {
             let [a, b] = [up, down].map(|readings| readings.dropped_by(refusal));

@@ -80,6 +80,9 @@ pub struct Records {
 pub struct Readings {
     pub plaintext: usize,
     pub unopened: usize,
+    /// Handshake messages put together, and the pieces that they were put together from.
+    pub messages: usize,
+    pub pieces: usize,
     pub doubles: usize,
     pub too_late: usize,
     /// By refusal: how often.
@@ -134,6 +137,8 @@ impl Way {
             readings: Readings {
                 plaintext: ledger.plaintext,
                 unopened: ledger.unopened,
+                messages: ledger.messages,
+                pieces: ledger.pieces,
                 doubles: account.doubles,
                 too_late: account.late,
                 dropped: dropped.map(|(refusal, count)| Dropped { refusal, count: *count }).collect(),
@@ -203,12 +208,15 @@ mod tests {
     use crate::link::{Datagram, Kind, Sent};
     use crate::page::Page;
 
-    /// A run of one meter record of 14 Wh, which was handed over.
+    /// A run of one meter record of 14 Wh, which was handed over, after two handshake messages.
     fn report(ending: Ending) -> Report {
         let mut up = Ledger::default();
         up.seals(&mut meter_record(0).split_ascii_whitespace());
         up.reads("r", &mut meter_record(0).split_ascii_whitespace());
         up.reads("x", &mut "9".split_ascii_whitespace());
+        for pieces in ["1", "3"] {
+            up.reads("m", &mut pieces.split_ascii_whitespace());
+        }
         report_of(up, &["--records", "1"], ending)
     }
 
@@ -286,6 +294,16 @@ mod tests {
         }
         assert_eq!(row(&report(Ending::Ended), LOWEST).unwrap(), ["0", "none"]);
         assert_eq!(row(&report(Ending::Ended), LOST_FIRST), None);
+    }
+
+    #[test]
+    fn the_page_says_how_many_messages_were_put_together() {
+        let report = report(Ending::Ended);
+        let json: Value = serde_json::from_str(&report.json()).expect("JSON");
+        assert_eq!(row(&report, "handshake messages put together").unwrap(), ["2", "0"]);
+        assert_eq!(row(&report, "from so many pieces").unwrap(), ["4", "0"]);
+        let readings = &json["post_to_gateway"]["readings"];
+        assert_eq!((readings["messages"].clone(), readings["pieces"].clone()), (2.into(), 4.into()));
     }
 
     #[test]

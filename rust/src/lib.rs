@@ -4,8 +4,8 @@
 //! crate is a safe interface over its C functions. The host keeps keys, cipher, timers and sockets; the library keeps record numbers,
 //! IVs, replay windows and the queue. No thread, no input or output, and no allocation but for the memory of `Sender::new`.
 //!
-//! A [`Sender`] and a [`Receiver`] are the two directions of one end. A [`Cipher`] answers the library's questions. A record from one
-//! end to the other:
+//! A [`Sender`] and a [`Receiver`] are the two directions of one end, an [`Assembly`] puts handshake messages together. A [`Cipher`]
+//! answers the library's questions. A record from one end to the other:
 //!
 //! ```
 //! use huskelapse::{content_type, Reading, Receiver, Refusal, Sender};
@@ -64,6 +64,7 @@
 #[cfg(feature = "alloc")]
 extern crate alloc;
 
+mod assembly;
 mod cipher;
 mod error;
 #[cfg(feature = "openssl")]
@@ -72,6 +73,7 @@ mod receiver;
 mod refusal;
 mod sender;
 
+pub use assembly::{Assembly, Piece, Pieces};
 pub use cipher::{Cipher, CipherError};
 pub use error::{Error, SealFailed};
 pub use receiver::{Reading, Readings, Receiver};
@@ -82,7 +84,7 @@ pub use sender::{Acked, Sender, Status};
 pub mod content_type {
     /// An alert.
     pub const ALERT: u8 = 21;
-    /// A piece of a handshake message.
+    /// Pieces of handshake messages.
     pub const HANDSHAKE: u8 = 22;
     /// Application data, in sealed records only.
     pub const APPLICATION_DATA: u8 = 23;

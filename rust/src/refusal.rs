@@ -1,7 +1,7 @@
 use core::error::Error;
 use core::fmt;
 
-/// Why a call is refused, a record dropped or a datagram ended, with the specification's numbers.
+/// Why a call is refused, a record dropped, a datagram or a record's pieces ended, with the specification's numbers.
 ///
 /// ```
 /// use huskelapse::Refusal;
@@ -63,10 +63,15 @@ pub enum Refusal {
     /// 23: the front datagram is not wholly sealed, four application epochs are keyed to receive, or a sealing waits under the
     /// application epoch that would be replaced.
     Waiting,
+    /// 24: a piece of a message runs past its own total, that of the first piece or its record, its total is over 16,384, or the message
+    /// numbers are spent; the record ends there.
+    BadPiece,
+    /// 25: a fifty-first different piece of one message; the record ends there.
+    TooManyPieces,
 }
 
 impl Refusal {
-    /// The specification's number, 1 to 23.
+    /// The specification's number, 1 to 25.
     pub fn number(self) -> u8 {
         match self {
             Refusal::DatagramTooLong => 1,
@@ -92,6 +97,8 @@ impl Refusal {
             Refusal::MessagesSpent => 21,
             Refusal::ResendsSpent => 22,
             Refusal::Waiting => 23,
+            Refusal::BadPiece => 24,
+            Refusal::TooManyPieces => 25,
         }
     }
 
@@ -121,6 +128,8 @@ impl Refusal {
             21 => Refusal::MessagesSpent,
             22 => Refusal::ResendsSpent,
             23 => Refusal::Waiting,
+            24 => Refusal::BadPiece,
+            25 => Refusal::TooManyPieces,
             _ => panic!("the library refuses by {number}, it is of another version than this crate"),
         }
     }
@@ -161,7 +170,7 @@ impl fmt::Display for Refusal {
             Refusal::OutOfRange => "a setting or a state is out of its range, or a buffer too short for it",
             Refusal::BadEpoch => "the epoch cannot be used so",
             Refusal::BadRecord => "the type is not allowed, the body over 16,384 bytes or the record over the MTU",
-            Refusal::NoQuestion => "the reply answers no waiting question or has the wrong length",
+            Refusal::NoQuestion => "the reply answers no waiting question, or it or a handshake record has the wrong length",
             Refusal::BufferTooSmall { needed } => {
                 return write!(f, "refusal 16: the buffer is too small, {needed} bytes are needed");
             }
@@ -172,6 +181,10 @@ impl fmt::Display for Refusal {
             Refusal::MessagesSpent => "the message numbers are spent",
             Refusal::ResendsSpent => "a record was sent again 32 times",
             Refusal::Waiting => "a sealing still waits, or four application epochs are keyed to receive",
+            Refusal::BadPiece => {
+                "a piece runs past its message or its record, its total is over 16,384 bytes, or the message numbers are spent"
+            }
+            Refusal::TooManyPieces => "the message has more than 50 different pieces",
         };
         write!(f, "refusal {}: {words}", self.number())
     }

@@ -1,4 +1,7 @@
-//! The crate beside the C header: one version, and every function that the library has is declared in sys/src/lib.rs.
+//! The crate beside the C header: one version, every function that the library has is declared in sys/src/lib.rs, and each refusal has the
+//! header's text.
+
+use huskelapse::Refusal;
 
 const HEADER: &str = include_str!("../../include/huskelapse.h");
 const CALLS: &str = include_str!("../sys/src/lib.rs");
@@ -36,4 +39,45 @@ fn every_function_is_declared() {
     library.sort_unstable();
     assert!(library.len() > 20);
     assert_eq!(declared, library);
+}
+
+#[test]
+fn each_refusal_has_the_headers_text() {
+    let list = HEADER.split_once("text[] = {\n").and_then(|(_, rest)| rest.split_once("};")).unwrap().0;
+    let texts: Vec<&str> = list.lines().filter_map(|line| line.trim().strip_prefix('"')?.strip_suffix("\",")).collect();
+    let refusals = [
+        Refusal::DatagramTooLong,
+        Refusal::Truncated,
+        Refusal::TooManyReadings,
+        Refusal::BadPlaintext,
+        Refusal::BeforeEncryption,
+        Refusal::NoKeys,
+        Refusal::TooShort,
+        Refusal::NumberTooLarge,
+        Refusal::NotFresh,
+        Refusal::NotOpened,
+        Refusal::NoContentType,
+        Refusal::OutOfRange,
+        Refusal::BadEpoch,
+        Refusal::BadRecord,
+        Refusal::NoQuestion,
+        Refusal::BufferTooSmall { needed: 74 },
+        Refusal::KeysAbsent,
+        Refusal::FlightFull,
+        Refusal::QueueFull,
+        Refusal::NumbersSpent,
+        Refusal::MessagesSpent,
+        Refusal::ResendsSpent,
+        Refusal::Waiting,
+        Refusal::BadPiece,
+        Refusal::TooManyPieces,
+    ];
+    assert_eq!(texts.len(), 1 + refusals.len());
+    for (number, refusal) in (1..).zip(refusals) {
+        assert_eq!(refusal.number(), number);
+        // 16 says besides how many bytes are needed.
+        if number != 16 {
+            assert_eq!(refusal.to_string(), format!("refusal {number}: {}", texts[usize::from(number)]));
+        }
+    }
 }

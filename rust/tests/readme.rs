@@ -1,12 +1,13 @@
-//! The Rust program in the repository's README.md is examples/readme.rs, and it runs.
+//! The Rust program in the repository's README.md is examples/readme.rs, the function behind it readme/messages.rs, and they run.
 
 const README: &str = include_str!("../../README.md");
 const EXAMPLE: &str = include_str!("../examples/readme.rs");
+const MESSAGES: &str = include_str!("readme/messages.rs");
 
 #[test]
-fn the_readme_shows_the_example() {
+fn the_readme_shows_the_examples() {
     let shown: Vec<&str> = README.split("```rust\n").skip(1).filter_map(|rest| rest.split("```").next()).collect();
-    assert_eq!(shown, [EXAMPLE]);
+    assert_eq!(shown, [EXAMPLE, MESSAGES]);
 }
 
 #[cfg(feature = "openssl")]
@@ -16,5 +17,47 @@ mod example {
     #[test]
     fn it_runs() {
         main().unwrap();
+    }
+}
+
+#[cfg(feature = "alloc")]
+mod toy;
+
+#[cfg(feature = "alloc")]
+mod messages {
+    include!("readme/messages.rs");
+
+    use super::toy::Toy;
+    use huskelapse::{Receiver, Sender};
+
+    /// A message in plaintext, then one of two sealed records, the second read first. Plaintext behind encryption is not looked at.
+    #[test]
+    fn it_puts_messages_together() {
+        let body: Vec<u8> = (0..1000).map(|i| (i % 251) as u8).collect();
+        let mut sender = Sender::new(600, 4).unwrap();
+        sender.message(2, b"hello").unwrap();
+        let mut hello = sender.take_in_place().unwrap().unwrap().to_vec();
+        sender.key(2, &[7; 12]).unwrap();
+        sender.message(11, &body).unwrap();
+        sender.seal(&mut Toy(5)).unwrap();
+        let [mut first, mut second] = [0; 2].map(|_| sender.take_in_place().unwrap().unwrap().to_vec());
+        // A stranger's piece of message 1, with a total of no bytes.
+        let mut forged = [&[22, 254, 253, 0, 0, 0, 0, 0, 0, 0, 9, 0, 12, 11, 0, 0, 0, 0, 1][..], &[0; 6]].concat();
+        let mut receiver = Receiver::new(Receiver::MIN_PROTECTED).unwrap();
+        receiver.key(2, &[7; 12]).unwrap();
+        let (mut assembly, mut buffer, mut acted) = (Assembly::new(), [0; Assembly::MESSAGE_ROOM], Vec::new());
+        let mut read = |receiver: &mut Receiver, datagram: &mut [u8], encrypted: bool| {
+            for reading in receiver.read(datagram, &mut Toy(5)).unwrap() {
+                put_together(reading, encrypted, &mut assembly, &mut buffer, |msg_type, body| acted.push((msg_type, body.to_vec())))
+                    .unwrap();
+            }
+            acted.clone()
+        };
+        let expected = [(2, b"hello".to_vec()), (11, body)];
+        assert_eq!(read(&mut receiver, &mut hello, false), expected[..1]);
+        receiver.enable_peer_encryption();
+        assert_eq!(read(&mut receiver, &mut forged, true), expected[..1]);
+        assert_eq!(read(&mut receiver, &mut second, true), expected[..1]);
+        assert_eq!(read(&mut receiver, &mut first, true), expected);
     }
 }

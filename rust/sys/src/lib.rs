@@ -38,12 +38,21 @@ pub const TAKE_REFUSED: u8 = 0;
 pub const TAKE_EMPTY: u8 = 1;
 pub const TAKE_TAKEN: u8 = 2;
 
+pub const PIECE_REFUSED: u8 = 0;
+pub const PIECE_END: u8 = 1;
+pub const PIECE_OTHER: u8 = 2;
+pub const PIECE_SAME: u8 = 3;
+pub const PIECE_HELD: u8 = 4;
+pub const PIECE_MESSAGE: u8 = 5;
+
 /// Bytes of a tag.
 pub const TAG: usize = 16;
 /// Records that a flight has at most.
 pub const FLIGHT: usize = 12;
 /// Records that are noted at most.
 pub const NOTES: usize = 32;
+/// Bytes of the buffer that a message is put together in.
+pub const MESSAGE_ROOM: usize = 16_384;
 
 const FLIGHT_WORDS: usize = 73;
 const FLIGHT_NUMBERS: usize = 384;
@@ -73,6 +82,12 @@ pub struct Notes {
     pub count: [u64; 1],
     pub epochs: [u64; NOTES],
     pub numbers: [u64; NOTES],
+}
+
+#[repr(C)]
+#[derive(Clone, Debug, PartialEq, Eq)]
+pub struct Assembly {
+    pub word: [u64; 106],
 }
 
 #[repr(C)]
@@ -151,14 +166,24 @@ pub struct Saved {
     pub unacknowledged: u8,
 }
 
+#[repr(C)]
+#[derive(Clone, Copy, Debug, PartialEq, Eq)]
+pub struct Piece {
+    pub kind: u8,
+    pub refusal: u8,
+    pub msg_type: u8,
+    pub number: u16,
+    pub length: usize,
+}
+
 // The layout that include/layout.c asserts of the header.
 #[cfg(target_pointer_width = "64")]
 const _: () = {
     assert!(size_of::<Receiving>() == 312 && size_of::<Sending>() == 312);
-    assert!(size_of::<Flight>() == 3656 && size_of::<Notes>() == 520);
+    assert!(size_of::<Flight>() == 3656 && size_of::<Notes>() == 520 && size_of::<Assembly>() == 848);
     assert!(size_of::<Told>() == 2 && size_of::<Acked>() == 4 && size_of::<Saved>() == 3);
     assert!(size_of::<Reading>() == 56 && size_of::<Sealing>() == 56);
-    assert!(size_of::<Take>() == 16 && size_of::<Part>() == 24 && size_of::<Queued>() == 16);
+    assert!(size_of::<Take>() == 16 && size_of::<Part>() == 24 && size_of::<Queued>() == 16 && size_of::<Piece>() == 16);
 };
 
 unsafe extern "C" {
@@ -250,6 +275,10 @@ unsafe extern "C" {
         queue: *mut u8,
         queue_len: usize,
     ) -> Told;
+
+    fn husk_assembly_init(s: *mut Assembly);
+    fn husk_assembly_begin(s: *mut Assembly, n: usize) -> u8;
+    fn husk_assembly_take(s: *mut Assembly, content: *const u8, content_len: usize, buffer: *mut u8, buffer_len: usize) -> Piece;
 }
 
 // SAFETY of every block below but those of Datagram: the pointers and lengths are those of the references and slices that the function
@@ -552,5 +581,25 @@ impl Notes {
     #[inline]
     pub fn send(&mut self, s: &mut Sending, queue: &mut [u8]) -> Told {
         unsafe { husk_notes_send_words(s, &mut self.count, &mut self.epochs, &mut self.numbers, queue.as_mut_ptr(), queue.len()) }
+    }
+}
+
+impl Assembly {
+    /// Words that no call made.
+    pub const BLANK: Assembly = Assembly { word: [0; 106] };
+
+    #[inline]
+    pub fn init(&mut self) {
+        unsafe { husk_assembly_init(self) }
+    }
+
+    #[inline]
+    pub fn begin(&mut self, n: usize) -> u8 {
+        unsafe { husk_assembly_begin(self, n) }
+    }
+
+    #[inline]
+    pub fn take(&mut self, content: &[u8], buffer: &mut [u8]) -> Piece {
+        unsafe { husk_assembly_take(self, content.as_ptr(), content.len(), buffer.as_mut_ptr(), buffer.len()) }
     }
 }
