@@ -388,7 +388,7 @@ enum {
                                record is left out, and what was held stays */
     HUSK_PIECE_END = 1,     /* the record has no more pieces */
     HUSK_PIECE_OTHER = 2,   /* a piece of another message, passed over: number; one above those handed over has to come again */
-    HUSK_PIECE_SAME = 3,    /* a piece with the offset and length of one held: nothing has changed */
+    HUSK_PIECE_SAME = 3,    /* a piece with the offset and length of one held, passed over */
     HUSK_PIECE_HELD = 4,    /* a piece of the message, which is not whole yet */
     HUSK_PIECE_MESSAGE = 5  /* the message is whole: msg_type, number; its body is the first length bytes of the buffer */
 };
