@@ -13,7 +13,7 @@ enum { ROOM = 1200, MOST_QUESTIONS = 16 };
 
 static const uint8_t iv[12] = {1, 2, 3, 4, 5, 6, 7, 8, 9, 10, 11, 12};
 static const uint8_t text[] = "14.2 kWh";
-static unsigned questions, used;
+static unsigned questions, used, hung_up;
 static const char *told;
 /* What the cipher answers where the tag is wrong: 0, or what is left of a -1. */
 static uint8_t wrong_tag = 0;
@@ -83,10 +83,16 @@ static int seal_in_place(uint16_t epoch, const uint8_t *nonce, const uint8_t *he
 
 /* ---- the host */
 
-static void use(uint8_t content_type, const uint8_t *content, size_t n)
+static void use(const uint8_t *content, size_t n)
 {
-    need(content_type == HUSK_APPLICATION_DATA && n == sizeof text && memcmp(content, text, n) == 0, "another record than was sent");
+    need(n == sizeof text && memcmp(content, text, n) == 0, "another record than was sent");
     used++;
+}
+
+static void hang_up(uint8_t description)
+{
+    need(description == 0, "another alert than was sent");
+    hung_up++;
 }
 
 static void tell(const char *refusal)
@@ -96,6 +102,10 @@ static void tell(const char *refusal)
 
 static void read_example(uint8_t *d, size_t n)
 {
+    HuskSending t;
+    HuskFlight f;
+    need(husk_sending_init(&t, 1200, 1) == HUSK_DONE, "no sending side");
+    husk_flight_init(&f);
 #include "reading.inc"
 }
 
@@ -116,11 +126,33 @@ static void check_reading(const uint8_t *d, size_t n, size_t at, uint8_t change,
     uint8_t copy[ROOM];
     memcpy(copy, d, n);
     copy[at] ^= change;
-    questions = used = 0;
+    questions = used = hung_up = 0;
     told = NULL;
     read_example(copy, n);
+    need(hung_up == 0, "a close is told that was not sent");
     need(used == times, times == 0 ? "a record is used that was not opened" : "the record is not used");
     need(refusal == NULL || (told != NULL && strcmp(told, refusal) == 0), "the refusal is not told");
+}
+
+/* A close in a sealed record, then in plaintext, which anyone can write. */
+static void check_close(void)
+{
+    static const uint8_t close[] = {1, 0};
+    static uint8_t queue[ROOM], forged[] = {HUSK_ALERT, 0xFE, 0xFD, 0, 0, 0, 0, 0, 0, 0, 0, 0, 2, 1, 0};
+    HuskSending s;
+    uint8_t mask[2], d[ROOM];
+    need(husk_sending_init(&s, ROOM, 1) == HUSK_DONE && husk_sending_key(&s, 3, iv) == HUSK_DONE, "no sending side");
+    need(husk_sending_send(&s, 3, HUSK_ALERT, close, sizeof close, queue, sizeof queue) == HUSK_DONE, "no close is queued");
+    HuskSealing q = husk_sending_sealing(&s);
+    seal_in_place(q.epoch, q.nonce, q.header, sizeof q.header, queue + q.start, q.length);
+    questions = used = hung_up = 0;
+    mask_of(q.epoch, queue + q.start, mask);
+    need(husk_sending_sealed_words(&s, q.length, mask[0], mask[1], queue, sizeof queue) == HUSK_DONE, "no close is sealed");
+    HuskTake t = husk_sending_take(&s, d, sizeof d, queue, sizeof queue);
+    read_example(d, t.length);
+    need(used == 0 && hung_up == 1, "a close is not told");
+    read_example(forged, sizeof forged);
+    need(used == 0 && hung_up == 1, "a close in plaintext is told");
 }
 
 /* ---- a message until it is acknowledged, and the ACK */
@@ -217,6 +249,7 @@ int main(void)
     need(told == NULL, "a refusal where nothing is refused");
     for (size_t at = 0; at < n; at++)
         check_reading(d, n, at, 0x40, 0, NULL);
+    check_close();
     wrong_tag = 255;
     check_reading(d, n, n - 1, 0x40, 0, husk_refusal_text(HUSK_OUT_OF_RANGE));
     seal_fails = 1;

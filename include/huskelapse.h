@@ -16,9 +16,10 @@
  * times mtu bytes; an opening reply above 1. Words are no state with a flag above 1; with more epochs, datagrams, readings, saved or noted
  * records than there can be; with a cursor, a question or a sealing that reaches beyond the datagram or its slot; with a question of no
  * kind or under an epoch that is not keyed; with a window or an opening question above number 2^48 - 1, or a sealing above 2^48 - 2; and a
- * HuskAssembly with a message number above 65,535, more than 50 pieces, a total above 16,384 or a place behind its record. What 12 does not
- * cover: whether words are those that the last call at this end left, whether a buffer is the one lent before, a next number to send that is
- * too high (20), epochs and the message number to send (read modulo 65,536), and words that a call does not use.
+ * HuskAssembly with a message number above 65,535, more than 50 pieces, a total above 16,384 or a place behind its record; and for
+ * husk_receiving_classify alone with a waiting reading of no kind. What 12 does not cover: whether words are those that the last call at this
+ * end left, whether a buffer is the one lent before, a next number to send that is too high (20), epochs and the message number to send (read
+ * modulo 65,536), and words that a call does not use.
  *
  * Refusals are listed with each call in the order in which they are tested; docs/SPECIFICATION.md has every test. */
 #ifndef HUSKELAPSE_H
@@ -32,9 +33,9 @@ extern "C" {
 #endif
 
 #define HUSK_VERSION_MAJOR 0
-#define HUSK_VERSION_MINOR 7
+#define HUSK_VERSION_MINOR 8
 #define HUSK_VERSION_PATCH 0
-#define HUSK_VERSION "0.7.0"
+#define HUSK_VERSION "0.8.0"
 
 /* ---- refusals */
 
@@ -125,16 +126,18 @@ typedef struct {
 
 /* ---- receiving */
 
-/* The receive side: epochs with their IVs and windows, the begun datagram, the question that waits. */
+/* The receive side: epochs with their IVs and windows, the begun datagram, the question that waits; and behind them the reading that waits
+ * to be dealt with, and the close. */
 typedef struct {
-    uint64_t word[39];
+    uint64_t word[39], pending[9];
 } HuskReceiving;
 
 enum {
     HUSK_READING_REFUSED = 0,   /* refusal 1, 12 or 15: nothing has changed */
     HUSK_READING_END = 1,       /* the datagram ends; refusal 0, 2 or 3 */
     HUSK_READING_DROPPED = 2,   /* one record is dropped; refusal 4 to 11 */
-    HUSK_READING_PLAINTEXT = 3, /* content_type, number; content at start, length bytes. Anyone can have written it */
+    HUSK_READING_PLAINTEXT = 3, /* content_type, number; content at start, length bytes. Anyone can have written it. Readings 3, 4 and 5 are
+                                   what husk_receiving_classify deals with */
     HUSK_READING_UNOPENED = 4,  /* before peer encryption: epoch (its two bits), number (its bytes as they lie, masked); protected part
                                    at start, length bytes */
     HUSK_READING_OPENED = 5,    /* epoch, number, content_type; content at start, length bytes */
@@ -153,39 +156,59 @@ typedef struct {
     uint8_t nonce[12];
 } HuskReading;
 
-/* Nothing keyed, no datagram begun, whatever stood in the words. A protected part has at least 16 and at least min_protected bytes, 0 to
- * 17: give 17 (a content type and the tag) for AES-GCM and ChaCha20-Poly1305; 16 lets a record without a content type come to the cipher,
- * as the Rust does. Refused by 12, and then so is every call on it. */
-uint8_t husk_receiving_init(HuskReceiving *s, size_t min_protected);
+/* Functions of the library over the two parts of a HuskReceiving: hosts call the inline functions below, which take one pointer. */
+uint8_t husk_receiving_init_words(uint64_t word[39], uint64_t pending[9], size_t min_protected);
+uint8_t husk_receiving_begin_words(uint64_t word[39], uint64_t pending[9], size_t n);
+HuskReading husk_receiving_read_words(uint64_t word[39], uint64_t pending[9], uint8_t *d, size_t n);
+HuskReading husk_receiving_begin_read_words(uint64_t word[39], uint64_t pending[9], uint8_t *d, size_t n);
+HuskReading husk_receiving_opened_words(uint64_t word[39], uint64_t pending[9], uint8_t opened, size_t length, const uint8_t *d, size_t n);
+
+/* Nothing keyed, no datagram begun, no close, whatever stood in the words. A protected part has at least 16 and at least min_protected
+ * bytes, 0 to 17: give 17 (a content type and the tag) for AES-GCM and ChaCha20-Poly1305; 16 lets a record without a content type come to the
+ * cipher, as the Rust does. Refused by 12, and then so is every call on it. */
+static inline uint8_t husk_receiving_init(HuskReceiving *s, size_t min_protected) {
+    return husk_receiving_init_words(s->word, s->pending, min_protected);
+}
 /* Keys an epoch to receive, 2 or above and above every earlier one, with its IV. Refused by 12, 13, 23. */
 uint8_t husk_receiving_key(HuskReceiving *s, uint16_t epoch, const uint8_t iv[12]);
 /* Removes an epoch that is keyed. told is 1 where a question waited under it: its record is dropped, and the cut goes on behind it.
  * Refused by 12, 13. */
 HuskTold husk_receiving_remove(HuskReceiving *s, uint16_t epoch);
-/* From the next record read on sealed records are opened. This is not undone. Plaintext records are handed over as before, and anyone can
- * have written them: a host acts on none of them then. Refused by 12. */
+/* From the next record read on sealed records are opened. This is not undone. Plaintext records are read as before, and anyone can have
+ * written them: husk_receiving_classify drops them from now on. Refused by 12. */
 uint8_t husk_receiving_enable_encryption(HuskReceiving *s);
 /* From the next record read on epoch bits 2 mean an application epoch (6, 10, ..) before they mean epoch 2. It holds no data back or lets
  * it go: records of application epochs are handed over as soon as these are keyed. This is not undone. Refused by 12. */
 uint8_t husk_receiving_release_application_data(HuskReceiving *s);
 
-/* One record after the other: read; where asked, mask; where asked, opened. The same datagram, of the length begun, goes into each
- * call. d is not const where a call may write the number bytes of a record (mask does; read and begin_read will for epochs whose masks
- * the library makes itself). */
+/* One record after the other: read; where asked, mask; where asked, opened; and for what is read husk_receiving_classify, which says where
+ * it goes. The same datagram, of the length begun, goes into each call. d is not const where a call may write the number bytes of a record
+ * (mask does; read and begin_read will for epochs whose masks the library makes itself). */
 
 /* Begins a datagram of n bytes; a question that waits is cancelled. Refused by 12, 1. */
-uint8_t husk_receiving_begin(HuskReceiving *s, size_t n);
+static inline uint8_t husk_receiving_begin(HuskReceiving *s, size_t n) {
+    return husk_receiving_begin_words(s->word, s->pending, n);
+}
+
 /* The next record, or the question that waits again. Refused by 12, 15; ended by 2, 3; dropped by 4, 5, 6, 7. */
-HuskReading husk_receiving_read(HuskReceiving *s, uint8_t *d, size_t n);
+static inline HuskReading husk_receiving_read(HuskReceiving *s, uint8_t *d, size_t n) {
+    return husk_receiving_read_words(s->word, s->pending, d, n);
+}
+
 /* Begins a datagram and reads its first record in one call; a refused beginning is kind 0 with 1 or 12. Else as husk_receiving_read. */
-HuskReading husk_receiving_begin_read(HuskReceiving *s, uint8_t *d, size_t n);
+static inline HuskReading husk_receiving_begin_read(HuskReceiving *s, uint8_t *d, size_t n) {
+    return husk_receiving_begin_read_words(s->word, s->pending, d, n);
+}
+
 /* The reply to HUSK_READING_MASK: the first two bytes of the mask, XORed onto the number bytes in place (onto one byte the first alone).
  * Refused by 12, 15; dropped by 8, 9. */
 HuskReading husk_receiving_mask(HuskReceiving *s, uint8_t mask_0, uint8_t mask_1, uint8_t *d, size_t n);
 /* The reply to HUSK_READING_OPENING. opened is exactly 1 if the host put the plaintext, length bytes (16 fewer than the protected part),
  * at the start of the protected part, and exactly 0 if the tag was wrong; anything else is 12, and the question waits on. Refused by
  * 12, 15; ended by 3; dropped by 10, 11. */
-HuskReading husk_receiving_opened(HuskReceiving *s, uint8_t opened, size_t length, const uint8_t *d, size_t n);
+static inline HuskReading husk_receiving_opened(HuskReceiving *s, uint8_t opened, size_t length, const uint8_t *d, size_t n) {
+    return husk_receiving_opened_words(s->word, s->pending, opened, length, d, n);
+}
 
 /* ---- sending */
 
@@ -340,10 +363,11 @@ static inline HuskTold husk_flight_resend(HuskFlight *f, HuskSending *s, const u
     return husk_flight_resend_words(s, f->word, f->numbers, kept, kept_len, queue, queue_len);
 }
 
-/* Acts on an ACK with this content, of a reading HUSK_READING_OPENED of type HUSK_ACK and no other: anyone can write a plaintext one. It
- * marks the saved records that it names. The flight empties if it has records of epoch 2 and all of these are marked, and records of other
- * epochs go with it, acknowledged or not: save those in a flight of their own. A content without the form of an ACK marks nothing and is
- * not refused. s is not used until the release in which keys are renewed. Refused by 12. */
+/* Acts on an ACK with this content, of a reading HUSK_READING_OPENED of type HUSK_ACK and no other: anyone can write a plaintext one.
+ * husk_receiving_classify does this with each ACK for the flight that it is given: call this for a second flight alone, with the content of
+ * HUSK_CLASS_ACK. It marks the saved records that it names. The flight empties if it has records of epoch 2 and all of these are marked, and
+ * records of other epochs go with it, acknowledged or not: save those in a flight of their own. A content without the form of an ACK marks
+ * nothing and is not refused. s is not used until the release in which keys are renewed. Refused by 12. */
 static inline HuskAcked husk_flight_ack(HuskFlight *f, HuskSending *s, const uint8_t *content, size_t content_len) {
     (void)s;
     return husk_flight_ack_words(f->word, f->numbers, content, content_len);
@@ -352,6 +376,53 @@ static inline HuskAcked husk_flight_ack(HuskFlight *f, HuskSending *s, const uin
 /* What is saved and not acknowledged: with 0 unacknowledged a retransmission timer can stop. Refused by 12. */
 static inline HuskSaved husk_flight_status(const HuskFlight *f) {
     return husk_flight_status_words(f->word);
+}
+
+/* ---- where a reading goes */
+
+enum {
+    HUSK_CLASS_REFUSED = 0,          /* refusal 12 or 15: nothing has changed */
+    HUSK_CLASS_NOTHING = 1,          /* no reading waits to be dealt with */
+    HUSK_CLASS_BEYOND = 2,           /* dropped: beyond the close, in its epoch a higher number, or a higher epoch */
+    HUSK_CLASS_UNPROTECTED = 3,      /* dropped: in plaintext, and peer encryption is on */
+    HUSK_CLASS_IGNORED = 4,          /* nothing is done with it: an ACK in plaintext, alert 90, an alert under two bytes, a close after the
+                                        first, a record of type 20 */
+    HUSK_CLASS_ACK = 5,              /* an opened ACK, acted on: marked, unacknowledged and saved are as in HuskAcked */
+    HUSK_CLASS_CLOSE = 6,            /* the first alert 0: its place is remembered, and what lies beyond is dropped from now on */
+    HUSK_CLASS_ALERT = 7,            /* an alert with another description, and the datagram is over: the next read tells its end */
+    HUSK_CLASS_HANDSHAKE = 8,        /* for husk_assembly_begin. In plaintext only before peer encryption is on, and then anyone can have
+                                        written it */
+    HUSK_CLASS_APPLICATION_DATA = 9, /* an opened record of type HUSK_APPLICATION_DATA */
+    HUSK_CLASS_OTHER = 10,           /* an opened record of a type not named here */
+    HUSK_CLASS_UNOPENED = 11         /* a reading HUSK_READING_UNOPENED */
+};
+
+/* What became of a reading. From kind 2 on its content, or protected part, is at start, length bytes; other fields that a kind does not use
+ * are zeros. */
+typedef struct {
+    uint8_t kind, refusal, description, marked, unacknowledged, saved;
+    size_t start, length;
+} HuskClass;
+
+HuskClass husk_receiving_classify_words(uint64_t word[39], uint64_t pending[9], uint64_t flight[73], uint64_t numbers[384], const uint8_t *d,
+    size_t n);
+
+/* Deals with the reading that was told last, as the Rust's classify_record does: call it right after each reading of kind 3, 4 or 5, over the
+ * same datagram and before anything is written there. Each reading is dealt with once. One that is not dealt with before the next read or
+ * beginning is left behind: if it was an ACK it marks nothing, if it was a close nothing is dropped for it.
+ *
+ * A host acts on kinds 6 to 10, and on 5 by its timer; with 11 it may keep the record until its epoch is keyed. Kinds 2, 3 and 4 ask for
+ * nothing. After a close the host can still send, and records before the close that come late are told as ever. After an alert nothing more
+ * is read of its datagram: the records behind it are left out, and their numbers are not used. Before peer encryption is on closes and alerts
+ * in plaintext are told, too, and anyone can have written them. A plaintext alert 0 closes every sealed epoch then, as in the Rust: each
+ * sealed record is dropped, and a host that goes on begins anew with husk_receiving_init. An unopened record is held against the close by its
+ * epoch bits and its number bytes as they lie.
+ *
+ * f is the flight that ACKs are for. t is not used until the release in which keys are renewed. Refused by 12 (also where an ACK comes for a
+ * flight out of its range; it waits on), 15. */
+static inline HuskClass husk_receiving_classify(HuskReceiving *s, HuskFlight *f, HuskSending *t, const uint8_t *d, size_t n) {
+    (void)t;
+    return husk_receiving_classify_words(s->word, s->pending, f->word, f->numbers, d, n);
 }
 
 /* ---- ACKs */
@@ -405,9 +476,9 @@ typedef struct {
 /* Message 0 is expected and nothing is held, whatever stood in the words. */
 void husk_assembly_init(HuskAssembly *s);
 
-/* Begins a record of type HUSK_HANDSHAKE whose content has n bytes. What an earlier record had left is left out. Anyone can write a plaintext
- * record: once peer encryption is on give opened ones alone, and where the first message comes out wrong or not at all begin again with
- * husk_assembly_init, which expects message 0. Refused by 12. */
+/* Begins a record whose content has n bytes, a reading of HUSK_CLASS_HANDSHAKE. What an earlier record had left is left out. Anyone can write
+ * a plaintext record: a host that does not classify gives opened ones alone once peer encryption is on, and where the first message comes out
+ * wrong or not at all begin again with husk_assembly_init, which expects message 0. Refused by 12. */
 uint8_t husk_assembly_begin(HuskAssembly *s, size_t n);
 
 /* The next piece of the record begun, whose content is the same in every call: ask until HUSK_PIECE_END, 24 or 25. Messages come out whole,

@@ -18,8 +18,9 @@ SIZED(HuskTold, 2, 1);
 PLACED(HuskTold, refusal, 0, 1);
 PLACED(HuskTold, told, 1, 1);
 
-SIZED(HuskReceiving, 39 * 8, 8);
+SIZED(HuskReceiving, (39 + 9) * 8, 8);
 PLACED(HuskReceiving, word, 0, 39 * 8);
+PLACED(HuskReceiving, pending, 39 * 8, 9 * 8);
 
 SIZED(HuskReading, 56, 8);
 PLACED(HuskReading, kind, 0, 1);
@@ -75,6 +76,16 @@ SIZED(HuskSaved, 3, 1);
 PLACED(HuskSaved, refusal, 0, 1);
 PLACED(HuskSaved, saved, 1, 1);
 PLACED(HuskSaved, unacknowledged, 2, 1);
+
+SIZED(HuskClass, 24, 8);
+PLACED(HuskClass, kind, 0, 1);
+PLACED(HuskClass, refusal, 1, 1);
+PLACED(HuskClass, description, 2, 1);
+PLACED(HuskClass, marked, 3, 1);
+PLACED(HuskClass, unacknowledged, 4, 1);
+PLACED(HuskClass, saved, 5, 1);
+PLACED(HuskClass, start, 8, 8);
+PLACED(HuskClass, length, 16, 8);
 
 SIZED(HuskNotes, (1 + 32 + 32) * 8, 8);
 PLACED(HuskNotes, count, 0, 8);

@@ -8,11 +8,14 @@ use mathlib.Core.Path.{_≡_}
 use Rattle.base.specs.Bytes.{be, xors}
 use Rattle.base.specs.Parts.{part}
 use Rattle.send_keys.specs.Keys.{nextOf}
-use Rattle.history_theorem.specs.Claim.{Masks, Once, asHanded, nonceFor, Received}
-use Rattle.history_theorem.specs.Receiver.{Sealed}
+use Rattle.history_theorem.specs.Claim.{Masks, Once, asHanded, nonceFor, Due, Received}
+use Rattle.history_theorem.specs.Receiver.{Sealed, Tried}
 use Rattle.assembly_theorem.specs.Claim.{Assembled}
+use Rattle.classify_theorem.specs.Claim.{Classified}
+use Rattle.classify_theorem.specs.Rules.{Handled}
 use Rattle.assembly_theorem.specs.Rules.{Within}
 use Rattle.history_theorem.specs.Account.{sealedTail}
+use Rattle.ends_theorem.specs.Deals.{Deals}
 use Rattle.ends_theorem.specs.Flights.{handedAs, Arrived, Apart, Held}
 use Rattle.ends_theorem.specs.Ledger.{Kept, items, oldest}
 use Rattle.ends_theorem.specs.Sender.{Lent, AskedFor, sealedHeader, Taken}
@@ -53,6 +56,15 @@ pub record Holds (w : World) (s : Side) (e : ℕ) : Type 0 where
   pub assembled : Assembled (w s .pieces)
   -- each of at most 50 pieces, all of its number, and at most 16,384 bytes (crate assembly_theorem, Rules)
   pub within : Within (w s .pieces)
+  -- 02, 3: each reading was dealt with at most once, by its account: what it is told, its bytes, what waits, and what the host left behind; a datagram takes
+  -- at most 16 turns (crate classify_theorem, Claim)
+  pub classified : Classified (w s .dealings) (w s .into .into)
+  -- a record that was due is handed on by its type and content unless its place is beyond the first close; or its own host left it behind; or it waits. One
+  -- behind an alert that ended its datagram is not reached, and so not due
+  pub handed-on : (d : Tried) → Mem d (w s .into .into .tried) → (r : Sealed) → Due (d .trial) e r → Handled (w s .dealings) e r
+  -- and what dealing does besides is the contract's, and the account's: an ACK that is owed marks, an alert that is told ends the datagram, and nothing
+  -- else does either
+  pub deals : Deals (w (far s)) (w s)
   -- the state holds the account's flight, record by record, marked as there: none goes in another way than the account's
   pub flight-held : Held (w (far s) .mtu) (w (far s) .out .stores .flight) (w (far s) .out .stores .kept) 0 (w (far s) .ledger .saved)
   pub flight-whole : length (w (far s) .ledger .saved) ≡ w (far s) .out .stores .flight .saved

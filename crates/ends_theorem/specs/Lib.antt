@@ -27,6 +27,8 @@ pub mod Heard
 pub mod Every
 pub mod World
 pub mod Short
+pub mod Deals
+pub mod Dealt
 pub mod Claim
 pub mod Given
 pub mod Shown
@@ -34,3 +36,4 @@ pub mod Proof
 pub mod Status
 pub mod Example
 pub mod Pieces
+pub mod Dealing

@@ -21,6 +21,7 @@ pub record Apart (e x : End) : Type 0 where
   pub cleared : x .cleared ≡ e .cleared
   pub into : x .into ≡ e .into
   pub counts : x .counts ≡ e .counts
+  pub dealings : x .dealings ≡ e .dealings
 
 still : (e : End) (p : Piecing) → Apart e (puts e p)
 still e p = record {
@@ -35,6 +36,7 @@ still e p = record {
   cleared = refl;
   into = refl;
   counts = refl;
+  dealings = refl;
 }
 
 -- "they move no window and no number", at either end

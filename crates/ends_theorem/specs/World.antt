@@ -1,5 +1,5 @@
--- Two ends that talk: each sends, receives and puts handshake messages together, and each call gets state, queue, flight and datagram as the last
--- call at its end left them, refused or not.
+-- Two ends that talk: each sends, receives, deals with its readings and puts handshake messages together, and each call gets state, queue, flight and
+-- datagram as the last call at its end left them, refused or not.
 use Prim.Native.Nat.{ℕ}
 use lib.Dec.{eqb}
 use lib.ListN.{length}
@@ -13,9 +13,14 @@ use Rattle.sealing.specs.Sealing.{questionOf}
 use Rattle.taking.specs.Take.{takeAnswer, takeBuffer}
 use Rattle.waiting_laws.specs.Answers.{answered}
 use Rattle.waiting_laws.specs.Calls.{Stores, SendCall, keySend·, send·, save·, message·, beginFlight·, resend·, note·, sendAck·, ack·, fill·, sealed·, take·, stored, lending, Short, Reply}
-use Rattle.history_theorem.specs.Claim.{Masks, FairCall}
-use Rattle.history_theorem.specs.Receiver.{Inbound, newInbound, Call, key·, remove·, encrypt·, release·, begin·, read·, mask·, write·, open·, readOver·, maskOver·, openOver·, does}
+use Rattle.history_theorem.specs.Claim.{Masks, FairCall, OtherLength}
+use Rattle.history_theorem.specs.Receiver.{Inbound, newInbound, Call, key·, remove·, encrypt·, release·, begin·, read·, mask·, write·, open·, readOver·, maskOver·, openOver·, finish·, does}
 use Rattle.assembly_theorem.specs.Claim as assembly
+use Rattle.classify.specs.declared.Class.{Class}
+use Rattle.classify.specs.declared.Class.the-variants as class
+use Rattle.classify.specs.Classify.{contentOf}
+use Rattle.classify_theorem.specs.Account.{Verdict, turned, noneWaits, beyond, unprotected, ignored, marks, closes, tells, handshake, applicationData, other, unopened, owed as readingOwed}
+use Rattle.classify_theorem.specs.Claim as classify
 use Rattle.ends_theorem.specs.Flights.{FairNames}
 use Rattle.ends_theorem.specs.Ledger.{Kept, Ledger, newLedger, owed, after, sentBy, shortReply, clears}
 use Rattle.ends_theorem.specs.Sender.{Sender, newSender, sends, sendsOver, FairSend}
@@ -52,7 +57,7 @@ pub record Over : Type 0 where
   pub kept′ : List ℕ
 
 -- the MTU and the queue's limit it was created with, what it sends, the claim's account of it, what its calls were answered, the saved records that
--- went with a flight which an ACK emptied, what it receives, the counts of its readings, and its reassembly
+-- went with a flight which an ACK emptied, what it receives, the counts of its readings, what it did with these, and its reassembly
 pub record End : Type 0 where
   pub mtu : ℕ
   pub limit : ℕ
@@ -66,14 +71,18 @@ pub record End : Type 0 where
   pub cleared : List Kept
   pub into : Inbound
   pub counts : List Count
+  pub dealings : classify.Dealings
   pub pieces : assembly.Piecing
 
--- a sending call over this end's own memory, or over other memory that is too short; a receiving call; a call of reassembly
+-- a sending call over this end's own memory, or over other memory that is too short; a receiving call; a call of reassembly; the reading that waits is
+-- dealt with, over the begun datagram, or over bytes of another length
 pub data Deed : Type 0 where
   sending : SendCall → Deed
   over : SendCall → List ℕ → List ℕ → Deed
   receiving : Call → Deed
   piecing : assembly.PieceCall → Deed
+  dealing : Deed
+  dealingOver : List ℕ → Deed
 
 pub record Event : Type 0 where
   pub side : Side
@@ -88,8 +97,8 @@ World = Side → End
 abbrev pub counted : End → End → ℕ → List Count
 counted e e′ k = record { datagram = k; before = e .out .stores .state .keys; behind = e′ .out .stores .state .keys } ∷ e .counts
 
-abbrev pub takesIn : End → Inbound → List Count → End
-takesIn e i cs = record {
+abbrev pub takesIn : End → Inbound → List Count → classify.Dealings → End
+takesIn e i cs p = record {
   mtu = e .mtu;
   limit = e .limit;
   out = e .out;
@@ -101,6 +110,7 @@ takesIn e i cs = record {
   cleared = e .cleared;
   into = i;
   counts = cs;
+  dealings = p;
   pieces = e .pieces;
 }
 
@@ -118,7 +128,26 @@ puts e p = record {
   cleared = e .cleared;
   into = e .into;
   counts = e .counts;
+  dealings = e .dealings;
   pieces = p;
+}
+
+-- other dealings, and nothing else
+abbrev pub files : End → classify.Dealings → End
+files e p = record {
+  mtu = e .mtu;
+  limit = e .limit;
+  out = e .out;
+  ledger = e .ledger;
+  said = e .said;
+  took = e .took;
+  overs = e .overs;
+  given = e .given;
+  cleared = e .cleared;
+  into = e .into;
+  counts = e .counts;
+  dealings = p;
+  pieces = e .pieces;
 }
 
 abbrev pub countsBy : End → End → Call → List Count
@@ -134,6 +163,7 @@ countsBy e e′ (open· p) = counted e e′ (e .into .serial)
 countsBy e e′ (readOver· d) = counted e e′ (e .into .serial)
 countsBy e e′ (maskOver· m d) = counted e e′ (e .into .serial)
 countsBy e e′ (openOver· p d) = counted e e′ (e .into .serial)
+countsBy e e′ finish· = counted e e′ (e .into .serial)
 
 -- the host's writing is given, until a sealing reply is accepted
 abbrev pub givenIn : SealQuestion → List ℕ → Option (List ℕ) → Option (List ℕ)
@@ -189,41 +219,76 @@ oversBy w q k (sealed· n m) os = overOf w q k (sealed· n m) ∷ os
 oversBy w q k (take· b) os = overOf w q k (take· b) ∷ os
 
 -- a sending call: the records that the account then has as sent go into the books
-abbrev pub acts : End → End → Deed → End
-acts far-end e (sending c) =
-    record {
-      mtu = e .mtu;
-      limit = e .limit;
-      out = sends (e .out) (sentBy (e .ledger) c) c;
-      ledger = after (e .ledger) c;
-      said = record { reply = answered (e .out .stores) c; owed = owed (e .ledger) c } ∷ e .said;
-      took = tookBy (e .out .stores) c (e .took);
-      overs = e .overs;
-      given = givenBy (e .out .stores) (owed (e .ledger) c) c (e .given);
-      cleared = clears (e .ledger) c ++ e .cleared;
-      into = e .into;
-      counts = e .counts;
-      pieces = e .pieces;
-    }
-acts far-end e (over c q k) =
-    record {
-      mtu = e .mtu;
-      limit = e .limit;
-      out = sendsOver (e .out) c q k;
-      ledger = e .ledger;
-      said = record { reply = answered (lending (e .out .stores) q k) c; owed = shortReply c } ∷ e .said;
-      took = tookBy (lending (e .out .stores) q k) c (e .took);
-      overs = oversBy (e .out .stores) q k c (e .overs);
-      given = e .given;
-      cleared = e .cleared;
-      into = e .into;
-      counts = e .counts;
-      pieces = e .pieces;
-    }
-acts far-end e (receiving c) =
+abbrev pub sendsAs : End → SendCall → End
+sendsAs e c = record {
+  mtu = e .mtu;
+  limit = e .limit;
+  out = sends (e .out) (sentBy (e .ledger) c) c;
+  ledger = after (e .ledger) c;
+  said = record { reply = answered (e .out .stores) c; owed = owed (e .ledger) c } ∷ e .said;
+  took = tookBy (e .out .stores) c (e .took);
+  overs = e .overs;
+  given = givenBy (e .out .stores) (owed (e .ledger) c) c (e .given);
+  cleared = clears (e .ledger) c ++ e .cleared;
+  into = e .into;
+  counts = e .counts;
+  dealings = e .dealings;
+  pieces = e .pieces;
+}
+
+abbrev pub sendsOverAs : End → SendCall → List ℕ → List ℕ → End
+sendsOverAs e c q k = record {
+  mtu = e .mtu;
+  limit = e .limit;
+  out = sendsOver (e .out) c q k;
+  ledger = e .ledger;
+  said = record { reply = answered (lending (e .out .stores) q k) c; owed = shortReply c } ∷ e .said;
+  took = tookBy (lending (e .out .stores) q k) c (e .took);
+  overs = oversBy (e .out .stores) q k c (e .overs);
+  given = e .given;
+  cleared = e .cleared;
+  into = e .into;
+  counts = e .counts;
+  dealings = e .dealings;
+  pieces = e .pieces;
+}
+
+-- a receiving call: the readings that it tells wait to be dealt with
+abbrev pub hearsAs : End → End → Call → End
+hearsAs far-end e c =
     let i = does (far-end .out .sealed) (e .into) c in
-    takesIn e i (countsBy e (takesIn e i (e .counts)) c)
+    takesIn e i (countsBy e (takesIn e i (e .counts) (e .dealings)) c) (classify.listens (e .into) c (e .dealings))
+
+-- what a reading dealt with does besides: an ACK is acted on as by the call for it, an alert that is told ends the datagram
+abbrev pub follows : End → End → Class → List ℕ → End
+follows far-end e class.Ack c = sendsAs e (ack· c)
+follows far-end e (class.Alert x) c = hearsAs far-end e finish·
+follows far-end e class.Setting c = e
+follows far-end e class.Reply c = e
+follows far-end e class.Nothing c = e
+follows far-end e class.Beyond c = e
+follows far-end e class.Unprotected c = e
+follows far-end e class.Ignored c = e
+follows far-end e class.Close c = e
+follows far-end e class.Handshake c = e
+follows far-end e class.ApplicationData c = e
+follows far-end e class.Other c = e
+follows far-end e class.Unopened c = e
+
+-- by the definition that the contract of the call cites
+abbrev pub classOf : End → Class
+classOf e = classify.classAt (e .dealings) (e .into .into)
+
+abbrev pub contentIn : End → List ℕ
+contentIn e = contentOf (e .dealings .words) (e .into .into .datagram)
+
+abbrev pub acts : End → End → Deed → End
+acts far-end e (sending c) = sendsAs e c
+acts far-end e (over c q k) = sendsOverAs e c q k
+acts far-end e (receiving c) = hearsAs far-end e c
 acts far-end e (piecing c) = puts e (assembly.does (e .pieces) c)
+acts far-end e dealing = files (follows far-end e (classOf e) (contentIn e)) (classify.classifies (e .dealings) (e .into .into))
+acts far-end e (dealingOver d) = files e (classify.classifiesOver (e .dealings) (e .into .into) d)
 
 abbrev pub put : Side → End → World → World
 put post e w post = e
@@ -260,6 +325,7 @@ newEnd s = record {
   cleared = [];
   into = newInbound (s .min);
   counts = [];
+  dealings = classify.newDealings;
   pieces = assembly.newPiecing;
 }
 
@@ -268,14 +334,53 @@ fresh-pair settings s = newEnd (settings s)
 
 -- ---- what is asked of the hosts
 
+-- a host has no call that leaves the rest of a datagram: it is left where an alert is told, and nowhere else
+abbrev pub Called : Call → Type 0 → Type 0
+Called finish· T = ⊥
+Called (key· k iv) T = T
+Called (remove· k) T = T
+Called encrypt· T = T
+Called release· T = T
+Called (begin· d) T = T
+Called read· T = T
+Called (mask· m) T = T
+Called (write· p) T = T
+Called (open· p) T = T
+Called (readOver· d) T = T
+Called (maskOver· m d) T = T
+Called (openOver· p d) T = T
+
+-- an ACK acted on is asked the same as by the call for it
+abbrev pub FairAck : (Side → Masks) → Side → End → End → List ℕ → Type 0
+FairAck masks s far-end e c = FairSend (masks s) (e .out) (ack· c) × FairNames (far-end .into .into .handed) (ack· c)
+
+-- of a reading dealt with, by what the account owes it
+abbrev pub FairTold : (Side → Masks) → Side → End → End → Verdict → List ℕ → Type 0
+FairTold masks s far-end e marks c = FairAck masks s far-end e c
+FairTold masks s far-end e (turned n) c = Unit {0}
+FairTold masks s far-end e noneWaits c = Unit {0}
+FairTold masks s far-end e beyond c = Unit {0}
+FairTold masks s far-end e unprotected c = Unit {0}
+FairTold masks s far-end e ignored c = Unit {0}
+FairTold masks s far-end e closes c = Unit {0}
+FairTold masks s far-end e (tells x) c = Unit {0}
+FairTold masks s far-end e handshake c = Unit {0}
+FairTold masks s far-end e applicationData c = Unit {0}
+FairTold masks s far-end e other c = Unit {0}
+FairTold masks s far-end e unopened c = Unit {0}
+
 -- the mask is "fixed by direction, epoch and the 16 bytes": one function for each sending side; and "every ACK acted on .. named, from
 -- epoch 2 up, only records handed over to that end"; other memory than an end's own is lent to it only if too short; a buffer for messages is lent with
--- the bytes of the pieces taken as the last call left them
+-- the bytes of the pieces taken as the last call left them; bytes that are not the begun datagram's have another length
 abbrev pub FairDeed : (Side → Masks) → Side → End → End → Deed → Type 0
 FairDeed masks s far-end e (sending c) = FairSend (masks s) (e .out) c × FairNames (far-end .into .into .handed) c
 FairDeed masks s far-end e (over c q k) = Short (e .mtu) (e .limit) q k c
-FairDeed masks s far-end e (receiving c) = FairCall (masks (far s)) (far-end .out .sealed) (e .into) c
+FairDeed masks s far-end e (receiving c) = Called c (FairCall (masks (far s)) (far-end .out .sealed) (e .into) c)
 FairDeed masks s far-end e (piecing c) = assembly.FairPiece (e .pieces) c
+FairDeed masks s far-end e dealing =
+    let r = readingOwed (e .dealings .account) (e .into .into .account .encryption) in
+    FairTold masks s far-end e (r .verdict) (r .content)
+FairDeed masks s far-end e (dealingOver d) = OtherLength (e .into .into) d
 
 abbrev pub Fair : (Side → Masks) → World → Event → Type 0
 Fair masks w v = FairDeed masks (v .side) (w (far (v .side))) (w (v .side)) (v .deed)

@@ -1,45 +1,47 @@
--- Keying, removing, the flags, beginning, the host's writing and calls over other bytes keep what holds between state, account and history, and
--- are told the numbers that the account owes them; a fresh end has it. Assumes nothing.
+-- Keying, removing, the flags, beginning, leaving the rest of a datagram, the host's writing and calls over other bytes keep what holds between
+-- state, account and history, and are told the numbers that the account owes them; a fresh end has it. Assumes nothing.
 use Prim.Native.Nat.{ℕ, zero, suc, _+_, _-_, _<_, _≤_}
 use borrow.Author.Tests.{eqb-true, eqb-false, leb-true, leb-false, ltb-false, eq-eqb, ne-eqb}
 use lib.Dec.{eqb, leb, ltb}
 use lib.ListN.{length, getD}
-use mathlib.Core.Bool.{Bool, true, false, true≢false, false≢true}
-use mathlib.Core.List.{List, [], _∷_}
-use mathlib.Core.Logic.{⊎-elim}
+use mathlib.Core.Bool.{Bool, true, false}
+use mathlib.Core.List.{List, _∷_}
 use mathlib.Core.Option.{Option, none, some}
 use mathlib.Core.Path.{_≡_, refl, sym, ap, subst, _∙_}
 use native.Mathlib.Numerals.{add-one}
 use native.Mathlib.Omega.{arith}
-use Rattle.base.specs.Choose.{choose, both, either, if-true, if-false, by-test, test-cases, lt-or-ge, either-true, either-false}
-use Rattle.base.specs.Parts.{splice, length-splice}
-use Rattle.datagram.specs.Datagram.{isSound, zeros, told, begun as started, moved, endAsked}
-use Rattle.datagram.specs.Sound.{Held, held-mask, held-open}
+use Rattle.base.specs.Choose.{choose, if-true, if-false, by-test, test-cases, either-true, either-false}
+use Rattle.base.specs.Parts.{length-splice}
+use Rattle.classify.specs.Classify.{finished}
+use Rattle.classify.specs.Laws.{finished-idle, finished-masked, finished-opening, finished-made, finished-ends}
+use Rattle.datagram.specs.Datagram.{begun as started, moved, endAsked}
+use Rattle.datagram.specs.Sound.{held-open}
 use Rattle.datagram.specs.declared.Ask.{Ask}
 use Rattle.datagram.specs.declared.Datagram.{Datagram}
 use Rattle.datagram.specs.declared.Question.the-variants as question
 use Rattle.datagram.specs.declared.Question.{Question}
+use Rattle.datagram.specs.declared.Reading.the-variants as says
 use Rattle.opening_reply.specs.Opening.{cancelledAsk, cancelled}
 use Rattle.opening_reply.specs.declared.Cancelled.{Cancelled}
 use Rattle.receiving.specs.Calls.Call.{keying, removing, encrypting, releasing, beginning}
 use Rattle.receiving.specs.Laws.{Made, fresh-made, after-made, made-sound}
 use Rattle.receiving.specs.Leads.{remove-none, remove-at}
-use Rattle.receiving.specs.Receiving.{answerNumber, sound, kept, made, freshOf, keyOf, leaving, removedBy, removeOf, encryptOf, releaseOf, beginOf}
+use Rattle.receiving.specs.Receiving.{answerNumber, sound, kept, made, freshOf, keyOf, leaving, removeOf, encryptOf, releaseOf, beginOf}
 use Rattle.receiving.specs.declared.Answer.the-variants as answers
 use Rattle.receiving.specs.declared.Answer.{Answer}
 use Rattle.receiving.specs.declared.Kept.{Kept}
 use Rattle.receiving.specs.declared.Receiving.{Receiving}
 use Rattle.recv_keys.specs.Keeps.{found-epoch, installed-other, installed-last, left-keyed}
-use Rattle.recv_keys.specs.Keys.{noEntry, entryAt, find, wasFound, isKeyed, fresh, encrypted, released, isFull, installed, left}
+use Rattle.recv_keys.specs.Keys.{noEntry, entryAt, find, wasFound, isKeyed, fresh, released, isFull, installed, left}
 use Rattle.recv_keys.specs.Laws.{found-keyed}
 use Rattle.recv_keys.specs.declared.Found.the-variants as found
 use Rattle.recv_keys.specs.declared.Found.{Found}
 use Rattle.recv_keys.specs.declared.RecvEpochEntry.{RecvEpochEntry}
 use Rattle.recv_keys.specs.declared.RecvKeys.{RecvKeys}
 use Rattle.window.specs.Window.{isFresh}
-use Rattle.history_theorem.specs.Account.{upd, Shown, nothing, aMask, anOpening, Account, isIn, without, owedBy, keyOwed, withKey, keys}
+use Rattle.history_theorem.specs.Account.{Shown, nothing, Account, isIn, without, owedBy, keyOwed, withKey, keys}
 use Rattle.history_theorem.specs.Lists.{by-both, some≢none, mem-by, drops-on, splice-behind}
-use Rattle.history_theorem.specs.Reading.{is-found}
+use Rattle.history_theorem.specs.Reading.{is-found, unasked}
 use Rattle.history_theorem.specs.Receiver.{
   Trial,
   Lost,
@@ -57,12 +59,15 @@ use Rattle.history_theorem.specs.Receiver.{
   startsOn,
   begun,
   beginOwed,
+  leavesRest,
+  finishes,
   writtenIn,
   wrote,
+  readOut,
   newInbound,
 }
-use Rattle.history_theorem.specs.Sound.{Tally, Asked, UnderWay, FreshAsked, Hands, intactFrom, Intact, Sound}
-use Rattle.history_theorem.specs.Table.{epochsIn, keyedIn, find-in, Table, full-same, keyed-installed, installed-table, keyed-left, left-table, one-place, was, stood}
+use Rattle.history_theorem.specs.Sound.{UnderWay, FreshAsked, intactFrom, Intact, Sound}
+use Rattle.history_theorem.specs.Table.{keyedIn, find-in, full-same, keyed-installed, installed-table, keyed-left, left-table, one-place, was, stood}
 
 -- what such a call leaves of the record under way: all, or nothing
 pub data Leaves (y : Receiver) : Receiver → Type 0 where
@@ -339,6 +344,70 @@ module _ (y : Receiver) (i : Sound y) where
   begin-told d =
       ap (λ (r : Kept). answerNumber (r .answer)) (if-true _ _ in-range)
       ∙ by-both (λ (r : Kept) (n : ℕ). answerNumber (r .answer) ≡ n) refl (λ t. refl) (λ t. refl)
+
+  -- ---- leaving the rest of a datagram
+
+  -- no question waits, of no record: the cut stands at the end
+  ends-sound : (s : Receiving) (a : Account) → s ≡ record { keys = k; datagram = moved b (b .size) (b .readings) }
+      → a ≡ goesTo (y .account) (length (y .arrived)) (y .account .readings) → Made s → b .question ≡ question.Nothing → y .trial ≡ none
+      → Sound (withState y s a)
+  ends-sound s a e f m q idle =
+      subst (λ x. Sound (withState y x a)) (sym e)
+      (subst (λ x. Sound (withState y (record { keys = k; datagram = moved b (b .size) (b .readings) }) x)) (sym f) (record {
+        made = subst Made e m;
+        table = i .table;
+        asked = tt;
+        hands = i .hands;
+        tally = record {
+          keyed = i .tally .keyed;
+          highest = i .tally .highest;
+          encryption = i .tally .encryption;
+          released = i .tally .released;
+          place = i .intact .long ∙ i .whole;
+          readings = i .tally .readings;
+        };
+        whole = i .whole;
+        intact = record {
+          long = i .intact .long;
+          lies = drops-on (intactFrom (b .question) (b .at)) (b .size) (y .datagram) (y .arrived)
+              (subst (λ (x : Question). intactFrom x (b .at) ≤ b .size) (sym q) (i .made .ready .at)) (i .intact .lies);
+          flag = tt;
+        };
+        under = (refl, idle);
+        proper = i .proper;
+        nonces = i .nonces;
+        spared = i .spared;
+        lost = i .lost;
+        real = i .real;
+        shows = i .shows;
+        said = i .said;
+        later = λ x p. some≢none (sym p ∙ idle);
+        stops = i .stops;
+        waits = λ x p. some≢none (sym p ∙ idle);
+      }))
+
+  -- the question that waits is the one shown: nothing moves
+  stays-asked : (w : Shown) → y .account .waits ≡ w → leavesRest (y .account) (length (y .arrived)) w ≡ y .account → finished (y .state) ≡ y .state
+      → Fine y (finishes y)
+  stays-asked w shown kept e =
+      let same : leavesRest (y .account) (length (y .arrived)) (y .account .waits) ≡ y .account =
+      ap (leavesRest (y .account) (length (y .arrived))) shown ∙ kept in
+      (same-sound _ _ e same, as-was _ _ (ap (λ (x : Receiving). x .datagram) e) (ap (λ (a : Account). a .waits) same))
+
+  finish-by : (q : Question) → b .question ≡ q → UnderWay q (b .at) (y .account .waits) (y .trial) → Fine y (finishes y)
+  finish-by question.Nothing q z = (
+    ends-sound _ _ (finished-idle (y .state) q) (ap (leavesRest (y .account) (length (y .arrived))) (z .0)) (finished-made (y .state) (i .made)) q (z .1),
+    no-more _ (z .1) refl refl,
+  )
+  finish-by (question.Mask a) q z = stays-asked _ (z .2 .0) refl (finished-masked (y .state) a q)
+  finish-by (question.Opening a n) q z = stays-asked _ (z .2 .2) refl (finished-opening (y .state) a n q)
+
+  pub finish-fine : Fine y (finishes y)
+  finish-fine = finish-by (b .question) refl (i .under)
+
+  -- where the host was shown no question the next read finds the end
+  pub finish-ends : y .account .waits ≡ nothing → readOut (finishes y .state) (finishes y .datagram) .reading ≡ says.End
+  finish-ends w = finished-ends (y .state) (y .datagram) in-range (i .whole) (unasked y i (b .question) refl (i .under) w)
 
   -- ---- removing
 

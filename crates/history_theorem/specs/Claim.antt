@@ -59,6 +59,7 @@ use Rattle.history_theorem.specs.Receiver.{
   readOver·,
   maskOver·,
   openOver·,
+  finish·,
 }
 
 -- ---- what is asked of the host
@@ -118,6 +119,7 @@ FairCall masks sealed i (open· p) = FairOpen sealed (i .into .account .waits) (
 FairCall masks sealed i (readOver· d) = OtherLength (i .into) d
 FairCall masks sealed i (maskOver· m d) = OtherLength (i .into) d
 FairCall masks sealed i (openOver· p d) = OtherLength (i .into) d
+FairCall masks sealed i finish· = Unit {0}
 
 -- ---- what then holds
 

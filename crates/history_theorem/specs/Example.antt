@@ -1,6 +1,6 @@
 -- Worked lists whose premises are met, computed: records out of order, doubled and forged; a doubled record in front of a new one; a removal
--- under a question; a sixteenth and a seventeenth reading; a plaintext record and an unopened one; keys refused; the edges of the reach, and
--- of that of an epoch of which nothing was used. Assumes nothing.
+-- under a question; a sixteenth and a seventeenth reading; a plaintext record and an unopened one; an alert that is told; keys refused; the edges
+-- of the reach, and of that of an epoch of which nothing was used. Assumes nothing.
 use Prim.Native.Nat.{ℕ, zero, suc, _+_, _≤_, _<_}
 use borrow.Author.Tests.{eqb-false}
 use lib.Dec.{eqb}
@@ -58,6 +58,7 @@ use Rattle.history_theorem.specs.Receiver.{
   mask·,
   write·,
   open·,
+  finish·,
 }
 
 -- a record of one byte of application data, under a cipher that appends sixteen sevens, and one mask for all
@@ -306,6 +307,25 @@ plainly-reads = refl
 plainly-honest : Honest oneMask (fresh-half 16) plainly
 unfolding oneMask plainly sealedAs choose both either splice bit askSound askKeyed openingSound questionSound isSound counted nonceOf innerOf unmasked rebuilt judged maskedAt maskedBy masking maskStep typed openedAt openedBy openings openedStep cancelledAsk cancelled freshOf keyOf leaving removedBy removeOf encryptOf releaseOf beginOf headerLen fragmentLen partialOf parseCiphertext isType isVersion isPlaintext plaintextHeader parsePlaintext parsed unifiedHeader lockedStep sealedStep stepOf openingAsked askedAgain asking readStep fits lastFit find orElse two resolve wasFound isKeyed marked appOne apps windowsSound keysSound isFull installed leftAt left maskedHeader own below above nearest expected isFresh marking upd keyOwed keys resolvesTo sealedSize plainSize recordSize goodPlain removedFrom removed removeOwed begun beginOwed afterRead afterMask afterOpen
 plainly-honest = (tt, (tt, (tt, tt)))
+
+-- ---- an alert that is told
+
+-- behind an alert with number 5 lies a handshake record: the rest is left. Then a sealed record, with nothing left of it while its questions wait
+alerted : List Event
+alerted =
+    here· (begin· (plaintextHeader 21 5 2 ++ (2 ∷ 40 ∷ plaintextHeader 22 6 0))) ∷ here· read· ∷ here· finish· ∷ here· read·
+    ∷ here· (key· 2 (replicate 12 0)) ∷ here· encrypt· ∷ far· 2 (sealedAs 2 0 10) ∷ here· (begin· (sealedAs 2 0 10 .wire)) ∷ here· read· ∷ here· finish·
+    ∷ here· (mask· (1 ∷ 2 ∷ [])) ∷ here· finish· ∷ here· (write· (10 ∷ 23 ∷ [])) ∷ here· (open· (reply.Yes 2)) ∷ []
+
+-- the read behind the alert finds the end; the sealed record is handed over
+alerted-reads : readsOf (run (fresh-half 16) alerted .end .into .tried)
+    ≡ (says.Opened 2 0 23 5 1, 10 ∷ []) ∷ (says.End, []) ∷ (says.Plaintext 21 5 13 2, 2 ∷ 40 ∷ []) ∷ []
+unfolding alerted sealedAs choose both either splice bit askSound askKeyed openingSound questionSound isSound counted nonceOf innerOf unmasked rebuilt judged maskedAt maskedBy masking maskStep typed openedAt openedBy openings openedStep cancelledAsk cancelled freshOf keyOf leaving removedBy removeOf encryptOf releaseOf beginOf headerLen fragmentLen partialOf parseCiphertext isType isVersion isPlaintext plaintextHeader parsePlaintext parsed unifiedHeader lockedStep sealedStep stepOf openingAsked askedAgain asking readStep fits lastFit find orElse two resolve wasFound isKeyed marked appOne apps windowsSound keysSound isFull installed leftAt left maskedHeader own below above nearest expected isFresh marking upd keyOwed keys resolvesTo sealedSize plainSize recordSize goodPlain removedFrom removed removeOwed begun beginOwed afterRead afterMask afterOpen
+alerted-reads = refl
+
+alerted-honest : Honest oneMask (fresh-half 16) alerted
+unfolding oneMask alerted sealedAs choose both either splice bit askSound askKeyed openingSound questionSound isSound counted nonceOf innerOf unmasked rebuilt judged maskedAt maskedBy masking maskStep typed openedAt openedBy openings openedStep cancelledAsk cancelled freshOf keyOf leaving removedBy removeOf encryptOf releaseOf beginOf headerLen fragmentLen partialOf parseCiphertext isType isVersion isPlaintext plaintextHeader parsePlaintext parsed unifiedHeader lockedStep sealedStep stepOf openingAsked askedAgain asking readStep fits lastFit find orElse two resolve wasFound isKeyed marked appOne apps windowsSound keysSound isFull installed leftAt left maskedHeader own below above nearest expected isFresh marking upd keyOwed keys resolvesTo sealedSize plainSize recordSize goodPlain removedFrom removed removeOwed begun beginOwed afterRead afterMask afterOpen
+alerted-honest = (tt, (tt, (tt, (tt, (tt, (tt, (shape 2 0 10 (omega arith), (tt, (tt, (tt, ((refl, λ s. refl), (tt, (tt, (λ right. yes-fair (sealedAs 2 0 10 ∷ []) (sealedAs 2 0 10) (here refl) refl _ refl, tt))))))))))))))
 
 -- ---- keys refused
 

@@ -1,11 +1,10 @@
 -- The receiving half of demand 3 holds of every list of events. Assumes nothing.
 use Prim.Native.Nat.{ℕ, _≤_}
-use mathlib.Core.Bool.{true, false}
 use mathlib.Core.List.{List, [], _∷_, List·Memᴰ as Mem, List·Memᴰ·tail as there}
-use mathlib.Core.Path.{_≡_, refl, sym, ap, subst, _∙_}
+use mathlib.Core.Path.{_≡_, refl, sym, subst}
 use Rattle.datagram.specs.declared.Reading.the-variants as says
-use Rattle.history_theorem.specs.Account.{upd}
-use Rattle.history_theorem.specs.Calls.{Leaves, Fine, key-fine, key-told, encrypt-fine, encrypt-told, release-fine, release-told, begin-fine, begin-told, remove-fine, remove-told, write-sound, unchanged, new-sound}
+use Rattle.history_theorem.specs.Account.{upd, nothing}
+use Rattle.history_theorem.specs.Calls.{Fine, key-fine, key-told, encrypt-fine, encrypt-told, release-fine, release-told, begin-fine, begin-told, finish-fine, finish-ends, remove-fine, remove-told, write-sound, unchanged, new-sound}
 use Rattle.history_theorem.specs.Claim.{Masks, FairCall, Moved, Turned, Received}
 use Rattle.history_theorem.specs.Direction.{
   Shaped,
@@ -30,6 +29,8 @@ use Rattle.history_theorem.specs.Receiver.{
   Move,
   Stray,
   Told,
+  finishes,
+  readOut,
   Inbound,
   newInbound,
   Call,
@@ -45,11 +46,12 @@ use Rattle.history_theorem.specs.Receiver.{
   readOver·,
   maskOver·,
   openOver·,
+  finish·,
   unused,
   does,
 }
 use Rattle.history_theorem.specs.Sound.{Sound}
-use Rattle.history_theorem.specs.Verdicts.{same-moved, moved-unused, begin-keys, read-keys, mask-keys, open-moved, read-turned, mask-turned, open-turned}
+use Rattle.history_theorem.specs.Verdicts.{same-moved, moved-unused, begin-keys, finish-keys, read-keys, mask-keys, open-moved, read-turned, mask-turned, open-turned}
 
 -- what holds between a receiving end and the records that the far end sealed
 pub record Link (masks : Masks) (sealed : ℕ → List Sealed) (i : Inbound) : Type 0 where
@@ -171,6 +173,9 @@ module _ (masks : Masks) (sealed : ℕ → List Sealed) (i : Inbound) (l : Link 
   call-keeps (openOver· p d) h =
       let t = open-turned y (l .sound) 0 p d h in
       fine-keeps _ (unchanged y (l .sound) _ (t .state)) (l .moves) (more-strays _ (i .strays) t (l .strays)) (l .told)
+  call-keeps finish· h =
+      fine-keeps _ (finish-fine y (l .sound)) (more-moves _ (i .moves) (same-moved 0 unused _ _ refl (finish-keys y (l .sound) 0)) (l .moves)) (l .strays)
+      (l .told)
 
   -- ---- what follows
 
@@ -220,8 +225,18 @@ run-keeps : (masks : Masks) (w : Half) (vs : List Event) → Link masks (w .seal
 run-keeps masks w [] l h = l
 run-keeps masks w (v ∷ vs) l h = run-keeps masks (step w v) vs (step-keeps masks w v l (h .0)) (h .1)
 
+-- the end that a list of events leaves
+listed : (min : ℕ) → min ≤ 17 → (masks : Masks) (vs : List Event) → Honest masks (fresh-half min) vs
+    → Link masks (run (fresh-half min) vs .sealed) (run (fresh-half min) vs .end)
+listed min h masks vs honest = run-keeps masks (fresh-half min) vs (new-link masks min h) honest
+
 -- every list of events
 pub every-list : EveryList
 every-list min h masks vs honest e =
-    received masks (run (fresh-half min) vs .sealed) (run (fresh-half min) vs .end)
-    (run-keeps masks (fresh-half min) vs (new-link masks min h) honest) e
+    received masks (run (fresh-half min) vs .sealed) (run (fresh-half min) vs .end) (listed min h masks vs honest) e
+
+-- and behind every list: where the host was shown no question and leaves the rest of the datagram, the next read finds the end
+pub finish-ends-all : (min : ℕ) → min ≤ 17 → (masks : Masks) (vs : List Event) → Honest masks (fresh-half min) vs
+    → run (fresh-half min) vs .end .into .account .waits ≡ nothing
+    → let z : Receiver = finishes (run (fresh-half min) vs .end .into) in readOut (z .state) (z .datagram) .reading ≡ says.End
+finish-ends-all min h masks vs honest w = finish-ends (run (fresh-half min) vs .end .into) (listed min h masks vs honest .sound) w

@@ -256,7 +256,7 @@ module _ (y : Receiver) (i : Sound y) where
   rest-masked a q = rest-from (ap (λ (x : Question). intactFrom x (b .at)) q)
 
   -- and so where the host is shown no question
-  unasked : (q : Question) → b .question ≡ q → UnderWay q (b .at) (y .account .waits) (y .trial) → y .account .waits ≡ nothing → b .question ≡ question.Nothing
+  pub unasked : (q : Question) → b .question ≡ q → UnderWay q (b .at) (y .account .waits) (y .trial) → y .account .waits ≡ nothing → b .question ≡ question.Nothing
   unasked question.Nothing q z w = q
   unasked (question.Mask a) q z w =
       let p : aMask (a .epoch) (b .at + a .«header_len») ≡ nothing = sym (z .2 .0) ∙ w in let n : _≡_ {A = ℕ} 0 1 = cc in absurd (omega arith)

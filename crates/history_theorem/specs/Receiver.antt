@@ -8,6 +8,7 @@ use mathlib.Core.List.{List, [], _∷_}
 use mathlib.Core.Option.{Option, none, some}
 use Rattle.base.specs.Choose.{choose}
 use Rattle.base.specs.Parts.{part, splice}
+use Rattle.classify.specs.Classify.{finished}
 use Rattle.datagram.specs.declared.Reading.the-variants as says
 use Rattle.datagram.specs.declared.Reading.{Reading}
 use Rattle.opening_reply.specs.Opening.{shownBy}
@@ -223,6 +224,15 @@ begun y d =
 -- the number that beginning is told: that 1, else 0
 unfoldable pub beginOwed : List ℕ → ℕ
 beginOwed d = choose (ltb 16384 (length d)) 1 0
+
+-- the rest of the begun datagram, as it arrived, is left; where a question waits nothing is
+abbrev pub leavesRest : Account → ℕ → Shown → Account
+leavesRest a size nothing = goesTo a size (a .readings)
+leavesRest a size (aMask e p) = a
+leavesRest a size (anOpening e n at head body) = a
+
+abbrev pub finishes : Receiver → Receiver
+finishes y = withState y (finished (y .state)) (leavesRest (y .account) (length (y .arrived)) (y .account .waits))
 
 -- the host writes from the start of the protected part on, while its opening is asked, and not beyond its end
 abbrev pub writtenIn : Shown → List ℕ → List ℕ → List ℕ
@@ -528,6 +538,8 @@ pub data Call : Type 0 where
   readOver· : List ℕ → Call
   maskOver· : List ℕ → List ℕ → Call
   openOver· : Opening → List ℕ → Call
+  -- the host is told an alert: what is left of the datagram is not read ("ends the datagram", 02, 3), unless a question waits
+  finish· : Call
 
 abbrev pub takes : Inbound → Receiver → Inbound
 takes e y = record { into = y; serial = e .serial; lastSerial = e .lastSerial; moves = e .moves; strays = e .strays; told = e .told }
@@ -594,6 +606,7 @@ does sealed e (open· p) = logs e (afterOpen (e .into) p) (e .serial) (useIn (e 
 does sealed e (readOver· d) = strays e d (readOut (e .into .state) d)
 does sealed e (maskOver· m d) = strays e d (maskOut (e .into .state) m d)
 does sealed e (openOver· p d) = strays e d (openOut (e .into .state) p d)
+does sealed e finish· = logs e (finishes (e .into)) (e .serial) unused
 
 -- ---- a fresh end: nothing keyed, begun or asked
 

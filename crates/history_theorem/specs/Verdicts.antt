@@ -1,14 +1,13 @@
 -- What calls do to the window verdicts, and calls over bytes of another length. Assumes nothing.
-use Prim.Native.Nat.{ℕ, zero, suc, _+_, _-_, _≤_, _<_}
-use borrow.Author.Tests.{eqb-true, eqb-false, eq-eqb}
+use Prim.Native.Nat.{ℕ, zero, suc, _-_, _≤_, _<_}
 use lib.Dec.{eqb}
 use lib.ListN.{length, getD}
-use mathlib.Core.Bool.{Bool, true, false, true≢false, false≢true}
-use mathlib.Core.List.{List, [], _∷_}
-use mathlib.Core.Option.{Option, none, some}
+use mathlib.Core.Bool.{true, false, true≢false}
+use mathlib.Core.List.{List}
+use mathlib.Core.Option.{some}
 use mathlib.Core.Path.{_≡_, refl, sym, ap, subst, _∙_}
 use native.Mathlib.Omega.{arith}
-use Rattle.base.specs.Choose.{choose, if-true, if-false, by-test, test-cases}
+use Rattle.base.specs.Choose.{choose, by-test}
 use Rattle.datagram.specs.Datagram.{told}
 use Rattle.datagram.specs.Sound.{held-open}
 use Rattle.datagram.specs.declared.Ask.{Ask}
@@ -26,7 +25,6 @@ use Rattle.opening_reply.specs.declared.Opening.{Opening}
 use Rattle.receiving.specs.Laws.{made-sound}
 use Rattle.receiving.specs.Receiving.{beginOf}
 use Rattle.receiving.specs.declared.Kept.{Kept}
-use Rattle.receiving.specs.declared.Receiving.{Receiving}
 use Rattle.records.specs.Leads.{read-other}
 use Rattle.recv_keys.specs.Keeps.{found-epoch, marked-here, marked-other, marked-epoch}
 use Rattle.recv_keys.specs.Keys.{noEntry, entryAt, find, marked}
@@ -37,10 +35,8 @@ use Rattle.recv_keys.specs.declared.RecvEpochEntry.{RecvEpochEntry}
 use Rattle.recv_keys.specs.declared.RecvKeys.{RecvKeys}
 use Rattle.window.specs.Laws.{spent as marked-stale}
 use Rattle.window.specs.Window.{isFresh}
-use Rattle.history_theorem.specs.Account.{Shown}
 use Rattle.history_theorem.specs.Claim.{SameVerdicts, Moved, Turned, OtherLength}
-use Rattle.history_theorem.specs.Opening.{Settles}
-use Rattle.history_theorem.specs.Reading.{is-found, open-idle, open-masked, opened-is, use-down, settles, uses-it}
+use Rattle.history_theorem.specs.Reading.{is-found, open-idle, open-masked, opened-is, use-down, uses-it}
 use Rattle.history_theorem.specs.Receiver.{
   Sealed,
   Receiver,
@@ -58,6 +54,7 @@ use Rattle.history_theorem.specs.Receiver.{
   Move,
   Stray,
   begun,
+  finishes,
   readOut,
   maskOut,
   openOut,
@@ -137,6 +134,9 @@ module _ (y : Receiver) (i : Sound y) (s : ℕ) where
       go : beginOf (y .state) (length d) .state .keys ≡ k
       go =
           by-test (λ (r : Kept). r .state .keys ≡ k) (λ t. by-test (λ (r : Kept). r .state .keys ≡ k) (λ u. refl) (λ u. refl)) (λ t. refl)
+
+  pub finish-keys : finishes y .state .keys ≡ k
+  finish-keys = refl
 
   pub read-keys : (sealed : ℕ → List Sealed) → afterRead y sealed .state .keys ≡ k
   unfolding afterRead

@@ -2,7 +2,7 @@
 use Prim.Native.Nat.{ℕ, _+_, _*_, _≤_, _<_}
 use lib.Dec.{eqb, leb, ltb}
 use lib.ListN.{length}
-use mathlib.Core.Bool.{true}
+use mathlib.Core.Bool.{Bool, true}
 use mathlib.Core.List.{List, [], _∷_, _++_}
 use mathlib.Core.Option.{Option, none, some}
 use mathlib.Core.Path.{_≡_}
@@ -26,7 +26,7 @@ use Rattle.acks.specs.Acks as noting
 use Rattle.recv_words.specs.Words.{isFlat}
 use Rattle.recv_key_steps.specs.Kept.{stateOf}
 use Rattle.send_words.specs.Words as sendWords
-use Rattle.flight_words.specs.Words.{flatTo}
+use Rattle.flight_words.specs.Words.{flightOf, flatTo}
 use Rattle.recv_calls.specs.Flat.{answerOf, bare, openingOf}
 use Rattle.answers.specs.declared.HuskTold.{HuskTold}
 use Rattle.recv_calls.specs.Calls as receive
@@ -44,12 +44,18 @@ use Rattle.history_theorem.specs.Claim.{Masks, Proper, nonceFor}
 use Rattle.history_theorem.specs.Receiver.{aRead, aMaskReply, anOpenReply, removeOwed, beginOwed, Inbound, Call, key·, remove·, encrypt·, release·, begin·, read·, mask·, write·, open·, readOver·, maskOver·, openOver·}
 use Rattle.assembly_theorem.specs.Account.{owed as pieceOwed}
 use Rattle.assembly_theorem.specs.Claim as assembly
+use Rattle.classify.specs.Classify.{contentOf, classified}
+use Rattle.classify_calls.specs.Calls as classify
+use Rattle.classify_calls.specs.declared.HuskClass.{HuskClass}
+use Rattle.classify_theorem.specs.Account as account
+use Rattle.opening_reply.specs.Opening.{startOf, lengthOf}
+use Rattle.datagram.specs.declared.Reading.{Reading}
 use Rattle.ends_theorem.specs.Claim.{Holds}
 use Rattle.ends_theorem.specs.Ledger.{Item, Ledger, waiting, items, oldest, unacked, owed, shortReply, after as accountAfter}
 use Rattle.ends_theorem.specs.Sender.{Lent, sealedHeader}
-use Rattle.ends_theorem.specs.World.{Side, post, gateway, far, End, Deed, sending, over, receiving, piecing, Event, World, run, Setting, newEnd, fresh-pair, FairDeed, Honest}
+use Rattle.ends_theorem.specs.World.{Side, post, gateway, far, End, Deed, sending, over, receiving, piecing, dealing, dealingOver, Event, World, run, Setting, newEnd, fresh-pair, FairDeed, Honest}
 use Rattle.hosts_theorem.specs.Memory.{Incoming, Outgoing, InCall, «husk_receiving_key», «husk_receiving_remove», «husk_receiving_enable_encryption», «husk_receiving_release_application_data», «husk_receiving_begin», «husk_receiving_begin_read», «husk_receiving_read», «husk_receiving_mask», «husk_receiving_opened», «husk_receiving_read_over», «husk_receiving_mask_over», «husk_receiving_opened_over», «host_writes», OutCall, «husk_sending_key», «husk_sending_send», «husk_sending_sealed», «husk_sending_take», «husk_sending_take_in_place», «husk_flight_begin», «husk_flight_send», «husk_flight_message», «husk_flight_resend», «husk_flight_ack», «husk_notes_add», «husk_notes_send», behindOut, lends}
-use Rattle.hosts_theorem.specs.Log.{flatRead, readingOf, refusedTold, noNonce, Whole, replyOf, Host, Act, inward, «husk_sending_sealing», «husk_flight_status», «husk_sending_status», outward, outwardOver, «host_seals», «husk_assembly_begin», «husk_assembly_take», pieceTold, Made, behind, storesOf, sealingOf, showsNow, sendOf}
+use Rattle.hosts_theorem.specs.Log.{flatRead, readingOf, refusedTold, noNonce, Whole, replyOf, Host, Act, inward, «husk_sending_sealing», «husk_flight_status», «husk_sending_status», outward, outwardOver, «host_seals», «husk_assembly_begin», «husk_assembly_take», «husk_receiving_classify», «husk_receiving_classify_over», pieceTold, Made, behind, storesOf, sealingOf, showsNow, sendOf}
 
 -- ---- two hosts and a list of calls
 
@@ -98,18 +104,19 @@ pub record StandsOut (h : Outgoing) (e : End) : Type 0 where
   pub stores : storesOf h ≡ e .out .stores
   pub shown : (old : Option Lent) × (e .out .lent ≡ showsNow (sealingOf (h .words)) (h .queue) old)
 
--- of both, and the log's words of reassembly are the host's
+-- of both, and the log's words of the reading that waits and of reassembly are the host's
 pub record Stands (h : Host) : Type 0 where
   pub incoming : StandsIn (h .incoming) (h .seen .into)
+  pub pending : h .pending ≡ h .seen .dealings .words
   pub outgoing : StandsOut (h .outgoing) (h .seen)
   pub assembly : h .assembly ≡ h .seen .pieces .words
 
 -- ---- the start
 
--- words made by husk_receiving_init and husk_sending_init, which answered 0, by husk_flight_init and husk_assembly_init; notes made by husk_notes_init; lent
+-- words made by husk_receiving_init, with no reading that waits, and husk_sending_init, which answered 0, by husk_flight_init and husk_assembly_init; notes made by husk_notes_init; lent
 -- memory with any first contents, a queue not under its limit times the MTU; nothing in the log but the settings
 pub record Started (s : Setting) (h : Host) : Type 0 where
-  pub receiving : receive.FreshCall 0 (h .incoming .words) (s .min)
+  pub receiving : classify.FreshCall 0 (h .incoming .words) (h .pending) (s .min)
   pub datagram : h .incoming .datagram ≡ []
   pub sending : sends.FreshCall 0 (h .outgoing .words) (s .mtu) (s .limit)
   pub queue : h .outgoing .queue ≡ s .queue
@@ -147,7 +154,7 @@ hearing (c ∷ cs) = receiving c ∷ hearing cs
 
 -- any call
 abbrev pub deedsOf : Act → List Deed
-deedsOf (inward c) = hearing (callsOf c)
+deedsOf (inward c y) = hearing (callsOf c)
 -- only ask
 deedsOf («husk_sending_sealing» r) = []
 deedsOf («husk_flight_status» r) = []
@@ -157,6 +164,8 @@ deedsOf (outwardOver c q k) = over (sendOf c) q k ∷ []
 deedsOf («host_seals» r bytes) = sending (fill· bytes) ∷ []
 deedsOf («husk_assembly_begin» r v n) = piecing (assembly.begin· n) ∷ []
 deedsOf («husk_assembly_take» r v c d e) = piecing (assembly.take· c d) ∷ []
+deedsOf («husk_receiving_classify» r v y g m) = dealing ∷ []
+deedsOf («husk_receiving_classify_over» r v y g m d) = dealingOver d ∷ []
 
 -- at that side
 abbrev pub at : Side → List Deed → List Event
@@ -215,9 +224,16 @@ Shows none r = r .kind ≡ 2 → ⊥
 Shows (some l) r =
     r ≡ record { kind = 2; refusal = 0; epoch = l .epoch; number = l .num; start = l .place; length = l .size; nonce = l .nonce; header = l .header }
 
+-- a reading dealt with over the datagram d
+abbrev pub classAnswer : Host → List ℕ → HuskClass
+classAnswer h d =
+    let f = flightOf (h .outgoing .flight) (h .outgoing .numbers) in
+    let c = contentOf (h .pending) d in
+    classify.flatClass (classified (h .pending) (stateOf (h .incoming .words)) d) (h .pending) (acks.ackedTold (acked f c) (newlyMarked f c))
+
 -- of any call
 abbrev pub Answered : Host → Act → Type 0
-Answered h (inward c) = AnsweredIn (h .incoming) c
+Answered h (inward c y) = AnsweredIn (h .incoming) c
 Answered h («husk_sending_sealing» r) = Shows (h .seen .out .lent) r
 Answered h («husk_flight_status» r) = r ≡ status.savedOf (storesOf (h .outgoing) .flight)
 Answered h («husk_sending_status» r) = r ≡ status.queuedOf (storesOf (h .outgoing) .state)
@@ -226,6 +242,8 @@ Answered h (outwardOver c q k) = AnsweredOut (storesOf (lends (h .outgoing) q k)
 Answered h («host_seals» r bytes) = Shows (h .seen .out .lent) r
 Answered h («husk_assembly_begin» r v n) = r ≡ choose (isSound (h .assembly)) 0 12
 Answered h («husk_assembly_take» r v c d e) = r ≡ pieces.flatPiece (taken (h .assembly) c d .answer)
+Answered h («husk_receiving_classify» r v y g m) = r ≡ classAnswer h (h .incoming .datagram)
+Answered h («husk_receiving_classify_over» r v y g m d) = r ≡ classAnswer h d
 
 -- of every call in the list, each over the memory that it met
 abbrev pub AllAnswered : Hosts → List CCall → Type 0
@@ -312,9 +330,57 @@ OwedOver («husk_flight_ack» r g m c) = Unit {0}
 OwedOver («husk_notes_add» r x y z epoch number) = Unit {0}
 OwedOver («husk_notes_send» r v x y z p) = Unit {0}
 
+-- a reading dealt with: every field of the answer, by the header's numbers. Which one is told, and where its content is, by the reading that the account has
+-- as waiting; of an ACK the sending account's counts, as by husk_flight_ack
+abbrev pub shownClass : ℕ → ℕ → Reading → HuskClass
+shownClass kind description p = record {
+  kind = kind;
+  refusal = 0;
+  description = description;
+  marked = 0;
+  unacknowledged = 0;
+  saved = 0;
+  start = startOf p;
+  length = lengthOf p;
+}
+
+abbrev pub bareClass : ℕ → ℕ → HuskClass
+bareClass kind refusal = record { kind = kind; refusal = refusal; description = 0; marked = 0; unacknowledged = 0; saved = 0; start = 0; length = 0 }
+
+abbrev pub ackClass : Ledger → List ℕ → Reading → HuskClass
+ackClass l c p = record {
+  kind = 5;
+  refusal = 0;
+  description = 0;
+  marked = owed l (ack· c) .told;
+  unacknowledged = unacked (accountAfter l (ack· c) .saved);
+  saved = length (accountAfter l (ack· c) .saved);
+  start = startOf p;
+  length = lengthOf p;
+}
+
+abbrev pub classTold : Ledger → account.Verdict → List ℕ → Reading → HuskClass
+classTold l (account.turned n) c p = bareClass 0 n
+classTold l account.noneWaits c p = bareClass 1 0
+classTold l account.beyond c p = shownClass 2 0 p
+classTold l account.unprotected c p = shownClass 3 0 p
+classTold l account.ignored c p = shownClass 4 0 p
+classTold l account.marks c p = ackClass l c p
+classTold l account.closes c p = shownClass 6 0 p
+classTold l (account.tells x) c p = shownClass 7 x p
+classTold l account.handshake c p = shownClass 8 0 p
+classTold l account.applicationData c p = shownClass 9 0 p
+classTold l account.other c p = shownClass 10 0 p
+classTold l account.unopened c p = shownClass 11 0 p
+
+-- of the reading that waits, if one does
+abbrev pub classOwed : Ledger → Option account.Place → Bool → Option account.Pending → HuskClass
+classOwed l close on none = bareClass 1 0
+classOwed l close on (some p) = classTold l (account.readingOwed close on (p .reading) (p .shown)) (p .shown) (p .reading)
+
 -- a sending call: 01's number and what is told besides; over memory that is too short 12, and no byte of it changes
 abbrev pub Owed : Host → Act → Type 0
-Owed h (inward c) = OwedIn (h .seen .into) c
+Owed h (inward c y) = OwedIn (h .seen .into) c
 Owed h («husk_sending_sealing» r) = OwedSealing (h .seen .out .ivs) (oldest (items (h .seen .ledger .queue))) r
 -- never refused: how many records are saved, how many of these not acknowledged; how many datagrams are queued, how many records wait to be sealed
 Owed h («husk_flight_status» r) =
@@ -329,6 +395,10 @@ Owed h («host_seals» r bytes) = OwedSealing (h .seen .out .ivs) (oldest (items
 -- reassembly: a record is always begun; of the next piece every field of the answer is told by the claim's own table, and the account's verdict
 Owed h («husk_assembly_begin» r v n) = r ≡ 0
 Owed h («husk_assembly_take» r v c d e) = r ≡ pieceTold (pieceOwed (h .seen .pieces .account) c (length d))
+Owed h («husk_receiving_classify» r v y g m) =
+    r ≡ classOwed (h .seen .ledger) (h .seen .dealings .account .close) (h .seen .into .into .account .encryption) (h .seen .dealings .account .pending)
+-- over bytes of another length
+Owed h («husk_receiving_classify_over» r v y g m d) = r ≡ bareClass 0 15
 
 -- of every call in the list, each by the account that it met
 abbrev pub AllOwed : Hosts → List CCall → Type 0

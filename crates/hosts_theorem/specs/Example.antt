@@ -1,11 +1,12 @@
 -- Two worked lists of calls of the C library whose premises are met, computed: a record is keyed, sent, sealed and taken at the post, and read, unmasked,
--- opened and handed over at the gateway; a handshake message is put together at the gateway. The words behind each call are given. Assumes nothing.
+-- opened and dealt with as a handshake record at the gateway; a handshake message is put together at the gateway. The words behind each call are given. Assumes nothing.
 use Prim.Native.Nat.{ℕ, suc, _≤_}
 use native.Mathlib.Omega.{arith}
 use borrow.Author.Tests.{le-ltb}
 use lib.ListN.{length, replicate, set}
 use mathlib.Core.Bool.{true, false, false≢true}
 use mathlib.Core.List.{List, [], _∷_, _++_, List·Memᴰ·head as here}
+use mathlib.Core.Option.{none}
 use mathlib.Core.Path.{_≡_, refl, sym, ap}
 use Rattle.base.specs.Bits as base-bits
 use Rattle.base.specs.Choose as base-choose
@@ -41,6 +42,12 @@ use Rattle.recv_calls.specs.Flat as recv-flat
 use Rattle.recv_calls.specs.declared.HuskReading.{HuskReading}
 use Rattle.send_words.specs.Words as send-words
 use Rattle.send_calls.specs.declared.HuskSealing.{HuskSealing}
+use Rattle.flight_words.specs.Words as flight-words
+use Rattle.classify.specs.Classify as classify
+use Rattle.classify.specs.Classify.{opened-kind, waiting, cleared, fresh as noneWaiting}
+use Rattle.classify_calls.specs.Calls as classify-calls
+use Rattle.classify_calls.specs.declared.HuskClass.{HuskClass}
+use Rattle.classify_theorem.specs.Account as classify-account
 use Rattle.handshake.specs.Header.{headerAt, parseHeader}
 use Rattle.assembly.specs.declared.Piece.the-variants as piece
 use Rattle.assembly.specs.Spans.{expected-at, type-at, total-at, size-at, place-at, length-at, within, covered, allCovered, isWhole, isSame, written}
@@ -59,14 +66,14 @@ use Rattle.ends_theorem.specs.Sender as ends-sender
 use Rattle.ends_theorem.specs.World.{Side, post, gateway, Setting}
 use Rattle.hosts_theorem.specs.Memory.{«husk_receiving_key», «husk_receiving_enable_encryption», «husk_receiving_begin_read», «husk_receiving_mask», «husk_receiving_opened», «host_writes», «husk_sending_key», «husk_sending_send», «husk_sending_sealed», «husk_sending_take»}
 use Rattle.hosts_theorem.specs.Log as hosts-log
-use Rattle.hosts_theorem.specs.Log.{Act, inward, «husk_sending_sealing», outward, «host_seals», «husk_assembly_begin», «husk_assembly_take»}
+use Rattle.hosts_theorem.specs.Log.{Act, inward, «husk_sending_sealing», outward, «host_seals», «husk_assembly_begin», «husk_assembly_take», «husk_receiving_classify»}
 use Rattle.hosts_theorem.specs.Claim.{Hosts, CCall, runs, AllMade, AllFair, Started, Refines}
 use Rattle.hosts_theorem.specs.Starts.{sendingWords, firstHost, starts}
 use Rattle.hosts_theorem.specs.Proof.{every-list-of-calls}
 
 -- every definition that the list computes with
 opened : Unit {0}
-unfolding base-bits.bit base-choose.choose base-choose.both base-choose.either base-parts.splice window-used.expected window-window.isFresh window-window.marking sequence-sequence.own sequence-sequence.below sequence-sequence.above sequence-sequence.nearest record-record.headerLen record-record.fragmentLen record-record.partialOf record-record.parseCiphertext record-record.isType record-record.parsed record-record.unifiedHeader dtls-aead-nonce.nonceOf incoming-inner.innerOf recv-keys-keys.fits recv-keys-keys.lastFit recv-keys-keys.find recv-keys-keys.orElse recv-keys-keys.two recv-keys-keys.resolve recv-keys-keys.wasFound recv-keys-keys.isKeyed recv-keys-keys.marked recv-keys-keys.appOne recv-keys-keys.apps recv-keys-keys.windowsSound recv-keys-keys.keysSound recv-keys-keys.isFull recv-keys-keys.installed datagram-datagram.askSound datagram-datagram.askKeyed datagram-datagram.openingSound datagram-datagram.questionSound datagram-datagram.isSound datagram-datagram.counted records-records.lockedStep records-records.sealedStep records-records.stepOf records-records.openingAsked records-records.askedAgain records-records.asking records-records.readStep mask-reply-mask.unmasked mask-reply-mask.rebuilt mask-reply-mask.judged mask-reply-mask.maskedAt mask-reply-mask.maskedBy mask-reply-mask.masking mask-reply-mask.maskStep opening-reply-opening.typed opening-reply-opening.openedAt opening-reply-opening.openedBy opening-reply-opening.openings opening-reply-opening.openedStep receiving-receiving.freshOf receiving-receiving.keyOf receiving-receiving.encryptOf receiving-receiving.beginOf queue-laid.trailerOf queue-laid.recordLen queue-laid.recordBytes queue-queue.isSetting queue-queue.isSound queue-queue.isReady queue-queue.slotOf queue-queue.lastLen queue-queue.tailOf queue-queue.placeOf queue-queue.grown queue-queue.laid queue-queue.startOf send-keys-keys.noEpoch send-keys-keys.noKeys send-keys-keys.isUsable send-keys-keys.isKeyed send-keys-keys.nextOf send-keys-keys.ivOf send-keys-keys.used send-keys-keys.sealedUpTo send-keys-keys.keyAnswer send-keys-keys.keyed outgoing-send.waitsBehind outgoing-send.laidState outgoing-send.laidMemory outgoing-send.sendAnswer outgoing-send.sendState outgoing-send.sendMemory outgoing-state.noWaiting outgoing-state.freshSending outgoing-state.started outgoing-state.isContentType outgoing-state.isAllowed outgoing-state.keyingState sealing-sealing.isSpan sealing-sealing.isHeld sealing-sealing.isAsked sealing-sealing.partStart sealing-sealing.questionOf sealing-sealing.maskedHeader sealing-sealing.behindOldest sealing-sealing.sealAnswer sealing-sealing.sealedState sealing-sealing.sealedMemory sealing-seek.nthOf sealing-seek.beyond sealing-seek.passed sealing-seek.foundAt sealing-seek.stepOf sealing-seek.seekStep sealing-seek.seek sealing-take.nextSlot sealing-take.takeAnswer sealing-take.takeState sealing-take.takeBuffer packed.ivOf recv-words.entriesOf recv-words.questionOf recv-words.isFlat send-words.lowsFrom send-words.isFlat recv-calls.firstReading recv-calls.firstState recv-flat.openingOf history-account.upd history-account.keyOwed history-account.keys history-account.resolvesTo history-account.sealedSize history-account.plainSize history-account.recordSize history-account.goodPlain history-receiver.beginOwed ends-sender.lends ends-ledger.joins ends-ledger.lays ends-ledger.isOld ends-ledger.keyNumber ends-ledger.keyed ends-ledger.isUsable ends-ledger.isType ends-ledger.isAllowed ends-ledger.hasKeys ends-ledger.queueNumber ends-ledger.sendNumber ends-ledger.after ends-ledger.sentBy hosts-log.reasonIn hosts-log.readingOf
+unfolding base-bits.bit base-choose.choose base-choose.both base-choose.either base-parts.splice window-used.expected window-window.isFresh window-window.marking sequence-sequence.own sequence-sequence.below sequence-sequence.above sequence-sequence.nearest record-record.headerLen record-record.fragmentLen record-record.partialOf record-record.parseCiphertext record-record.isType record-record.parsed record-record.unifiedHeader dtls-aead-nonce.nonceOf incoming-inner.innerOf recv-keys-keys.fits recv-keys-keys.lastFit recv-keys-keys.find recv-keys-keys.orElse recv-keys-keys.two recv-keys-keys.resolve recv-keys-keys.wasFound recv-keys-keys.isKeyed recv-keys-keys.marked recv-keys-keys.appOne recv-keys-keys.apps recv-keys-keys.windowsSound recv-keys-keys.keysSound recv-keys-keys.isFull recv-keys-keys.installed datagram-datagram.askSound datagram-datagram.askKeyed datagram-datagram.openingSound datagram-datagram.questionSound datagram-datagram.isSound datagram-datagram.counted records-records.lockedStep records-records.sealedStep records-records.stepOf records-records.openingAsked records-records.askedAgain records-records.asking records-records.readStep mask-reply-mask.unmasked mask-reply-mask.rebuilt mask-reply-mask.judged mask-reply-mask.maskedAt mask-reply-mask.maskedBy mask-reply-mask.masking mask-reply-mask.maskStep opening-reply-opening.typed opening-reply-opening.openedAt opening-reply-opening.openedBy opening-reply-opening.openings opening-reply-opening.openedStep receiving-receiving.freshOf receiving-receiving.keyOf receiving-receiving.encryptOf receiving-receiving.beginOf queue-laid.trailerOf queue-laid.recordLen queue-laid.recordBytes queue-queue.isSetting queue-queue.isSound queue-queue.isReady queue-queue.slotOf queue-queue.lastLen queue-queue.tailOf queue-queue.placeOf queue-queue.grown queue-queue.laid queue-queue.startOf send-keys-keys.noEpoch send-keys-keys.noKeys send-keys-keys.isUsable send-keys-keys.isKeyed send-keys-keys.nextOf send-keys-keys.ivOf send-keys-keys.used send-keys-keys.sealedUpTo send-keys-keys.keyAnswer send-keys-keys.keyed outgoing-send.waitsBehind outgoing-send.laidState outgoing-send.laidMemory outgoing-send.sendAnswer outgoing-send.sendState outgoing-send.sendMemory outgoing-state.noWaiting outgoing-state.freshSending outgoing-state.started outgoing-state.isContentType outgoing-state.isAllowed outgoing-state.keyingState sealing-sealing.isSpan sealing-sealing.isHeld sealing-sealing.isAsked sealing-sealing.partStart sealing-sealing.questionOf sealing-sealing.maskedHeader sealing-sealing.behindOldest sealing-sealing.sealAnswer sealing-sealing.sealedState sealing-sealing.sealedMemory sealing-seek.nthOf sealing-seek.beyond sealing-seek.passed sealing-seek.foundAt sealing-seek.stepOf sealing-seek.seekStep sealing-seek.seek sealing-take.nextSlot sealing-take.takeAnswer sealing-take.takeState sealing-take.takeBuffer packed.ivOf recv-words.entriesOf recv-words.questionOf recv-words.isFlat send-words.lowsFrom send-words.isFlat recv-calls.firstReading recv-calls.firstState recv-flat.openingOf history-account.upd history-account.keyOwed history-account.keys history-account.resolvesTo history-account.sealedSize history-account.plainSize history-account.recordSize history-account.goodPlain history-receiver.beginOwed ends-sender.lends ends-ledger.joins ends-ledger.lays ends-ledger.isOld ends-ledger.keyNumber ends-ledger.keyed ends-ledger.isUsable ends-ledger.isType ends-ledger.isAllowed ends-ledger.hasKeys ends-ledger.queueNumber ends-ledger.sendNumber ends-ledger.after ends-ledger.sentBy hosts-log.reasonIn hosts-log.readingOf hosts-log.classVerdict hosts-log.replyIn flight-words.entriesOf flight-words.flatTo classify.isSound classify.isAfter classify.isBeyond classify.isGuarded classify.byType classify.classOf classify.classified classify-calls.notedBy classify-calls.heeded classify-calls.classIn classify-account.isPast classify-account.isDropped classify-account.typeOwed classify-account.sealedOwed classify-account.readingOwed
 opened = tt
 
 -- ---- the calls
@@ -178,6 +185,16 @@ handedOver = record {
   nonce = replicate 12 0;
 }
 
+-- no reading waits; the record opened waits; dealt with
+abbrev noReading : List ℕ
+noReading = noneWaiting
+
+abbrev oneWaits : List ℕ
+oneWaits = waiting opened-kind 22 2 0 5 1 noReading
+
+abbrev dealtWith : HuskClass
+dealtWith = record { kind = 8; refusal = 0; description = 0; marked = 0; unacknowledged = 0; saved = 0; start = 5; length = 1 }
+
 abbrev by : Side → Act → CCall
 by s a = record { side = s; act = a }
 
@@ -189,12 +206,13 @@ talk =
     ∷ by post («host_seals» sealAsked cipher)
     ∷ by post (outward («husk_sending_sealed» 0 v₃ 18 1 2 (alone wire)))
     ∷ by post (outward («husk_sending_take» (record { kind = 2; refusal = 0; length = 23 }) v₄ (replicate 576 0) (alone wire)))
-    ∷ by gateway (inward («husk_receiving_key» 0 u₁ 2 iv))
-    ∷ by gateway (inward («husk_receiving_enable_encryption» 0 u₂))
-    ∷ by gateway (inward («husk_receiving_begin_read» maskAsked u₃ wire))
-    ∷ by gateway (inward («husk_receiving_mask» openAsked u₄ 1 2 (header ++ cipher)))
-    ∷ by gateway (inward («host_writes» openAsked inner))
-    ∷ by gateway (inward («husk_receiving_opened» handedOver u₅ 1 2))
+    ∷ by gateway (inward («husk_receiving_key» 0 u₁ 2 iv) noReading)
+    ∷ by gateway (inward («husk_receiving_enable_encryption» 0 u₂) noReading)
+    ∷ by gateway (inward («husk_receiving_begin_read» maskAsked u₃ wire) noReading)
+    ∷ by gateway (inward («husk_receiving_mask» openAsked u₄ 1 2 (header ++ cipher)) noReading)
+    ∷ by gateway (inward («host_writes» openAsked inner) noReading)
+    ∷ by gateway (inward («husk_receiving_opened» handedOver u₅ 1 2) oneWaits)
+    ∷ by gateway («husk_receiving_classify» dealtWith u₅ (cleared oneWaits) (replicate 73 0) (replicate 384 0))
     ∷ []
 
 hosts : Hosts
@@ -217,12 +235,15 @@ talk-made = (
           (
             ((refl, (refl, refl)), refl),
             (
-              (refl, refl, refl),
+              ((refl, refl, refl), refl),
               (
-                (refl, refl, refl),
+                ((refl, refl, refl), refl),
                 (
-                  (refl, refl, refl),
-                  (((refl, refl, refl), refl), (((u₄, (refl, refl, refl)), refl, omega arith), ((refl, refl, refl), tt))),
+                  ((refl, refl, refl), refl),
+                  (
+                    (((refl, refl, refl), refl), refl),
+                    ((((u₄, (refl, refl, refl)), refl, omega arith), refl), (((refl, refl, refl), refl), ((refl, refl, refl, refl, refl, refl), tt))),
+                  ),
                 ),
               ),
             ),
@@ -261,7 +282,7 @@ talk-fair = (
                 (tt, tt),
                 (
                   (tt, (tt, tt)),
-                  (((refl, λ s. refl), tt), ((tt, tt), ((λ right. yes-fair (sealedOne ∷ []) sealedOne (here refl) refl _ refl, tt), tt))),
+                  (((refl, λ s. refl), tt), ((tt, tt), ((λ right. yes-fair (sealedOne ∷ []) sealedOne (here refl) refl _ refl, tt), ((tt, tt), tt)))),
                 ),
               ),
             ),
@@ -272,7 +293,7 @@ talk-fair = (
   ),
 )
 
--- ---- so the claim holds of what these hosts saw: the record is handed over, the datagram is its bytes, every answer is as owed
+-- ---- so the claim holds of what these hosts saw: the record is handed over and dealt with, the datagram is its bytes, every answer is as owed
 
 in-range : (s : Side) → Startable (settings s)
 unfolding settings
@@ -288,6 +309,10 @@ talk-refines = every-list-of-calls settings hosts begun oneMask talk talk-made t
 talk-hands : (runs hosts talk gateway .seen .into .into .handed 2 ≡ record { num = 0; type = 22; content = 5 ∷ [] } ∷ []) × (runs hosts talk post .seen .out .taken ≡ wire ∷ [])
 unfolding opened settings talk hosts
 talk-hands = (refl, refl)
+
+talk-deals : let p = runs hosts talk gateway .seen .dealings in (p .account .turns ≡ 1) × (p .account .pending ≡ none) × (p .missed ≡ [])
+unfolding opened settings talk hosts
+talk-deals = (refl, refl, refl)
 
 -- ---- a message put together: at a fresh gateway a record is begun that has one piece, of one byte, and the message comes out
 

@@ -4,7 +4,7 @@
 use Prim.Native.Nat.{ℕ, suc, _+_}
 use lib.Dec.{eqb, leb, ltb}
 use lib.ListN.{length, replicate}
-use mathlib.Core.Bool.{true}
+use mathlib.Core.Bool.{Bool, true}
 use mathlib.Core.List.{List, [], _∷_, _++_}
 use mathlib.Core.Option.{Option, none, some}
 use mathlib.Core.Path.{_≡_}
@@ -14,6 +14,7 @@ use Rattle.datagram.specs.declared.Reading.the-variants as says
 use Rattle.datagram.specs.declared.Reading.{Reading}
 use Rattle.datagram.specs.declared.Reason.the-variants as reason
 use Rattle.datagram.specs.declared.Reason.{Reason}
+use Rattle.opening_reply.specs.Opening.{shownBy}
 use Rattle.receiving.specs.declared.Read.{Read}
 use Rattle.receiving.specs.declared.Receiving.{Receiving}
 use Rattle.sealing.specs.Sealing.{questionOf}
@@ -36,13 +37,17 @@ use Rattle.assembly_calls.specs.Calls as pieces
 use Rattle.assembly_calls.specs.declared.HuskPiece.{HuskPiece}
 use Rattle.waiting_laws.specs.Calls.{Stores, SendCall, keySend·, send·, save·, message·, beginFlight·, resend·, note·, sendAck·, ack·, fill·, sealed·, take·, Reply, only}
 use Rattle.history_theorem.specs.Account.{upd, keyOwed, keys, isIn}
-use Rattle.history_theorem.specs.Receiver.{Sealed, Receiver, Out, withState, flagged, removedFrom, removeOwed, startsOn, beginOwed, Inbound, takes, tells, logs, strays, readBy, maskBy, openBy, useOf, unused, fateOf}
+use Rattle.history_theorem.specs.Receiver.{Sealed, Receiver, Out, withState, flagged, removedFrom, removeOwed, startsOn, beginOwed, leavesRest, Inbound, takes, tells, logs, strays, readBy, maskBy, openBy, useOf, unused, fateOf}
 use Rattle.ends_theorem.specs.Ledger.{owed, after, sentBy, shortReply, clears}
 use Rattle.ends_theorem.specs.Sender.{Books, Lent, Sender, firstBytes, sealedAs, finish, entersAll}
 use Rattle.assembly_theorem.specs.Account.{Verdict, begun, turned, ended, over, other, same, held, whole}
 use Rattle.assembly_theorem.specs.Claim as assembly
-use Rattle.ends_theorem.specs.World.{Count, Took, End, takesIn, puts}
-use Rattle.hosts_theorem.specs.Memory.{Incoming, Outgoing, InCall, «husk_receiving_key», «husk_receiving_remove», «husk_receiving_enable_encryption», «husk_receiving_release_application_data», «husk_receiving_begin», «husk_receiving_begin_read», «husk_receiving_read», «husk_receiving_mask», «husk_receiving_opened», «husk_receiving_read_over», «husk_receiving_mask_over», «husk_receiving_opened_over», «host_writes», OutCall, «husk_sending_key», «husk_sending_send», «husk_sending_sealed», «husk_sending_take», «husk_sending_take_in_place», «husk_flight_begin», «husk_flight_send», «husk_flight_message», «husk_flight_resend», «husk_flight_ack», «husk_notes_add», «husk_notes_send», MadeIn, MadeOut, queues, behindIn, behindOut, lends}
+use Rattle.classify_calls.specs.Calls as classify
+use Rattle.classify_calls.specs.declared.HuskClass.{HuskClass}
+use Rattle.classify_theorem.specs.Account as account
+use Rattle.classify_theorem.specs.Claim as dealing
+use Rattle.ends_theorem.specs.World.{Count, Took, End, takesIn, puts, files}
+use Rattle.hosts_theorem.specs.Memory.{Incoming, Outgoing, InCall, «husk_receiving_key», «husk_receiving_remove», «husk_receiving_enable_encryption», «husk_receiving_release_application_data», «husk_receiving_begin», «husk_receiving_begin_read», «husk_receiving_read», «husk_receiving_mask», «husk_receiving_opened», «husk_receiving_read_over», «husk_receiving_mask_over», «husk_receiving_opened_over», «host_writes», OutCall, «husk_sending_key», «husk_sending_send», «husk_sending_sealed», «husk_sending_take», «husk_sending_take_in_place», «husk_flight_begin», «husk_flight_send», «husk_flight_message», «husk_flight_resend», «husk_flight_ack», «husk_notes_add», «husk_notes_send», MadeIn, MadePending, MadeOut, queues, flies, behindIn, behindOut, lends}
 
 -- ---- what an answer of a reading call says
 
@@ -328,6 +333,7 @@ enters e c r x took given = record {
   cleared = clears (e .ledger) c ++ e .cleared;
   into = e .into;
   counts = e .counts;
+  dealings = e .dealings;
   pieces = e .pieces;
 }
 
@@ -390,6 +396,7 @@ enteredOver e h g own c = record {
   cleared = e .cleared;
   into = e .into;
   counts = e .counts;
+  dealings = e .dealings;
   pieces = e .pieces;
 }
 
@@ -417,11 +424,100 @@ pieceTold (whole k n l) = record { kind = 5; refusal = 0; «msg_type» = k; numb
 abbrev pub verdictOfBegin : ℕ → Verdict
 verdictOfBegin r = choose (eqb r 0) begun (turned r)
 
+-- ---- readings told and dealt with
+
+-- nothing but the words
+abbrev pub reworded : dealing.Dealings → List ℕ → dealing.Dealings
+reworded p y = record { words = y; account = p .account; told = p .told; dealt = p .dealt; missed = p .missed }
+
+-- an answer of a reading call over the datagram d
+abbrev pub notesIn : dealing.Dealings → HuskReading → List ℕ → List ℕ → dealing.Dealings
+notesIn p r d y = record {
+  words = y;
+  account = account.hears (p .account) (readingOf r) (shownBy (readingOf r) d);
+  told = p .told;
+  dealt = p .dealt;
+  missed = dealing.missedBy (readingOf r) (p .account .pending) (p .missed);
+}
+
+-- a datagram begun, where that was answered 0
+abbrev pub startsIn : dealing.Dealings → Bool → List ℕ → dealing.Dealings
+startsIn p done y = record {
+  words = y;
+  account = choose done (account.begins (p .account)) (p .account);
+  told = p .told;
+  dealt = p .dealt;
+  missed = choose done (dealing.leavesBehind (p .account .pending) (p .missed)) (p .missed);
+}
+
+-- behind a receiving call over the begun datagram d: y the words of the reading that waits behind it
+abbrev pub dealingsTo : dealing.Dealings → List ℕ → InCall → List ℕ → dealing.Dealings
+dealingsTo p d («husk_receiving_begin» r v b) y = startsIn p (eqb r 0) y
+dealingsTo p d («husk_receiving_begin_read» r v b) y = choose (ltb 16384 (length b)) (reworded p y) (notesIn (startsIn p true y) r b y)
+dealingsTo p d («husk_receiving_read» r v) y = notesIn p r d y
+dealingsTo p d («husk_receiving_opened» r v o len) y = choose (leb o 1) (notesIn p r d y) (reworded p y)
+dealingsTo p d («husk_receiving_read_over» r v b) y = reworded p y
+dealingsTo p d («husk_receiving_opened_over» r v o len b) y = reworded p y
+dealingsTo p d («husk_receiving_key» r v epoch iv) y = reworded p y
+dealingsTo p d («husk_receiving_remove» r v epoch) y = reworded p y
+dealingsTo p d («husk_receiving_enable_encryption» r v) y = reworded p y
+dealingsTo p d («husk_receiving_release_application_data» r v) y = reworded p y
+dealingsTo p d («husk_receiving_mask» r v m n e) y = reworded p y
+dealingsTo p d («husk_receiving_mask_over» r v m n e b) y = reworded p y
+dealingsTo p d («host_writes» r b) y = reworded p y
+
+-- what an answer tells, by its kind, as the header lists them
+unfoldable pub classVerdict : HuskClass → account.Verdict
+classVerdict r =
+    choose (eqb (r .kind) 0) (account.turned (r .refusal))
+    (choose (eqb (r .kind) 1) account.noneWaits
+    (choose (eqb (r .kind) 2) account.beyond
+    (choose (eqb (r .kind) 3) account.unprotected
+    (choose (eqb (r .kind) 4) account.ignored
+    (choose (eqb (r .kind) 5) account.marks
+    (choose (eqb (r .kind) 6) account.closes
+    (choose (eqb (r .kind) 7) (account.tells (r .description))
+    (choose (eqb (r .kind) 8) account.handshake
+    (choose (eqb (r .kind) 9) account.applicationData (choose (eqb (r .kind) 10) account.other account.unopened))))))))))
+
+-- with the bytes of the datagram that it shows
+unfoldable pub replyIn : HuskClass → List ℕ → account.Reply
+replyIn r d = record { verdict = classVerdict r; content = choose (leb (r .kind) 1) [] (part (r .start) (r .length) d) }
+
+abbrev pub dealsIn : dealing.Dealings → Bool → HuskClass → List ℕ → List ℕ → dealing.Dealings
+dealsIn p on r y d = record {
+  words = y;
+  account = account.deals (p .account) on;
+  told = record { reply = replyIn r d; owed = account.owed (p .account) on } ∷ p .told;
+  dealt = dealing.entersAs (p .account) on (replyIn r d) (p .account .pending) (p .dealt);
+  missed = p .missed;
+}
+
+-- over bytes d of another length
+abbrev pub dealsOverIn : dealing.Dealings → HuskClass → List ℕ → List ℕ → dealing.Dealings
+dealsOverIn p r y d = record {
+  words = y;
+  account = p .account;
+  told = record { reply = replyIn r d; owed = account.bare (account.turned 15) } ∷ p .told;
+  dealt = p .dealt;
+  missed = p .missed;
+}
+
+-- kind 5: an ACK was acted on, as by husk_flight_ack; kind 7: what is left of the datagram is not read
+abbrev pub ackedBy : HuskClass → HuskAcked
+ackedBy r = record { refusal = 0; marked = r .marked; unacknowledged = r .unacknowledged; saved = r .saved }
+
+abbrev pub leftIn : Inbound → List ℕ → Inbound
+leftIn i v =
+    logs i (withState (i .into) (stateOf v) (leavesRest (i .into .account) (length (i .into .arrived)) (i .into .account .waits))) (i .serial) unused
+
 -- ---- a host: its memory, and its log, which the claim speaks of as an end
 
--- the words of husk_assembly_init beside the memory of the two directions; seen is entered from arguments, memory and answers alone
+-- the words of the reading that waits and those of husk_assembly_init beside the memory of the two directions; seen is entered from arguments, memory and
+-- answers alone
 pub record Host : Type 0 where
   pub incoming : Incoming
+  pub pending : List ℕ
   pub outgoing : Outgoing
   pub assembly : List ℕ
   pub seen : End
@@ -448,9 +544,18 @@ countsTo e («husk_receiving_mask_over» r v m n b d) = count e (e .into .serial
 countsTo e («husk_receiving_opened_over» r v o len d) = choose (leb o 1) (count e (e .into .serial) (e .counts)) (e .counts)
 countsTo e («host_writes» r p) = e .counts
 
--- a call at a host: receiving; only asking; sending over the host's own memory; sending over another queue q and other memory k for saved contents
+-- a reading dealt with: g and m the flight's words and numbers behind it
+abbrev pub flown : Outgoing → List ℕ → List ℕ → Outgoing
+flown h g m = flies h (h .words) (h .queue) g m (h .kept)
+
+abbrev pub followsIn : End → Outgoing → HuskClass → List ℕ → List ℕ → List ℕ → End
+followsIn e h r v g m =
+    choose (eqb (r .kind) 5) (enteredOut e h (flown h g m) («husk_flight_ack» (ackedBy r) g m (part (r .start) (r .length) (e .into .into .datagram))))
+    (choose (eqb (r .kind) 7) (takesIn e (leftIn (e .into) v) (count e (e .into .serial) (e .counts)) (e .dealings)) e)
+
+-- a call at a host: receiving, y what it left of the reading that waits; only asking; sending over the host's own memory; sending over another queue q and other memory k for saved contents
 pub data Act : Type 0 where
-  inward : InCall → Act
+  inward : (c : InCall) (y : List ℕ) → Act
   «husk_sending_sealing» : (r : HuskSealing) → Act
   «husk_flight_status» : (r : HuskSaved) → Act
   «husk_sending_status» : (r : HuskQueued) → Act
@@ -461,10 +566,13 @@ pub data Act : Type 0 where
   -- reassembly: v the words behind it, c the record's content, d the buffer before it and e behind
   «husk_assembly_begin» : (r : ℕ) (v : List ℕ) (n : ℕ) → Act
   «husk_assembly_take» : (r : HuskPiece) (v c d e : List ℕ) → Act
+  -- the reading that waits is dealt with: v, y, g, m left in the words, the reading that waits, the flight and its numbers; the same over other bytes d
+  «husk_receiving_classify» : (r : HuskClass) (v y g m : List ℕ) → Act
+  «husk_receiving_classify_over» : (r : HuskClass) (v y g m d : List ℕ) → Act
 
 -- it was made: its own contract, over the host's memory
 abbrev pub Made : Host → Act → Type 0
-Made h (inward c) = MadeIn (h .incoming) c
+Made h (inward c y) = MadeIn (h .incoming) c × MadePending c (h .pending) y
 Made h («husk_sending_sealing» r) = sends.SealingCall r (h .outgoing .words)
 Made h («husk_flight_status» r) = status.FlightStatusCall r (h .outgoing .flight)
 Made h («husk_sending_status» r) = status.SendingStatusCall r (h .outgoing .words)
@@ -473,6 +581,10 @@ Made h (outwardOver c q k) = MadeOut (lends (h .outgoing) q k) c
 Made h («host_seals» r bytes) = sends.SealingCall r (h .outgoing .words) × (r .kind ≡ 2) × (length bytes ≡ r .length)
 Made h («husk_assembly_begin» r v n) = pieces.BeginCall r v (h .assembly) n
 Made h («husk_assembly_take» r v c d e) = pieces.TakeCall r v (h .assembly) c e d
+Made h («husk_receiving_classify» r v y g m) =
+    classify.ClassifyCall r v (h .incoming .words) y (h .pending) g (h .outgoing .flight) m (h .outgoing .numbers) (h .incoming .datagram)
+Made h («husk_receiving_classify_over» r v y g m d) =
+    classify.ClassifyCall r v (h .incoming .words) y (h .pending) g (h .outgoing .flight) m (h .outgoing .numbers) d
 
 -- the queue behind the host's writing
 abbrev pub sealedIn : Outgoing → HuskSealing → List ℕ → Outgoing
@@ -484,17 +596,21 @@ returns h g = lends g (h .queue) (h .kept)
 
 -- memory and log behind it; f the far host
 abbrev pub behind : Host → Host → Act → Host
-behind f h (inward c) = record {
+behind f h (inward c y) = record {
   incoming = behindIn (h .incoming) c;
+  pending = y;
   outgoing = h .outgoing;
   assembly = h .assembly;
-  seen = takesIn (h .seen) (enteredIn (f .seen .out .sealed) (h .seen .into) c) (countsTo (h .seen) c);
+  seen =
+      takesIn (h .seen) (enteredIn (f .seen .out .sealed) (h .seen .into) c) (countsTo (h .seen) c)
+      (dealingsTo (h .seen .dealings) (h .seen .into .into .datagram) c y);
 }
 behind f h («husk_sending_sealing» r) = h
 behind f h («husk_flight_status» r) = h
 behind f h («husk_sending_status» r) = h
 behind f h (outward c) = record {
   incoming = h .incoming;
+  pending = h .pending;
   outgoing = behindOut (h .outgoing) c;
   assembly = h .assembly;
   seen = enteredOut (h .seen) (h .outgoing) (behindOut (h .outgoing) c) c;
@@ -502,22 +618,41 @@ behind f h (outward c) = record {
 behind f h (outwardOver c q k) =
     let o = lends (h .outgoing) q k in
     let g = behindOut o c in
-    record { incoming = h .incoming; outgoing = returns (h .outgoing) g; assembly = h .assembly; seen = enteredOver (h .seen) o g (returns (h .outgoing) g) c }
+    record { incoming = h .incoming; pending = h .pending; outgoing = returns (h .outgoing) g; assembly = h .assembly; seen = enteredOver (h .seen) o g (returns (h .outgoing) g) c }
 behind f h («host_seals» r bytes) = record {
   incoming = h .incoming;
+  pending = h .pending;
   outgoing = sealedIn (h .outgoing) r bytes;
   assembly = h .assembly;
   seen = enteredFill (h .seen) (sealedIn (h .outgoing) r bytes) bytes;
 }
 behind f h («husk_assembly_begin» r v n) = record {
   incoming = h .incoming;
+  pending = h .pending;
   outgoing = h .outgoing;
   assembly = v;
   seen = puts (h .seen) (assembly.starts (h .seen .pieces) n (verdictOfBegin r) v);
 }
 behind f h («husk_assembly_take» r v c d e) = record {
   incoming = h .incoming;
+  pending = h .pending;
   outgoing = h .outgoing;
   assembly = v;
   seen = puts (h .seen) (assembly.takes (h .seen .pieces) c d (verdictIn r) v e);
+}
+behind f h («husk_receiving_classify» r v y g m) = record {
+  incoming = record { words = v; datagram = h .incoming .datagram };
+  pending = y;
+  outgoing = flown (h .outgoing) g m;
+  assembly = h .assembly;
+  seen =
+      files (followsIn (h .seen) (h .outgoing) r v g m)
+      (dealsIn (h .seen .dealings) (h .seen .into .into .account .encryption) r y (h .seen .into .into .datagram));
+}
+behind f h («husk_receiving_classify_over» r v y g m d) = record {
+  incoming = record { words = v; datagram = h .incoming .datagram };
+  pending = y;
+  outgoing = flown (h .outgoing) g m;
+  assembly = h .assembly;
+  seen = files (h .seen) (dealsOverIn (h .seen .dealings) r y d);
 }

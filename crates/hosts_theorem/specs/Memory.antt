@@ -10,6 +10,8 @@ use Rattle.base.specs.Parts.{splice}
 use Rattle.answers.specs.declared.HuskTold.{HuskTold}
 use Rattle.recv_calls.specs.Calls as receive
 use Rattle.recv_calls.specs.declared.HuskReading.{HuskReading}
+use Rattle.classify.specs.Classify.{cleared}
+use Rattle.classify_calls.specs.Calls.{notedBy}
 use Rattle.send_calls.specs.Calls as sends
 use Rattle.send_calls.specs.declared.HuskTake.{HuskTake}
 use Rattle.send_calls.specs.declared.HuskPart.{HuskPart}
@@ -72,6 +74,23 @@ MadeIn h («husk_receiving_read_over» r v d) = receive.ReadCall r v (h .words) 
 MadeIn h («husk_receiving_mask_over» r v m n e d) = receive.MaskCall r v (h .words) m n e d
 MadeIn h («husk_receiving_opened_over» r v o len d) = receive.OpenedCall r v (h .words) o len d
 MadeIn h («host_writes» r p) = ((v : List ℕ) × receive.ReadCall r v (h .words) (h .datagram)) × (r .kind ≡ 7) × (length p ≤ r .length)
+
+-- and what it left of the reading that waits: x before, y behind. With `MadeIn` this is the contract of the call (crate classify_calls); where the words are
+-- not lent they stay
+abbrev pub MadePending : InCall → List ℕ → List ℕ → Type 0
+MadePending («husk_receiving_begin» r v d) x y = y ≡ choose (eqb r 0) (cleared x) x
+MadePending («husk_receiving_begin_read» r v d) x y = y ≡ notedBy r x
+MadePending («husk_receiving_read» r v) x y = y ≡ notedBy r x
+MadePending («husk_receiving_opened» r v o len) x y = y ≡ notedBy r x
+MadePending («husk_receiving_read_over» r v d) x y = y ≡ notedBy r x
+MadePending («husk_receiving_opened_over» r v o len d) x y = y ≡ notedBy r x
+MadePending («husk_receiving_key» r v epoch iv) x y = y ≡ x
+MadePending («husk_receiving_remove» r v epoch) x y = y ≡ x
+MadePending («husk_receiving_enable_encryption» r v) x y = y ≡ x
+MadePending («husk_receiving_release_application_data» r v) x y = y ≡ x
+MadePending («husk_receiving_mask» r v m n e) x y = y ≡ x
+MadePending («husk_receiving_mask_over» r v m n e d) x y = y ≡ x
+MadePending («host_writes» r p) x y = y ≡ x
 
 -- ---- the memory behind them
 

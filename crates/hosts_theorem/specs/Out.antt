@@ -496,6 +496,7 @@ module _ (h : Outgoing) (e : End) (a : StandsOut h e) where
           cleared = e .cleared;
           into = e .into;
           counts = e .counts;
+          dealings = e .dealings;
           pieces = e .pieces;
         }
 

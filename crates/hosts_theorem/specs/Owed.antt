@@ -17,17 +17,15 @@ use Rattle.outgoing.specs.declared.Sending.{Sending}
 use Rattle.outgoing.specs.Status.{toSeal}
 use Rattle.sealing.specs.Sealing.{questionOf}
 use Rattle.sealing.specs.declared.Question.{Question}
-use Rattle.send_keys.specs.Answer.{isDone}
 use Rattle.flight.specs.declared.Flight.{Flight}
 use Rattle.process_ack.specs.Ack.{acked}
 use Rattle.process_ack.specs.Status.{newlyMarked}
-use Rattle.process_ack.specs.declared.Acked.{Acked}
 use Rattle.flight_words.specs.Words.{flightOf, flatTo}
 use Rattle.send_words.specs.Words as sendWords
 use Rattle.status_calls.specs.Calls as status
 use Rattle.status_calls.specs.declared.HuskSaved.{HuskSaved}
 use Rattle.status_calls.specs.declared.HuskQueued.{HuskQueued}
-use Rattle.ack_calls.specs.Calls.{leftBehind}
+use Rattle.ack_calls.specs.Calls.{ackedTold, leftBehind}
 use Rattle.ack_calls.specs.declared.HuskAcked.{HuskAcked}
 use Rattle.send_calls.specs.Calls.{flatSealing, flatTake, flatPart, SealingCall}
 use Rattle.send_calls.specs.declared.HuskSealing.{HuskSealing}
@@ -36,25 +34,40 @@ use Rattle.send_calls.specs.declared.HuskPart.{HuskPart}
 use Rattle.taking.specs.Take.{takeAnswer}
 use Rattle.taking.specs.declared.TakeAnswer.the-variants as taken
 use Rattle.taking.specs.declared.TakeAnswer.{TakeAnswer}
-use Rattle.waiting_laws.specs.Calls.{Stores, ack·, Reply}
+use Rattle.waiting_laws.specs.Calls.{Stores, ack·, Reply, stored}
 use Rattle.waiting_laws.specs.Queued.{Queued, Holds}
 use Rattle.waiting_laws.specs.Seals.{question-told}
 use Rattle.waiting_laws.specs.Takes.{takeTold, take-told}
 use Rattle.history_theorem.specs.Account.{sealedHead, nothing}
-use Rattle.history_theorem.specs.Claim.{Masks, Proper, Turned, nonceFor}
+use Rattle.history_theorem.specs.Claim.{Masks, Proper, Turned, OtherLength, nonceFor}
 use Rattle.history_theorem.specs.Receiver.{Sealed, Spoken, Stray, Told, aRead, anOpenReply, beginOwed, Inbound}
 use Rattle.history_theorem.specs.Sound.{Sound}
 use Rattle.assembly_theorem.specs.Claim.{Assembled}
-use Rattle.ends_theorem.specs.Ledger.{Item, waiting, items, oldest, unacked, after, shortReply}
-use Rattle.ends_theorem.specs.Matches.{itemsOf, Matches}
+use Rattle.ends_theorem.specs.Ledger.{Item, Ledger, waiting, items, oldest, unacked, owed, after, shortReply}
+use Rattle.ends_theorem.specs.Matches.{itemsOf, Matches, Does}
 use Rattle.ends_theorem.specs.Proof.{Good, holds}
 use Rattle.ends_theorem.specs.Status.{StatusIs, status-is}
 use Rattle.ends_theorem.specs.Sender.{Lent, AskedFor, sealedHeader}
-use Rattle.ends_theorem.specs.World.{Side, post, gateway, Said, Over, End, World}
+use Rattle.ends_theorem.specs.World.{Side, post, gateway, Said, Over, End, World, classOf, contentIn}
 use Rattle.hosts_theorem.specs.Memory.{Incoming, Outgoing, InCall, «husk_receiving_key», «husk_receiving_remove», «husk_receiving_enable_encryption», «husk_receiving_release_application_data», «husk_receiving_begin», «husk_receiving_begin_read», «husk_receiving_read», «husk_receiving_mask», «husk_receiving_opened», «husk_receiving_read_over», «husk_receiving_mask_over», «husk_receiving_opened_over», «host_writes», OutCall, «husk_sending_key», «husk_sending_send», «husk_sending_sealed», «husk_sending_take», «husk_sending_take_in_place», «husk_flight_begin», «husk_flight_send», «husk_flight_message», «husk_flight_resend», «husk_flight_ack», «husk_notes_add», «husk_notes_send», MadeIn, MadeOut, behindOut, lends}
-use Rattle.hosts_theorem.specs.Log.{readingOf, enteredIn, storesOf, sendOf, replyOf, enteredOut, Host, Act, inward, «husk_sending_sealing», «husk_flight_status», «husk_sending_status», outward, outwardOver, «host_seals», «husk_assembly_begin», «husk_assembly_take», Made, behind}
+use Rattle.classify.specs.Classify as program
+use Rattle.classify.specs.Classify.{classified}
+use Rattle.classify.specs.declared.Class.{Class}
+use Rattle.classify.specs.declared.Class.the-variants as class
+use Rattle.classify_calls.specs.Calls.{flatClass, ClassifyCall}
+use Rattle.classify_calls.specs.declared.HuskClass.{HuskClass}
+use Rattle.classify_theorem.specs.Account as account
+use Rattle.classify_theorem.specs.Claim.{verdictOf}
+use Rattle.classify_theorem.specs.Words.{Says}
+use Rattle.classify_theorem.specs.Story as classify
+use Rattle.classify_theorem.specs.Dealing.{over-class, none-class, says-x, shown-x, verdict-x}
+use Rattle.datagram.specs.declared.Reading.{Reading}
+use Rattle.opening_reply.specs.Opening.{startOf, lengthOf}
+use Rattle.waiting_laws.specs.Answers as sends
+use Rattle.hosts_theorem.specs.Dealings.{ack-done, own, ack-told, turned}
+use Rattle.hosts_theorem.specs.Log.{readingOf, enteredIn, storesOf, sendOf, replyOf, enteredOut, Host, Act, inward, «husk_sending_sealing», «husk_flight_status», «husk_sending_status», outward, outwardOver, «host_seals», «husk_assembly_begin», «husk_assembly_take», «husk_receiving_classify», «husk_receiving_classify_over», Made, behind}
 use Rattle.hosts_theorem.specs.Pieces.{begin-owed, take-owed}
-use Rattle.hosts_theorem.specs.Claim.{Stands, StandsIn, StandsOut, Shows, removalTold, OwedIn, OwedSealing, nothingToSeal, kindOwed, OwedMore, OwedOver, Owed}
+use Rattle.hosts_theorem.specs.Claim.{Stands, StandsIn, StandsOut, Shows, removalTold, OwedIn, OwedSealing, nothingToSeal, kindOwed, OwedMore, OwedOver, classTold, classOwed, Owed}
 use Rattle.hosts_theorem.specs.In.{long-answer, first-whole, opened-answer, read-whole, mask-whole, opened-whole, remove-answer}
 use Rattle.hosts_theorem.specs.Out.{out-answer, sealing-answer}
 
@@ -88,6 +101,7 @@ pub record Fine (e : End) : Type 0 where
   shown : Plain (shownBy (questionOf (e .out .stores .state)))
   matches : Matches (e .out .stores) (e .ledger)
   pieces : Assembled (e .pieces)
+  pub dealings : classify.Story (e .dealings) (e .into .into)
 
 asked-at : (masks : Side → Masks) (w : World) → Good masks w → (s : Side)
     → AskedFor (w s .out .lent) (oldest (items (w s .ledger .queue))) × ((l : Lent) → w s .out .lent ≡ some l → l .nonce ≡ nonceFor (w s .out .ivs (l .epoch)) (l .num))
@@ -104,6 +118,7 @@ fine masks w g s = record {
   shown = plain (w s .out .stores .state) (w s .out .stores .queue) (g .out s .ds) (g .out s .laying .holds);
   matches = g .matches s;
   pieces = g .pieces s .0 .holds;
+  dealings = g .dealings s;
 }
 
 -- ---- receiving
@@ -185,11 +200,6 @@ kind-told (d ∷ ds) have start =
     (flatTake a .kind ≡ choose (eqb (flatTake a .refusal) 0) 2 0) × (flatPart a start .kind ≡ choose (eqb (flatPart a start .refusal) 0) 2 0) in
     by-test P (λ t. (sym (if-false _ _ refl), sym (if-false _ _ refl)))
     (λ t. by-test P (λ u. (sym (if-false _ _ refl), sym (if-false _ _ refl))) (λ u. (sym (if-true _ _ refl), sym (if-true _ _ refl))))
-
--- an ACK over no more saved records than a flight has is acted on
-ack-done : (f : Flight) (d : List ℕ) → f .saved ≤ 12 → isDone (acked f d .answer) ≡ true
-unfolding acked
-ack-done f d l = ap (λ (x : Acked). isDone (x .answer)) (if-false _ _ (le-ltb _ _ l))
 
 module _ (h : Outgoing) (e : End) (o : StandsOut h e) (i : Matches (e .out .stores) (e .ledger)) where
   abbrev s : Sending
@@ -309,20 +319,133 @@ module _ (h : Outgoing) (e : End) (o : StandsOut h e) (i : Matches (e .out .stor
       let w : min (toSeal (e .out .stores .state)) status.most ≡ waiting (items (e .ledger .queue)) = omega (arith, is .to-seal, is .most) in
       queued-answer r m ∙ ap (λ (w : Stores). status.queuedOf (w .state)) (o .stores) ∙ (λ j. record { refusal = 0; queued = is .queued j; waiting = w j })
 
+-- ---- a reading dealt with
+
+-- told by the claim's table as the library answers it: w the words of the reading, p the reading, c its bytes
+told-class : (k : Class) (w : List ℕ) (x : HuskAcked) (l : Ledger) (c : List ℕ) (p : Reading) → program.startOf w ≡ startOf p → program.lengthOf w ≡ lengthOf p
+    → (k ≡ class.Ack → x ≡ record { refusal = 0; marked = owed l (ack· c) .told; unacknowledged = unacked (after l (ack· c) .saved); saved = length (after l (ack· c) .saved) })
+    → flatClass k w x ≡ classTold l (verdictOf k) c p
+told-class class.Setting w x l c p a b d = refl
+told-class class.Reply w x l c p a b d = refl
+told-class class.Nothing w x l c p a b d = refl
+told-class class.Beyond w x l c p a b d = λ j. record { kind = 2; refusal = 0; description = 0; marked = 0; unacknowledged = 0; saved = 0; start = a j; length = b j }
+told-class class.Unprotected w x l c p a b d = λ j. record { kind = 3; refusal = 0; description = 0; marked = 0; unacknowledged = 0; saved = 0; start = a j; length = b j }
+told-class class.Ignored w x l c p a b d = λ j. record { kind = 4; refusal = 0; description = 0; marked = 0; unacknowledged = 0; saved = 0; start = a j; length = b j }
+told-class class.Ack w x l c p a b d =
+    let q = d refl in
+    λ j. record {
+      kind = 5;
+      refusal = 0;
+      description = 0;
+      marked = q j .marked;
+      unacknowledged = q j .unacknowledged;
+      saved = q j .saved;
+      start = a j;
+      length = b j;
+    }
+told-class class.Close w x l c p a b d = λ j. record { kind = 6; refusal = 0; description = 0; marked = 0; unacknowledged = 0; saved = 0; start = a j; length = b j }
+told-class (class.Alert e) w x l c p a b d = λ j. record { kind = 7; refusal = 0; description = e; marked = 0; unacknowledged = 0; saved = 0; start = a j; length = b j }
+told-class class.Handshake w x l c p a b d = λ j. record { kind = 8; refusal = 0; description = 0; marked = 0; unacknowledged = 0; saved = 0; start = a j; length = b j }
+told-class class.ApplicationData w x l c p a b d = λ j. record { kind = 9; refusal = 0; description = 0; marked = 0; unacknowledged = 0; saved = 0; start = a j; length = b j }
+told-class class.Other w x l c p a b d = λ j. record { kind = 10; refusal = 0; description = 0; marked = 0; unacknowledged = 0; saved = 0; start = a j; length = b j }
+told-class class.Unopened w x l c p a b d = λ j. record { kind = 11; refusal = 0; description = 0; marked = 0; unacknowledged = 0; saved = 0; start = a j; length = b j }
+
+-- where the words have its content
+place-told : (p : Reading) (w : List ℕ) → Says p w → (program.startOf w ≡ startOf p) × (program.lengthOf w ≡ lengthOf p)
+place-told (says.Plaintext t n s l) w q = (q .start, q .size)
+place-told (says.Unopened b n s l) w q = (q .start, q .size)
+place-told (says.Opened e n t s l) w q = (q .start, q .size)
+place-told says.Setting w q = absurd q
+place-told says.Reply w q = absurd q
+place-told says.End w q = absurd q
+place-told says.Incomplete w q = absurd q
+place-told says.TooMany w q = absurd q
+place-told (says.Dropped r) w q = absurd q
+place-told (says.Mask e s) w q = absurd q
+place-told (says.Opening e n s g l) w q = absurd q
+
+-- what is told of an ACK acted on is what the sending account says
+abbrev pub ActsAsOwed : End → Type 0
+ActsAsOwed e = classOf e ≡ class.Ack → Does (e .out .stores) (e .ledger) (ack· (contentIn e))
+
+module _ (h : Host) (o : Stands h) (z : Sound (h .seen .into .into)) (g : Fine (h .seen)) where
+  abbrev e : End
+  e = h .seen
+
+  pub few : e .out .stores .flight .saved ≤ 12
+  few = status-is (e .out .stores) (e .ledger) (g .matches) .few
+
+  abbrev own-flight : Flight
+  own-flight = flightOf (h .outgoing .flight) (h .outgoing .numbers)
+
+  -- the counts of an ACK
+  counts-told : Does (e .out .stores) (e .ledger) (ack· (contentIn e))
+      → ackedTold (acked own-flight (contentIn e)) (newlyMarked own-flight (contentIn e))
+      ≡ record {
+        refusal = 0;
+        marked = owed (e .ledger) (ack· (contentIn e)) .told;
+        unacknowledged = unacked (after (e .ledger) (ack· (contentIn e)) .saved);
+        saved = length (after (e .ledger) (ack· (contentIn e)) .saved);
+      }
+  counts-told d =
+      let c = contentIn e in
+      let s = status-is (stored (e .out .stores) (ack· c)) (after (e .ledger) (ack· c)) (d .leaves) in
+      let n : newlyMarked (e .out .stores .flight) c ≡ owed (e .ledger) (ack· c) .told = ap (λ (r : Reply). r .told) (d .reply) in
+      ack-told h o few
+      ∙ ap (λ (w : Stores). leftBehind (newlyMarked (w .flight) c) (acked (w .flight) c .flight)) (o .outgoing .stores)
+      ∙ (λ j. record { refusal = 0; marked = n j; unacknowledged = s .unacked j; saved = s .saved j })
+
+  class-owed : (r : HuskClass) (v y g m : List ℕ)
+      → ClassifyCall r v (h .incoming .words) y (h .pending) g (h .outgoing .flight) m (h .outgoing .numbers) (h .incoming .datagram)
+      → ActsAsOwed e → (p : Option account.Pending) → e .dealings .account .pending ≡ p
+      → r ≡ classOwed (e .ledger) (e .dealings .account .close) (e .into .into .account .encryption) p
+  class-owed r v y f m q d none n =
+      own h o few r v y f m q .0
+      ∙ ap (λ (k : Class). flatClass k (e .dealings .words) (ackedTold (acked own-flight (contentIn e)) (newlyMarked own-flight (contentIn e))))
+      (none-class (e .dealings) (e .into .into) z (g .dealings) n)
+  class-owed r v y f m q d (some x) n =
+      let w = place-told (x .reading) (e .dealings .words) (says-x (e .dealings) (e .into .into) z (g .dealings) x n) in
+      let t = verdict-x (e .dealings) (e .into .into) z (g .dealings) x n in
+      let c = shown-x (e .dealings) (e .into .into) z (g .dealings) x n in
+      own h o few r v y f m q .0
+      ∙ told-class (classOf e) (e .dealings .words) _ (e .ledger) (contentIn e) (x .reading) (w .0) (w .1) (λ k. counts-told (d k))
+      ∙ (λ j. classTold (e .ledger) (t j) (c j) (x .reading))
+
 -- ---- every call: g holds of the log before it, k of the log behind it
 
-pub owed-now : (f h : Host) → Stands h → Sound (h .seen .into .into) → Fine (h .seen) → (a : Act) → Made h a → Fine (behind f h a .seen) → Owed h a
-owed-now f h o z g (inward c) m k = in-owed (h .incoming) (h .seen .into) (o .incoming) z (f .seen .out .sealed) c m (k .into)
-owed-now f h o z g («husk_sending_sealing» r) m k = sealing-now h o g r m
-owed-now f h o z g («husk_flight_status» r) m k = saved-owed (h .outgoing) (h .seen) (o .outgoing) (g .matches) r m
-owed-now f h o z g («husk_sending_status» r) m k = queued-owed (h .outgoing) (h .seen) (o .outgoing) (g .matches) r m
-owed-now f h o z g (outward c) m k = (k .said _ (here refl), more-owed (h .outgoing) (h .seen) (o .outgoing) (g .matches) c m (k .matches))
-owed-now f h o z g (outwardOver c q j) m k = (
+-- what is known of a call that meets what is asked: a sending call, and an ACK dealt with, are answered as owed; other bytes have another length
+abbrev pub Owes : End → Act → Type 0
+Owes e (inward c y) = Unit {0}
+Owes e («husk_sending_sealing» r) = Unit {0}
+Owes e («husk_flight_status» r) = Unit {0}
+Owes e («husk_sending_status» r) = Unit {0}
+Owes e (outward c) = sends.answered (e .out .stores) (sendOf c) ≡ owed (e .ledger) (sendOf c)
+Owes e (outwardOver c q k) = Unit {0}
+Owes e («host_seals» r bytes) = Unit {0}
+Owes e («husk_assembly_begin» r v n) = Unit {0}
+Owes e («husk_assembly_take» r v c d x) = Unit {0}
+Owes e («husk_receiving_classify» r v y g m) = ActsAsOwed e
+Owes e («husk_receiving_classify_over» r v y g m d) = OtherLength (e .into .into) d
+
+-- over bytes of another length
+pub turned-back : (h : Host) → Stands h → Sound (h .seen .into .into) → Fine (h .seen) → (d : List ℕ) → OtherLength (h .seen .into .into) d
+    → classified (h .seen .dealings .words) (h .seen .into .into .state) d ≡ class.Reply
+turned-back h o z g d ne = over-class (h .seen .dealings) (h .seen .into .into) z (g .dealings) d ne
+
+pub owed-now : (f h : Host) → Stands h → Sound (h .seen .into .into) → Fine (h .seen) → (a : Act) → Made h a → Owes (h .seen) a → Fine (behind f h a .seen) → Owed h a
+owed-now f h o z g (inward c y) m d k = in-owed (h .incoming) (h .seen .into) (o .incoming) z (f .seen .out .sealed) c (m .0) (k .into)
+owed-now f h o z g («husk_sending_sealing» r) m d k = sealing-now h o g r m
+owed-now f h o z g («husk_flight_status» r) m d k = saved-owed (h .outgoing) (h .seen) (o .outgoing) (g .matches) r m
+owed-now f h o z g («husk_sending_status» r) m d k = queued-owed (h .outgoing) (h .seen) (o .outgoing) (g .matches) r m
+owed-now f h o z g (outward c) m d k = (k .said _ (here refl), more-owed (h .outgoing) (h .seen) (o .outgoing) (g .matches) c m (k .matches))
+owed-now f h o z g (outwardOver c q j) m d k = (
   k .said _ (here refl),
   k .overs _ (here refl) .0,
   k .overs _ (here refl) .1,
   over-owed (lends (h .outgoing) q j) (o .outgoing .flat) (o .outgoing .flat-flight) c m (k .said _ (here refl)),
 )
-owed-now f h o z g («host_seals» r bytes) m k = sealing-now h o g r (m .0)
-owed-now f h o z g («husk_assembly_begin» r v n) m k = begin-owed r (k .pieces .answers _ (here refl))
-owed-now f h o z g («husk_assembly_take» r v c d e) m k = take-owed (h .assembly) (h .seen .pieces) (o .assembly) r v c d e m (k .pieces .answers _ (here refl))
+owed-now f h o z g («host_seals» r bytes) m d k = sealing-now h o g r (m .0)
+owed-now f h o z g («husk_assembly_begin» r v n) m d k = begin-owed r (k .pieces .answers _ (here refl))
+owed-now f h o z g («husk_assembly_take» r v c b e) m d k = take-owed (h .assembly) (h .seen .pieces) (o .assembly) r v c b e m (k .pieces .answers _ (here refl))
+owed-now f h o z g («husk_receiving_classify» r v y j m) q d k = class-owed h o z g r v y j m q d (h .seen .dealings .account .pending) refl
+owed-now f h o z g («husk_receiving_classify_over» r v y j m b) q d k = turned h o (few h o z g) v y j m b r q (turned-back h o z g b d) .0

@@ -13,27 +13,55 @@ use Rattle.recv_calls.specs.Flat.{openingOf}
 use Rattle.sealing.specs.Sealing.{questionOf}
 use Rattle.sealing.specs.declared.Question as asked
 use Rattle.waiting_laws.specs.Answers.{answered}
-use Rattle.waiting_laws.specs.Calls.{send·, Reply, only}
+use Rattle.waiting_laws.specs.Calls.{send·, ack·, Reply, only}
 use Rattle.history_theorem.specs.Account.{sealedOver}
 use Rattle.history_theorem.specs.Claim.{Masks}
-use Rattle.history_theorem.specs.Receiver.{Inbound, Call, begin·, read·, open·, openOver·}
+use Rattle.history_theorem.specs.Receiver.{Call, begin·, read·, open·, openOver·}
 use Rattle.history_theorem.specs.Sound.{Sound}
 use Rattle.ends_theorem.specs.Claim.{Holds, Startable}
 use Rattle.ends_theorem.specs.Every.{every-does}
 use Rattle.ends_theorem.specs.Ledger.{applicationData, lastNumber, owed}
 use Rattle.ends_theorem.specs.Matches.{Matches}
-use Rattle.ends_theorem.specs.Proof.{Good, run-keeps, new-good, every-list, stop-order-sent as stop-order}
+use Rattle.ends_theorem.specs.Proof.{Good, FairDone, fair-step, run-keeps, new-good, every-list, stop-order-sent as stop-order}
 use Rattle.ends_theorem.specs.Sender as world
 use Rattle.ends_theorem.specs.Sender.{Sender, lentBy}
 use Rattle.ends_theorem.specs.Starting.{sending-starts, receiving-starts}
-use Rattle.ends_theorem.specs.World.{Side, post, gateway, far, Count, End, Deed, Event, World, takesIn, puts, acts, step, run, Setting, fresh-pair, FairDeed, Honest}
-use Rattle.hosts_theorem.specs.Memory.{InCall, «husk_receiving_key», «husk_receiving_remove», «husk_receiving_enable_encryption», «husk_receiving_release_application_data», «husk_receiving_begin», «husk_receiving_begin_read», «husk_receiving_read», «husk_receiving_mask», «husk_receiving_opened», «husk_receiving_read_over», «husk_receiving_mask_over», «husk_receiving_opened_over», «host_writes», «husk_sending_send», MadeOut, lends}
-use Rattle.hosts_theorem.specs.Log.{sendOf, count, countsTo, Host, Act, inward, «husk_sending_sealing», «husk_flight_status», «husk_sending_status», outward, outwardOver, «host_seals», «husk_assembly_begin», «husk_assembly_take», Made, behind}
+use Rattle.ends_theorem.specs.World.{Side, post, gateway, far, Count, End, Deed, dealing, Event, World, takesIn, puts, contentIn, acts, step, run, Setting, fresh-pair, FairDeed, Honest}
+use Rattle.hosts_theorem.specs.Memory.{Outgoing, InCall, «husk_receiving_key», «husk_receiving_remove», «husk_receiving_enable_encryption», «husk_receiving_release_application_data», «husk_receiving_begin», «husk_receiving_begin_read», «husk_receiving_read», «husk_receiving_mask», «husk_receiving_opened», «husk_receiving_read_over», «husk_receiving_mask_over», «husk_receiving_opened_over», «host_writes», «husk_sending_send», MadeOut, lends}
+use Rattle.hosts_theorem.specs.Log.{sendOf, dealingsTo, count, countsTo, followsIn, Host, Act, inward, «husk_sending_sealing», «husk_flight_status», «husk_sending_status», outward, outwardOver, «host_seals», «husk_assembly_begin», «husk_assembly_take», «husk_receiving_classify», «husk_receiving_classify_over», Made, behind}
 use Rattle.hosts_theorem.specs.Claim.{Hosts, CCall, after, runs, AllMade, StandsOut, Stands, Started, callsOf, hearing, deedsOf, at, eventsOf, Answered, AllAnswered, Owed, AllOwed, FairDeeds, AllFair, sightOf, EveryListOfCalls}
 use Rattle.hosts_theorem.specs.In.{doesAll, in-square, in-stands, in-answer}
-use Rattle.hosts_theorem.specs.Owed.{fine, saved-answer, queued-answer, owed-now}
+use Rattle.hosts_theorem.specs.Noted.{listensAll, in-dealings}
+use Rattle.hosts_theorem.specs.Dealings as classify
+use Rattle.hosts_theorem.specs.Dealings.{class-answer, class-square, class-stands}
+use Rattle.hosts_theorem.specs.Owed.{Fine, fine, ActsAsOwed, few, Owes, turned-back, saved-answer, queued-answer, owed-now}
+use Rattle.classify.specs.declared.Class.{Class}
+use Rattle.classify_calls.specs.declared.HuskClass.{HuskClass}
+use Rattle.classify_theorem.specs.Claim.{Dealings}
+use Rattle.assembly_theorem.specs.Claim.{Piecing}
 use Rattle.hosts_theorem.specs.Pieces.{begin-square, take-square}
 use Rattle.hosts_theorem.specs.Out.{shows-now, out-reply, sealing-answer, out-answer, out-square, out-stands, over-square, over-stands, fill-square, fill-stands}
+
+-- ---- the words of the reading that waits are entered as they are left
+
+dealt-words : (p : Dealings) (d : List ℕ) (c : InCall) (y : List ℕ) → y ≡ dealingsTo p d c y .words
+dealt-words p d («husk_receiving_begin_read» r v b) y = by-test (λ (q : Dealings). y ≡ q .words) (λ t. refl) (λ t. refl)
+dealt-words p d («husk_receiving_opened» r v o len) y = by-test (λ (q : Dealings). y ≡ q .words) (λ t. refl) (λ t. refl)
+dealt-words p d («husk_receiving_begin» r v b) y = refl
+dealt-words p d («husk_receiving_read» r v) y = refl
+dealt-words p d («husk_receiving_read_over» r v b) y = refl
+dealt-words p d («husk_receiving_opened_over» r v o len b) y = refl
+dealt-words p d («husk_receiving_key» r v k iv) y = refl
+dealt-words p d («husk_receiving_remove» r v k) y = refl
+dealt-words p d («husk_receiving_enable_encryption» r v) y = refl
+dealt-words p d («husk_receiving_release_application_data» r v) y = refl
+dealt-words p d («husk_receiving_mask» r v n₀ n₁ e) y = refl
+dealt-words p d («husk_receiving_mask_over» r v n₀ n₁ e b) y = refl
+dealt-words p d («host_writes» r b) y = refl
+
+-- dealing with a reading moves no piece
+pieces-same : (e : End) (h : Outgoing) (r : HuskClass) (v g m : List ℕ) → followsIn e h r v g m .pieces ≡ e .pieces
+pieces-same e h r v g m = by-test (λ (z : End). z .pieces ≡ e .pieces) (λ t. refl) (λ t. by-test (λ (z : End). z .pieces ≡ e .pieces) (λ u. refl) (λ u. refl))
 
 -- ---- some deeds at one end
 
@@ -55,14 +83,17 @@ run-both w (u ∷ us) vs = run-both (step w u) us vs
 -- ---- the deeds of a receiving call, with its counts
 
 module _ (f e : End) where
-  chosen : (t : Bool) (cs ds : List Call) (xs ys : List Count) → (t ≡ true → takesIn e (doesAll (f .out .sealed) (e .into) cs) xs ≡ actsAll f e (hearing cs))
-      → (t ≡ false → takesIn e (doesAll (f .out .sealed) (e .into) ds) ys ≡ actsAll f e (hearing ds))
-      → takesIn e (doesAll (f .out .sealed) (e .into) (choose t cs ds)) (choose t xs ys) ≡ actsAll f e (hearing (choose t cs ds))
+  -- these calls, the counts xs, and what they tell
+  abbrev heard : List Call → List Count → End
+  heard cs xs = takesIn e (doesAll (f .out .sealed) (e .into) cs) xs (listensAll (f .out .sealed) (e .into) cs (e .dealings))
+
+  chosen : (t : Bool) (cs ds : List Call) (xs ys : List Count) → (t ≡ true → heard cs xs ≡ actsAll f e (hearing cs)) → (t ≡ false → heard ds ys ≡ actsAll f e (hearing ds))
+      → heard (choose t cs ds) (choose t xs ys) ≡ actsAll f e (hearing (choose t cs ds))
   unfolding choose
   chosen true cs ds xs ys p q = p refl
   chosen false cs ds xs ys p q = q refl
 
-  heard-as : (c : InCall) → takesIn e (doesAll (f .out .sealed) (e .into) (callsOf c)) (countsTo e c) ≡ actsAll f e (hearing (callsOf c))
+  heard-as : (c : InCall) → heard (callsOf c) (countsTo e c) ≡ actsAll f e (hearing (callsOf c))
   heard-as («husk_receiving_key» r v k iv) = refl
   heard-as («husk_receiving_remove» r v k) = refl
   heard-as («husk_receiving_enable_encryption» r v) = refl
@@ -71,7 +102,7 @@ module _ (f e : End) where
   heard-as («husk_receiving_begin_read» r v d) =
       chosen (ltb 16384 (length d)) (begin· d ∷ []) (begin· d ∷ read· ∷ []) _ _ (λ t. refl)
       (λ t.
-      ap (λ (n : ℕ). takesIn e (doesAll (f .out .sealed) (e .into) (begin· d ∷ read· ∷ [])) (count e n (count e (suc (e .into .lastSerial)) (e .counts))))
+      ap (λ (n : ℕ). heard (begin· d ∷ read· ∷ []) (count e n (count e (suc (e .into .lastSerial)) (e .counts))))
       (sym (if-false (e .into .serial) (suc (e .into .lastSerial)) t)))
   heard-as («husk_receiving_read» r v) = refl
   heard-as («husk_receiving_mask» r v n₀ n₁ b) = refl
@@ -121,7 +152,7 @@ module _ (masks : Side → Masks) where
     fair-heard («host_writes» r p) g = g
 
     fair : (a : Act) → FairDeeds masks s f e (deedsOf a) → FairAll s f e (deedsOf a)
-    fair (inward c) g = fair-heard c g
+    fair (inward c y) g = fair-heard c g
     fair («husk_sending_sealing» r) g = g
     fair («husk_flight_status» r) g = g
     fair («husk_sending_status» r) g = g
@@ -130,23 +161,20 @@ module _ (masks : Side → Masks) where
     fair («host_seals» r bytes) g = g
     fair («husk_assembly_begin» r v n) g = g
     fair («husk_assembly_take» r v c d x) g = g
+    fair («husk_receiving_classify» r v y j m) g = g
+    fair («husk_receiving_classify_over» r v y j m d) g = g
 
   -- ---- one call at one host; f the far host
 
-  -- what a sending call is owed it is answered
-  abbrev Owes : End → Act → Type 0
-  Owes e (inward c) = Unit {0}
-  Owes e («husk_sending_sealing» r) = Unit {0}
-  Owes e («husk_flight_status» r) = Unit {0}
-  Owes e («husk_sending_status» r) = Unit {0}
-  Owes e (outward c) = answered (e .out .stores) (sendOf c) ≡ owed (e .ledger) (sendOf c)
-  Owes e (outwardOver c q k) = Unit {0}
-  Owes e («host_seals» r bytes) = Unit {0}
-  Owes e («husk_assembly_begin» r v n) = Unit {0}
-  Owes e («husk_assembly_take» r v c d x) = Unit {0}
+  -- an ACK dealt with is asked the same as by husk_flight_ack
+  acts-owed : (w : World) → Good masks w → (s : Side) → FairDeed masks s (w (far s)) (w s) dealing → ActsAsOwed (w s)
+  acts-owed w g s h k =
+      let a = fair-step masks s (w (far s)) (w s) dealing (g .link s) (g .dealings s) h in
+      let b = subst (λ (x : Class). FairDone masks s (w (far s)) (w s) x (contentIn (w s))) k a in
+      every-does (masks s) (w s .out) (w s .ledger) (ack· (contentIn (w s))) (g .matches s) (b .0)
 
   owes : (w : World) → Good masks w → (s : Side) (a : Act) → FairDeeds masks s (w (far s)) (w s) (deedsOf a) → Owes (w s) a
-  owes w g s (inward c) h = tt
+  owes w g s (inward c y) h = tt
   owes w g s («husk_sending_sealing» r) h = tt
   owes w g s («husk_flight_status» r) h = tt
   owes w g s («husk_sending_status» r) h = tt
@@ -155,20 +183,26 @@ module _ (masks : Side → Masks) where
   owes w g s («host_seals» r bytes) h = tt
   owes w g s («husk_assembly_begin» r v n) h = tt
   owes w g s («husk_assembly_take» r v c d x) h = tt
+  owes w g s («husk_receiving_classify» r v y j m) h = acts-owed w g s (h .0)
+  owes w g s («husk_receiving_classify_over» r v y j m d) h = h .0
 
-  module _ (f h : Host) (o : Stands h) where
-    square : Sound (h .seen .into .into) → (a : Act) → Made h a → Owes (h .seen) a → behind f h a .seen ≡ actsAll (f .seen) (h .seen) (deedsOf a)
-    square z (inward c) m d =
-        ap (λ (i : Inbound). takesIn (h .seen) i (countsTo (h .seen) c)) (in-square (h .incoming) (h .seen .into) (o .incoming) (f .seen .out .sealed) z c m)
-        ∙ heard-as (f .seen) (h .seen) c
-    square z («husk_sending_sealing» r) m d = refl
-    square z («husk_flight_status» r) m d = refl
-    square z («husk_sending_status» r) m d = refl
-    square z (outward c) m d = out-square (h .outgoing) (h .seen) (o .outgoing) (f .seen) c m d
-    square z (outwardOver c q k) m d = over-square (h .outgoing) (h .seen) (o .outgoing) c q k m (f .seen)
-    square z («host_seals» r bytes) m d = fill-square (h .outgoing) (h .seen) (o .outgoing) r bytes (m .0) (m .1) (m .2) (f .seen)
-    square z («husk_assembly_begin» r v n) m d = ap (puts (h .seen)) (begin-square (h .assembly) (h .seen .pieces) (o .assembly) r v n m)
-    square z («husk_assembly_take» r v c b x) m d = ap (puts (h .seen)) (take-square (h .assembly) (h .seen .pieces) (o .assembly) r v c b x m)
+  module _ (f h : Host) (o : Stands h) (z : Sound (h .seen .into .into)) (g : Fine (h .seen)) where
+    square : (a : Act) → Made h a → Owes (h .seen) a → behind f h a .seen ≡ actsAll (f .seen) (h .seen) (deedsOf a)
+    square (inward c y) m d =
+        let a = in-square (h .incoming) (h .seen .into) (o .incoming) (f .seen .out .sealed) z c (m .0) in
+        let b = in-dealings (f .seen .out .sealed) (h .incoming) (h .seen .into) (o .incoming) z (h .seen .dealings) (h .pending) (o .pending)
+        (ap length (o .pending) ∙ g .dealings .stands .long) c y (m .0) (m .1) in
+        (λ j. takesIn (h .seen) (a j) (countsTo (h .seen) c) (b j)) ∙ heard-as (f .seen) (h .seen) c
+    square («husk_sending_sealing» r) m d = refl
+    square («husk_flight_status» r) m d = refl
+    square («husk_sending_status» r) m d = refl
+    square (outward c) m d = out-square (h .outgoing) (h .seen) (o .outgoing) (f .seen) c m d
+    square (outwardOver c q k) m d = over-square (h .outgoing) (h .seen) (o .outgoing) c q k m (f .seen)
+    square («host_seals» r bytes) m d = fill-square (h .outgoing) (h .seen) (o .outgoing) r bytes (m .0) (m .1) (m .2) (f .seen)
+    square («husk_assembly_begin» r v n) m d = ap (puts (h .seen)) (begin-square (h .assembly) (h .seen .pieces) (o .assembly) r v n m)
+    square («husk_assembly_take» r v c b x) m d = ap (puts (h .seen)) (take-square (h .assembly) (h .seen .pieces) (o .assembly) r v c b x m)
+    square («husk_receiving_classify» r v y j m) q d = class-square h o (few h o z g) (f .seen) v y j m r q (λ k. d k .reply)
+    square («husk_receiving_classify_over» r v y j m b) q d = classify.over-square h o (few h o z g) v y j m b r q (turned-back h o z g b d) (f .seen)
 
     -- the sending side beside calls that do not touch it
     still-stands : {e : End} → e .out ≡ h .seen .out → StandsOut (h .outgoing) e
@@ -179,23 +213,47 @@ module _ (masks : Side → Masks) where
       shown = (o .outgoing .shown .0, ap (λ (x : Sender). x .lent) q ∙ o .outgoing .shown .1);
     }
 
-    stands-on : (a : Act) → Made h a → Stands (behind f h a)
-    stands-on (inward c) m = record {
-      incoming = in-stands (h .incoming) (h .seen .into) (o .incoming) (f .seen .out .sealed) c m;
+    stands-on : (a : Act) → Made h a → Owes (h .seen) a → Stands (behind f h a)
+    stands-on (inward c y) m d = record {
+      incoming = in-stands (h .incoming) (h .seen .into) (o .incoming) (f .seen .out .sealed) c (m .0);
+      pending = dealt-words (h .seen .dealings) (h .seen .into .into .datagram) c y;
       outgoing = still-stands refl;
       assembly = o .assembly;
     }
-    stands-on («husk_sending_sealing» r) m = o
-    stands-on («husk_flight_status» r) m = o
-    stands-on («husk_sending_status» r) m = o
-    stands-on (outward c) m = record { incoming = o .incoming; outgoing = out-stands (h .outgoing) (h .seen) (o .outgoing) c m; assembly = o .assembly }
-    stands-on (outwardOver c q k) m = record { incoming = o .incoming; outgoing = over-stands (h .outgoing) (h .seen) (o .outgoing) c q k m; assembly = o .assembly }
-    stands-on («host_seals» r bytes) m = record { incoming = o .incoming; outgoing = fill-stands (h .outgoing) (h .seen) (o .outgoing) r bytes (m .0) (m .1) (m .2); assembly = o .assembly }
-    stands-on («husk_assembly_begin» r v n) m = record { incoming = o .incoming; outgoing = still-stands refl; assembly = refl }
-    stands-on («husk_assembly_take» r v c d x) m = record { incoming = o .incoming; outgoing = still-stands refl; assembly = refl }
+    stands-on («husk_sending_sealing» r) m d = o
+    stands-on («husk_flight_status» r) m d = o
+    stands-on («husk_sending_status» r) m d = o
+    stands-on (outward c) m d = record {
+      incoming = o .incoming;
+      pending = o .pending;
+      outgoing = out-stands (h .outgoing) (h .seen) (o .outgoing) c m;
+      assembly = o .assembly;
+    }
+    stands-on (outwardOver c q k) m d = record {
+      incoming = o .incoming;
+      pending = o .pending;
+      outgoing = over-stands (h .outgoing) (h .seen) (o .outgoing) c q k m;
+      assembly = o .assembly;
+    }
+    stands-on («host_seals» r bytes) m d = record {
+      incoming = o .incoming;
+      pending = o .pending;
+      outgoing = fill-stands (h .outgoing) (h .seen) (o .outgoing) r bytes (m .0) (m .1) (m .2);
+      assembly = o .assembly;
+    }
+    stands-on («husk_assembly_begin» r v n) m d = record { incoming = o .incoming; pending = o .pending; outgoing = still-stands refl; assembly = refl }
+    stands-on («husk_assembly_take» r v c b x) m d = record { incoming = o .incoming; pending = o .pending; outgoing = still-stands refl; assembly = refl }
+    stands-on («husk_receiving_classify» r v y j m) q d =
+        let k = class-stands h o (few h o z g) (f .seen) v y j m r q in
+        let p = k .1 in
+        record { incoming = k .0; pending = refl; outgoing = record { flat = p .flat; flat-flight = p .flat-flight; stores = p .stores; shown = p .shown }; assembly = o .assembly ∙ ap (λ (x : Piecing). x .words) (sym (pieces-same (h .seen) (h .outgoing) r v j m)) }
+    stands-on («husk_receiving_classify_over» r v y j m b) q d =
+        let k = classify.over-stands h o (few h o z g) v y j m b r q (turned-back h o z g b d) in
+        let p = k .1 in
+        record { incoming = k .0; pending = refl; outgoing = record { flat = p .flat; flat-flight = p .flat-flight; stores = p .stores; shown = p .shown }; assembly = o .assembly }
 
     answer : Matches (h .seen .out .stores) (h .seen .ledger) → (a : Act) → Made h a → Answered h a
-    answer i (inward c) m = in-answer (h .incoming) (h .seen .into) (o .incoming) c m
+    answer i (inward c y) m = in-answer (h .incoming) (h .seen .into) (o .incoming) c (m .0)
     answer i («husk_sending_sealing» r) m = sealing-answer (h .outgoing) (h .seen) (o .outgoing) r m
     answer i («husk_flight_status» r) m = saved-answer (h .outgoing) (h .seen) (o .outgoing) i r m
     answer i («husk_sending_status» r) m = queued-answer (h .outgoing) (h .seen) (o .outgoing) i r m
@@ -204,27 +262,29 @@ module _ (masks : Side → Masks) where
     answer i («host_seals» r bytes) m = sealing-answer (h .outgoing) (h .seen) (o .outgoing) r (m .0)
     answer i («husk_assembly_begin» r v n) m = m .0
     answer i («husk_assembly_take» r v c d x) m = m .0
+    answer i («husk_receiving_classify» r v y j m) q = class-answer h o (few h o z g) r v y j m (h .incoming .datagram) q
+    answer i («husk_receiving_classify_over» r v y j m b) q = class-answer h o (few h o z g) r v y j m b q
 
   -- ---- one call at one of two
 
   module _ (hs : Hosts) (o : (s : Side) → Stands (hs s)) (g : Good masks (sightOf hs)) where
     sight-on : (s : Side) (a : Act) → Made (hs s) a → Owes (hs s .seen) a → (t : Side)
         → after hs (record { side = s; act = a }) t .seen ≡ run (sightOf hs) (at s (deedsOf a)) t
-    sight-on post a m d post = square (hs gateway) (hs post) (o post) (g .link post .sound) a m d ∙ sym (run-at post (sightOf hs) (deedsOf a) .0)
+    sight-on post a m d post = square (hs gateway) (hs post) (o post) (g .link post .sound) (fine masks (sightOf hs) g post) a m d ∙ sym (run-at post (sightOf hs) (deedsOf a) .0)
     sight-on post a m d gateway = sym (run-at post (sightOf hs) (deedsOf a) .1)
     sight-on gateway a m d post = sym (run-at gateway (sightOf hs) (deedsOf a) .1)
-    sight-on gateway a m d gateway = square (hs post) (hs gateway) (o gateway) (g .link gateway .sound) a m d ∙ sym (run-at gateway (sightOf hs) (deedsOf a) .0)
+    sight-on gateway a m d gateway = square (hs post) (hs gateway) (o gateway) (g .link gateway .sound) (fine masks (sightOf hs) g gateway) a m d ∙ sym (run-at gateway (sightOf hs) (deedsOf a) .0)
 
-    both-stand : (s : Side) (a : Act) → Made (hs s) a → (t : Side) → Stands (after hs (record { side = s; act = a }) t)
-    both-stand post a m post = stands-on (hs gateway) (hs post) (o post) a m
-    both-stand post a m gateway = o gateway
-    both-stand gateway a m post = o post
-    both-stand gateway a m gateway = stands-on (hs post) (hs gateway) (o gateway) a m
+    both-stand : (s : Side) (a : Act) → Made (hs s) a → Owes (hs s .seen) a → (t : Side) → Stands (after hs (record { side = s; act = a }) t)
+    both-stand post a m d post = stands-on (hs gateway) (hs post) (o post) (g .link post .sound) (fine masks (sightOf hs) g post) a m d
+    both-stand post a m d gateway = o gateway
+    both-stand gateway a m d post = o post
+    both-stand gateway a m d gateway = stands-on (hs post) (hs gateway) (o gateway) (g .link gateway .sound) (fine masks (sightOf hs) g gateway) a m d
 
     -- g′ what holds behind it
-    owed-on : (s : Side) (a : Act) → Made (hs s) a → Good masks (sightOf (after hs (record { side = s; act = a }))) → Owed (hs s) a
-    owed-on post a m g′ = owed-now (hs gateway) (hs post) (o post) (g .link post .sound) (fine masks (sightOf hs) g post) a m (fine masks (sightOf (after hs (record { side = post; act = a }))) g′ post)
-    owed-on gateway a m g′ = owed-now (hs post) (hs gateway) (o gateway) (g .link gateway .sound) (fine masks (sightOf hs) g gateway) a m (fine masks (sightOf (after hs (record { side = gateway; act = a }))) g′ gateway)
+    owed-on : (s : Side) (a : Act) → Made (hs s) a → Owes (hs s .seen) a → Good masks (sightOf (after hs (record { side = s; act = a }))) → Owed (hs s) a
+    owed-on post a m d g′ = owed-now (hs gateway) (hs post) (o post) (g .link post .sound) (fine masks (sightOf hs) g post) a m d (fine masks (sightOf (after hs (record { side = post; act = a }))) g′ post)
+    owed-on gateway a m d g′ = owed-now (hs post) (hs gateway) (o gateway) (g .link gateway .sound) (fine masks (sightOf hs) g gateway) a m d (fine masks (sightOf (after hs (record { side = gateway; act = a }))) g′ gateway)
 
   -- ---- a list of calls
 
@@ -242,16 +302,17 @@ module _ (masks : Side → Masks) where
       let us = at s (deedsOf (c .act)) in
       let w = sightOf hs in
       let one = honest-at s w (deedsOf (c .act)) (fair s (w (far s)) (w s) (c .act) (h .0)) in
-      let now : (t : Side) → after hs c t .seen ≡ run w us t = sight-on hs o g s (c .act) (m .0) (owes w g s (c .act) (h .0)) in
+      let d = owes w g s (c .act) (h .0) in
+      let now : (t : Side) → after hs c t .seen ≡ run w us t = sight-on hs o g s (c .act) (m .0) d in
       let seen : sightOf (after hs c) ≡ run w us = (λ i t. now t i) in
       let good = subst (Good masks) (sym seen) (run-keeps masks w us g one) in
-      let rest = all-seen (after hs c) cs (both-stand hs o g s (c .act) (m .0)) good (m .1) (h .1) in
+      let rest = all-seen (after hs c) cs (both-stand hs o g s (c .act) (m .0) d) good (m .1) (h .1) in
       record {
         honest = honest-both w us (eventsOf cs) one (subst (λ (v : World). Honest masks v (eventsOf cs)) seen (rest .honest));
         agrees = rest .agrees ∙ ap (λ (v : World). run v (eventsOf cs)) seen ∙ sym (run-both w us (eventsOf cs));
         stands = rest .stands;
-        answered = (answer (hs (far s)) (hs s) (o s) (g .matches s) (c .act) (m .0), rest .answered);
-        owed = (owed-on hs o g s (c .act) (m .0) good, rest .owed);
+        answered = (answer (hs (far s)) (hs s) (o s) (g .link s .sound) (fine masks w g s) (g .matches s) (c .act) (m .0), rest .answered);
+        owed = (owed-on hs o g s (c .act) (m .0) d good, rest .owed);
       }
 
 -- ---- the start
@@ -264,7 +325,7 @@ startable s h t =
       high = r .high;
       some = r .some;
       most = r .most;
-      min = receiving-starts (s .min) .0 .0 (sym (t .receiving .0));
+      min = receiving-starts (s .min) .0 .0 (sym (t .receiving .0 .0));
       room = t .room;
     }
 
@@ -286,10 +347,11 @@ starts s h t =
     let e = sym (t .seen) in
     let z = t .sending .1 ∙ fresh-state (s .mtu) (s .limit) in record {
       incoming = record {
-        flat = t .receiving .2;
-        state = t .receiving .1 ∙ ap (λ (x : End). x .into .into .state) e;
+        flat = t .receiving .0 .2;
+        state = t .receiving .0 .1 ∙ ap (λ (x : End). x .into .into .state) e;
         datagram = t .datagram ∙ ap (λ (x : End). x .into .into .datagram) e;
       };
+      pending = t .receiving .1 ∙ ap (λ (x : End). x .dealings .words) e;
       outgoing = record {
         flat = t .sending .2;
         flat-flight = t .flight .1;

@@ -18,6 +18,7 @@ use Rattle.flight_calls.specs.Calls as flights
 use Rattle.acks.specs.Acks.{freshNotes}
 use Rattle.ack_calls.specs.Calls as acks
 use Rattle.assembly.specs.Assembly as assembly
+use Rattle.classify.specs.Classify as classify
 use Rattle.ends_theorem.specs.Claim.{Startable}
 use Rattle.ends_theorem.specs.Starting.{ranges-setting}
 use Rattle.ends_theorem.specs.World.{Setting, newEnd}
@@ -32,6 +33,7 @@ sendingWords mtu limit = set (set (replicate words 0) mtu-at mtu) limit-at limit
 abbrev pub firstHost : Setting → Host
 firstHost s = record {
   incoming = record { words = freshWords (s .min); datagram = [] };
+  pending = classify.fresh;
   outgoing = record {
     words = sendingWords (s .mtu) (s .limit);
     queue = s .queue;
@@ -57,7 +59,7 @@ fresh-notes = refl
 
 pub starts : (s : Setting) → Startable s → Started s (firstHost s)
 starts s o = record {
-  receiving = starts-as (s .min) (freshWords (s .min)) answers.Done (freshOf (s .min)) refl (fresh-is (s .min) (o .min));
+  receiving = (starts-as (s .min) (freshWords (s .min)) answers.Done (freshOf (s .min)) refl (fresh-is (s .min) (o .min)), refl);
   datagram = refl;
   sending = starts-done (s .mtu) (s .limit) (ranges-setting (s .mtu) (s .limit) (record { low = o .low; high = o .high; some = o .some; most = o .most }));
   queue = refl;

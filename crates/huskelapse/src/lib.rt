@@ -1,6 +1,7 @@
-// The C interface, one static library for hosts: each call of recv_calls, send_calls, flight_calls, ack_calls, status_calls and
-// assembly_calls as a C function with the same contract. The library keeps no state.
+// The C interface, one static library for hosts: each call of recv_calls, classify_calls, send_calls, flight_calls, ack_calls,
+// status_calls and assembly_calls as a C function with the same contract. The library keeps no state.
 ghost use Rattle.recv_calls.specs.Calls as receive;
+ghost use Rattle.classify_calls.specs.Calls as classify;
 ghost use Rattle.send_calls.specs.Calls as sends;
 ghost use Rattle.flight_calls.specs.Calls as flights;
 ghost use Rattle.ack_calls.specs.Calls as acks;
@@ -9,6 +10,8 @@ ghost use Rattle.assembly_calls.specs.Calls as pieces;
 use ack_calls::HuskAcked;
 use answers::HuskTold;
 use assembly_calls::HuskPiece;
+use classify_calls::HuskClass;
+use classify_calls::PENDING;
 use recv_calls::HuskReading;
 use recv_words::WORDS;
 use send_calls::HuskPart;
@@ -20,10 +23,14 @@ use status_calls::HuskSaved;
 // ---- receiving
 
 #[no_mangle]
-pub extern "C" fn husk_receiving_init(w: &mut [u64; WORDS], min_protected: usize) -> u8
-    ensures { λ r. ⌜ receive.FreshCall r (now (w .exit)) «min_protected» ⌝ }
+pub extern "C" fn husk_receiving_init_words(
+    w: &mut [u64; WORDS],
+    x: &mut [u64; PENDING],
+    min_protected: usize,
+) -> u8
+    ensures { λ r. ⌜ classify.FreshCall r (now (w .exit)) (now (x .exit)) «min_protected» ⌝ }
 {
-    recv_calls::fresh(w, min_protected)
+    classify_calls::fresh(w, x, min_protected)
 }
 
 #[no_mangle]
@@ -55,24 +62,36 @@ pub extern "C" fn husk_receiving_release_application_data(w: &mut [u64; WORDS]) 
 }
 
 #[no_mangle]
-pub extern "C" fn husk_receiving_begin(w: &mut [u64; WORDS], n: usize) -> u8
-    ensures { λ r. ⌜ receive.BeginCall r (now (w .exit)) (now (w .entry)) n ⌝ }
+pub extern "C" fn husk_receiving_begin_words(
+    w: &mut [u64; WORDS],
+    x: &mut [u64; PENDING],
+    n: usize,
+) -> u8
+    ensures { λ r. ⌜ classify.BeginCall r (now (w .exit)) (now (w .entry)) (now (x .exit)) (now (x .entry)) n ⌝ }
 {
-    recv_calls::begin(w, n)
+    classify_calls::begin(w, x, n)
 }
 
 #[no_mangle]
-pub extern "C" fn husk_receiving_read(w: &mut [u64; WORDS], d: &[u8]) -> HuskReading
-    ensures { λ r. ⌜ receive.ReadCall r (now (w .exit)) (now (w .entry)) (now (d .entry)) ⌝ }
+pub extern "C" fn husk_receiving_read_words(
+    w: &mut [u64; WORDS],
+    x: &mut [u64; PENDING],
+    d: &[u8],
+) -> HuskReading
+    ensures { λ r. ⌜ classify.ReadCall r (now (w .exit)) (now (w .entry)) (now (x .exit)) (now (x .entry)) (now (d .entry)) ⌝ }
 {
-    recv_calls::read(w, d)
+    classify_calls::read(w, x, d)
 }
 
 #[no_mangle]
-pub extern "C" fn husk_receiving_begin_read(w: &mut [u64; WORDS], d: &[u8]) -> HuskReading
-    ensures { λ r. ⌜ receive.BeginReadCall r (now (w .exit)) (now (w .entry)) (now (d .entry)) ⌝ }
+pub extern "C" fn husk_receiving_begin_read_words(
+    w: &mut [u64; WORDS],
+    x: &mut [u64; PENDING],
+    d: &[u8],
+) -> HuskReading
+    ensures { λ r. ⌜ classify.BeginReadCall r (now (w .exit)) (now (w .entry)) (now (x .exit)) (now (x .entry)) (now (d .entry)) ⌝ }
 {
-    recv_calls::begin_read(w, d)
+    classify_calls::begin_read(w, x, d)
 }
 
 #[no_mangle]
@@ -88,15 +107,29 @@ pub extern "C" fn husk_receiving_mask(
 }
 
 #[no_mangle]
-pub extern "C" fn husk_receiving_opened(
+pub extern "C" fn husk_receiving_opened_words(
     w: &mut [u64; WORDS],
+    x: &mut [u64; PENDING],
     opened: u8,
     length: usize,
     d: &[u8],
 ) -> HuskReading
-    ensures { λ r. ⌜ receive.OpenedCall r (now (w .exit)) (now (w .entry)) opened length (now (d .entry)) ⌝ }
+    ensures { λ r. ⌜ classify.OpenedCall r (now (w .exit)) (now (w .entry)) (now (x .exit)) (now (x .entry)) opened length (now (d .entry)) ⌝ }
 {
-    recv_calls::opened(w, opened, length, d)
+    classify_calls::opened(w, x, opened, length, d)
+}
+
+#[no_mangle]
+pub extern "C" fn husk_receiving_classify_words(
+    w: &mut [u64; WORDS],
+    x: &mut [u64; PENDING],
+    f: &mut [u64; flight_words::WORDS],
+    numbers: &mut [u64; 384],
+    d: &[u8],
+) -> HuskClass
+    ensures { λ r. ⌜ classify.ClassifyCall r (now (w .exit)) (now (w .entry)) (now (x .exit)) (now (x .entry)) (now (f .exit)) (now (f .entry)) (now (numbers .exit)) (now (numbers .entry)) (now (d .entry)) ⌝ }
+{
+    classify_calls::classify(w, x, f, numbers, d)
 }
 
 // ---- sending

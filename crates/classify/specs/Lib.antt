@@ -1,0 +1,3 @@
+pub mod Classify
+pub mod Laws
+pub mod Rows
