@@ -23,6 +23,9 @@ pub enum Fate {
     TooLate,
     /// Read undamaged, unused and in reach, and yet not handed over.
     LeftOut,
+    /// Read, and dropped beyond the close.
+    BeyondClose,
+    /// Told to the far end, or dealt with there: an ACK, a close.
     HandedOver,
 }
 
@@ -35,6 +38,11 @@ pub struct Account {
     pub left_out: usize,
     /// Marked acknowledged though no sending of it was handed over.
     pub unacknowledged: usize,
+    /// How often a close was told.
+    pub closes: usize,
+    /// Alerts and ACKs that the link forged in plaintext and the far end read once it encrypts, and those of them that it dropped.
+    pub forged: usize,
+    pub forged_dropped: usize,
     /// Datagrams delivered and not read: on their way when the far end ended, or lost between the sockets.
     pub unread: usize,
     /// Readings of undamaged records that were handed over before.
@@ -61,10 +69,16 @@ impl Account {
                     judge.used.insert(*epoch, Used::default());
                 }
                 Event::Handed(record) => judge.hand(record),
+                Event::Dealt { epoch, number, content_type, description } => {
+                    judge.tell((*epoch, *number), Fate::HandedOver, |sealed| is_dealt(sealed, *content_type, *description));
+                }
+                Event::Beyond { epoch, number } => judge.tell((*epoch, *number), Fate::BeyondClose, |_| true),
+                Event::Unprotected => judge.unprotected += 1,
                 Event::Read(check) => judge.read(*check),
             }
         }
         let mut account = judge.account;
+        account.closes = ledger.closes;
         let acknowledged = ledger.acknowledged.iter().filter(|record| record.epoch >= 2);
         account.unacknowledged = acknowledged.filter(|record| !was_handed(ledger, &account.fates, record)).count();
         account.unread = ledger.delivered.len().saturating_sub(ledger.read);
@@ -130,6 +144,11 @@ impl Used {
     }
 }
 
+/// Whether this is the record that the library dealt with, by its type and, of an alert, its description.
+fn is_dealt(sealed: &Record, content_type: u8, description: Option<u8>) -> bool {
+    sealed.content_type == content_type && (description.is_none() || sealed.content.get(1) == description.as_ref())
+}
+
 /// Whether a sending of this record was handed over.
 fn was_handed(ledger: &Ledger, fates: &[Fate], a: &Record) -> bool {
     let same = |r: &Record| r.epoch == a.epoch && r.content_type == a.content_type && r.content == a.content;
@@ -155,6 +174,8 @@ struct Judge<'a> {
     delivered: slice::Iter<'a, Delivery>,
     /// Those handed over from the datagram that is being read.
     here: Vec<usize>,
+    /// How many in it were in plaintext and dropped.
+    unprotected: usize,
     account: Account,
 }
 
@@ -171,6 +192,7 @@ impl Judge<'_> {
             used: HashMap::new(),
             delivered: ledger.delivered.iter(),
             here: Vec::new(),
+            unprotected: 0,
             account: Account { fates, ..Account::default() },
         }
     }
@@ -180,15 +202,19 @@ impl Judge<'_> {
     }
 
     fn hand(&mut self, record: &Record) {
-        let Some(&i) = self.index.get(&(record.epoch, record.number)) else {
+        let same = |sealed: &Record| sealed.content_type == record.content_type && sealed.content == record.content;
+        self.tell((record.epoch, record.number), Fate::HandedOver, same);
+    }
+
+    /// The far end was told of a record, by its epoch and number, and whether it is the one that was sealed.
+    fn tell(&mut self, place: (u16, u64), fate: Fate, is_same: impl Fn(&Record) -> bool) {
+        let Some(&i) = self.index.get(&place) else {
             self.account.invented += 1;
             return;
         };
-        let sealed = &self.sealed[i];
-        let same = sealed.content_type == record.content_type && sealed.content == record.content;
-        self.account.changed += usize::from(!same);
-        self.account.twice += usize::from(self.account.fates[i] == Fate::HandedOver);
-        self.meets(i, Fate::HandedOver);
+        self.account.changed += usize::from(!is_same(&self.sealed[i]));
+        self.account.twice += usize::from(self.account.fates[i] >= Fate::BeyondClose);
+        self.meets(i, fate);
         self.here.push(i);
     }
 
@@ -200,8 +226,13 @@ impl Judge<'_> {
                 Kind::Intact | Kind::Replayed => self.read_whole(records, delivery.kind == Kind::Replayed),
                 Kind::Damaged => records.for_each(|i| self.meets(i, Fate::Damaged)),
                 Kind::Forged => {}
+                Kind::Plaintext => {
+                    self.account.forged += 1;
+                    self.account.forged_dropped += usize::from(self.unprotected == 1);
+                }
             }
         }
+        self.unprotected = 0;
         for i in std::mem::take(&mut self.here) {
             let record = &self.sealed[i];
             self.used.entry(record.epoch).or_default().mark(record.number);
@@ -468,6 +499,54 @@ mod tests {
         scene.ledger.reads("r", &mut "3 1 23 00".split_ascii_whitespace());
         let account = scene.account();
         assert_eq!((account.twice, account.changed, account.invented), (1, 1, 1));
+    }
+
+    /// A direction with an ACK of number 0 and a close of number 1 in one datagram, of which the far end says these lines.
+    fn dealt(lines: &[(&str, &str)]) -> Account {
+        let mut scene = Scene::new(&[0]);
+        for sealed in ["3 0 26 0000", "3 1 21 0100"] {
+            scene.ledger.seals(&mut sealed.split_ascii_whitespace());
+        }
+        scene.ledger.delivers(&Datagram { bytes: vec![], records: 0..2, kind: Kind::Intact });
+        for (kind, words) in lines {
+            scene.ledger.reads(kind, &mut words.split_ascii_whitespace());
+        }
+        scene.ledger.reads("g", &mut crate::ledger::check(&[]).to_string().split_ascii_whitespace());
+        scene.account()
+    }
+
+    #[test]
+    fn what_the_library_dealt_with_is_handed_over() {
+        let account = dealt(&[("d", "3 0 26"), ("d", "3 1 21 0")]);
+        assert_eq!((account.fates.as_slice(), account.closes), (&[Fate::HandedOver; 2][..], 1));
+        assert_eq!(findings(&account), [0; 5]);
+        // As another type, as another alert, twice, and one that was not sealed.
+        assert_eq!(findings(&dealt(&[("d", "3 0 20"), ("d", "3 1 21 40")])), [0, 2, 0, 0, 0]);
+        assert_eq!(findings(&dealt(&[("d", "3 0 26"), ("d", "3 0 26"), ("d", "3 1 21"), ("d", "3 2 26")])), [1, 0, 1, 0, 0]);
+        assert_eq!(findings(&dealt(&[("d", "3 1 21 0")])), [0, 0, 0, 1, 0]);
+    }
+
+    #[test]
+    fn beyond_the_close_is_not_left_out() {
+        let account = dealt(&[("d", "3 1 21 0"), ("b", "3 0")]);
+        assert_eq!(account.fates, [Fate::BeyondClose, Fate::HandedOver]);
+        assert_eq!(findings(&account), [0; 5]);
+    }
+
+    #[test]
+    fn forged_plaintext_has_to_be_dropped() {
+        let mut ledger = Ledger::default();
+        for (bytes, lines) in [(b"fatal", &["p", "n"][..]), (b"close", &["p"]), (b"acked", &[])] {
+            ledger.delivers(&Datagram { bytes: bytes.to_vec(), records: 0..0, kind: Kind::Plaintext });
+            for kind in lines {
+                ledger.reads(kind, &mut "21".split_ascii_whitespace());
+            }
+            ledger.reads("g", &mut crate::ledger::check(bytes).to_string().split_ascii_whitespace());
+        }
+        // One that was on its way at the end did not arrive.
+        ledger.delivers(&Datagram { bytes: vec![], records: 0..0, kind: Kind::Plaintext });
+        let account = Account::of(&ledger);
+        assert_eq!((account.forged, account.forged_dropped), (3, 1));
     }
 
     #[test]

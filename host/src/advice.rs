@@ -32,7 +32,7 @@ fn on_time(report: &Report) -> String {
         return "the handshake did not come to its end: lower --lose, or give more --seconds".to_string();
     }
     if meter.sent == meter.to_send {
-        return "all meter records were sent, and orders were not acknowledged yet: lower --lose or --orders, or give more --seconds"
+        return "all meter records were sent, and orders not acknowledged or closes not seen yet: lower --lose or --orders, or give more --seconds"
             .to_string();
     }
     // By what has gone all its way; the orders take some more.

@@ -9,7 +9,7 @@ use std::os::fd::{AsFd, AsRawFd};
 use std::process;
 use std::time::{Duration, Instant};
 
-use huskelapse::content_type::APPLICATION_DATA;
+use huskelapse::content_type::{ACK, ALERT, APPLICATION_DATA, HANDSHAKE};
 use huskelapse::openssl::Keys;
 use huskelapse::{Cipher, CipherError, Reading, Receiver, Refusal, Sender};
 
@@ -21,12 +21,40 @@ pub const MTU: usize = 1200;
 /// Datagrams on their way to the link at once, so that no socket's buffer overflows.
 pub const PACE: usize = 64;
 
-/// A record that is handed over.
+/// Alert 0, a warning: this end sends nothing more.
+const CLOSE: [u8; 2] = [1, 0];
+
 pub struct Record {
     pub epoch: u16,
     pub number: u64,
     pub content_type: u8,
     pub content: Vec<u8>,
+}
+
+/// What arrived that an end acts on.
+pub enum Arrived {
+    /// Of epoch 0: anyone can have written it.
+    Handshake(Record),
+    ApplicationData(Record),
+    /// What it names is marked already.
+    Ack,
+    /// The far end sends nothing more.
+    Close,
+}
+
+impl Arrived {
+    fn of(reading: &Reading) -> Option<Arrived> {
+        let record = |epoch, number, content_type, content: &[u8]| Record { epoch, number, content_type, content: content.to_vec() };
+        match *reading {
+            Reading::Handshake { epoch, number, content } => Some(Arrived::Handshake(record(epoch, number, HANDSHAKE, content))),
+            Reading::ApplicationData { epoch, number, content } => {
+                Some(Arrived::ApplicationData(record(epoch, number, APPLICATION_DATA, content)))
+            }
+            Reading::Ack { .. } => Some(Arrived::Ack),
+            Reading::Close { epoch: 2.., .. } => Some(Arrived::Close),
+            _ => None,
+        }
+    }
 }
 
 pub struct End {
@@ -48,7 +76,9 @@ pub struct End {
     unmarked: Vec<Record>,
     resent: usize,
     marked: usize,
-    pub arrived: VecDeque<Record>,
+    /// The datagram sent last.
+    last: Vec<u8>,
+    pub arrived: VecDeque<Arrived>,
     started: Instant,
     limit: Duration,
 }
@@ -62,6 +92,29 @@ struct Logged<'a> {
 
 fn log_record(log: &mut impl Write, what: char, epoch: u16, number: u64, content_type: u8, content: &[u8]) {
     let _ = writeln!(log, "{what} {epoch} {number} {content_type} {}", hex::encode(content));
+}
+
+/// Says what was read: a record with its content, or one that the library dealt with by number and type, an alert by its description.
+fn log_reading(log: &mut impl Write, reading: &Reading) {
+    let _ = match *reading {
+        Reading::Unprotected { content_type, .. } => writeln!(log, "p\nn {content_type}"),
+        Reading::Handshake { epoch: 0, .. }
+        | Reading::Ignored { epoch: 0, .. }
+        | Reading::Close { epoch: 0, .. }
+        | Reading::Alert { epoch: 0, .. }
+        | Reading::Beyond { epoch: 0, .. } => writeln!(log, "p"),
+        Reading::Handshake { epoch, number, content } => return log_record(log, 'r', epoch, number, HANDSHAKE, content),
+        Reading::ApplicationData { epoch, number, content } => return log_record(log, 'r', epoch, number, APPLICATION_DATA, content),
+        Reading::Other { epoch, number, content_type, content } => return log_record(log, 'r', epoch, number, content_type, content),
+        Reading::Ack { epoch, number, .. } => writeln!(log, "d {epoch} {number} {ACK}"),
+        Reading::Ignored { epoch, number, content_type } => writeln!(log, "d {epoch} {number} {content_type}"),
+        Reading::Close { epoch, number } => writeln!(log, "d {epoch} {number} {ALERT} 0"),
+        Reading::Alert { epoch, number, description } => writeln!(log, "d {epoch} {number} {ALERT} {description}"),
+        Reading::Beyond { epoch, number } => writeln!(log, "b {epoch} {number}"),
+        Reading::Unopened { .. } => writeln!(log, "u"),
+        Reading::Dropped(why) | Reading::Fault(why) => writeln!(log, "x {}", why.number()),
+        _ => Ok(()),
+    };
 }
 
 /// The plaintext records of a datagram that this end wrote.
@@ -125,6 +178,7 @@ impl End {
             unmarked: Vec::new(),
             resent: 0,
             marked: 0,
+            last: Vec::new(),
             arrived: VecDeque::new(),
             started: Instant::now(),
             limit: Duration::from_secs(options.seconds),
@@ -185,11 +239,29 @@ impl End {
             let taken = self.sender.take(&mut buffer).map(|taken| taken.map(|datagram| datagram.len()));
             let Some(n) = self.must(taken) else { break };
             records.extend(plaintext_records(&buffer[..n]));
-            let _ = self.socket.send(&buffer[..n]);
-            self.outstanding += 1;
+            self.last.clear();
+            self.last.extend_from_slice(&buffer[..n]);
+            self.send_last();
         }
         records.append(&mut sealed);
         records
+    }
+
+    fn send_last(&mut self) {
+        let _ = self.socket.send(&self.last);
+        self.outstanding += 1;
+    }
+
+    /// Closes: nothing is sent after it.
+    pub fn close(&mut self) {
+        let answer = self.sender.send(3, ALERT, &CLOSE);
+        self.must(answer);
+        self.flush();
+    }
+
+    /// Sends the datagram with the close once more, as it is: a new record would lie beyond the close.
+    pub fn close_again(&mut self) {
+        self.send_last();
     }
 
     /// Sends application data.
@@ -237,12 +309,6 @@ impl End {
         again.is_empty()
     }
 
-    /// Acts on an ACK.
-    pub fn acknowledge(&mut self, content: &[u8]) {
-        let answer = self.sender.acknowledge(content);
-        self.must(answer);
-    }
-
     /// Notes a record for the next ACK. One that finds no room is sent again, and noted then.
     pub fn note(&mut self, record: &Record) {
         let answer = self.sender.note(record.epoch, record.number);
@@ -258,33 +324,29 @@ impl End {
 
     fn read(&mut self, datagram: &mut [u8]) {
         let check = crate::ledger::check(datagram);
-        let readings = match self.receiver.read(datagram, &mut self.keys_in) {
+        let readings = match self.receiver.read(datagram, &mut self.keys_in, &mut self.sender) {
             Ok(readings) => readings,
             Err(why) => return writeln!(self.log, "x {}\ng {check}", why.number()).unwrap_or(()),
         };
+        let (mut forged_close, mut alert) = (false, None);
         for reading in readings {
-            let record = match reading {
-                Reading::Opened { epoch, number, content_type, content } => {
-                    log_record(&mut self.log, 'r', epoch, number, content_type, content);
-                    Record { epoch, number, content_type, content: content.to_vec() }
-                }
-                Reading::Plaintext { number, content_type, content } => {
-                    let _ = writeln!(self.log, "p");
-                    Record { epoch: 0, number, content_type, content: content.to_vec() }
-                }
-                Reading::Unopened { .. } => {
-                    let _ = writeln!(self.log, "u");
-                    continue;
-                }
-                Reading::Dropped(why) | Reading::Fault(why) => {
-                    let _ = writeln!(self.log, "x {}", why.number());
-                    continue;
-                }
-                _ => continue,
-            };
-            self.arrived.push_back(record);
+            log_reading(&mut self.log, &reading);
+            self.arrived.extend(Arrived::of(&reading));
+            match reading {
+                Reading::Close { epoch: 0, .. } => forged_close = true,
+                Reading::Alert { epoch: 2.., description, .. } => alert = Some(description),
+                _ => {}
+            }
         }
         let _ = writeln!(self.log, "g {check}");
+        if forged_close {
+            // No end here closes in plaintext. All that is sealed would lie beyond it; nothing is keyed yet.
+            let anew = Receiver::new(Receiver::MIN_PROTECTED);
+            self.receiver = self.must(anew);
+        }
+        if let Some(description) = alert {
+            self.stop(&format!("the far end sent alert {description}"));
+        }
     }
 
     /// Waits for datagrams, at most so many milliseconds, and reads them. False when this process is to end.

@@ -1,54 +1,87 @@
-//! The gateway: a handshake, then it counts the energy of the meter records handed over and gives orders, the stop order last.
+//! The gateway: a handshake, then it counts the energy of the meter records handed over and gives orders, the stop order last, and closes.
 
-use huskelapse::content_type::{ACK, APPLICATION_DATA};
-
-use crate::end::End;
+use crate::end::{Arrived, End};
 use crate::handshake::{Handshake, Timer};
 use crate::meter::Word;
 use crate::options::Options;
 
-pub fn run(options: &Options, mut end: End) {
-    let (mut counted, mut energy, mut highest, mut charged) = (0, 0, 0, false);
-    let mut orders = 0;
-    // The order that is not acknowledged, sent again by this timer.
-    let mut given: Option<Timer> = None;
-    let step = options.meter_records() / (options.orders + 1) + 1;
-    let mut handshake = Handshake::begin(&mut end, false);
-    while orders <= options.orders || given.is_some() {
-        if !end.wait(5) {
-            break;
-        }
-        while let Some(record) = end.arrived.pop_front() {
-            if record.content_type == ACK && record.epoch >= 3 && given.is_some() {
-                end.acknowledge(&record.content);
-            } else if record.content_type != APPLICATION_DATA || record.epoch < 3 {
-                handshake.record(&mut end, &record);
-            } else {
-                match Word::of(&record.content) {
-                    Some(Word::Meter { index, wh }) => {
-                        counted += 1;
-                        energy += u64::from(wh);
-                        highest = highest.max(index as usize);
-                    }
-                    Some(Word::Charged { .. }) => charged = true,
-                    _ => {}
-                }
+#[derive(Default)]
+struct Gateway {
+    counted: usize,
+    energy: u64,
+    highest: usize,
+    charged: bool,
+    orders: usize,
+    /// The order that is not acknowledged, sent again by this timer.
+    given: Option<Timer>,
+    /// The close is sent, and again by this timer.
+    closing: Option<Timer>,
+    /// The post has closed.
+    closed: bool,
+}
+
+impl Gateway {
+    fn hear(&mut self, end: &mut End, handshake: &mut Handshake) {
+        while let Some(arrived) = end.arrived.pop_front() {
+            match arrived {
+                Arrived::ApplicationData(record) => self.word(&record.content),
+                Arrived::Close => self.closed = true,
+                // What these two ask for would be sent after the close.
+                Arrived::Handshake(record) if self.closing.is_none() => handshake.record(end, &record),
+                Arrived::Ack if self.closing.is_none() => handshake.ack(end),
+                _ => {}
             }
         }
-        handshake.act(&mut end);
-        // Only the number of an order's last sending can be acknowledged, so an ACK alone is no reason to send again.
-        if given.as_mut().is_some_and(|timer| timer.fires()) && end.resend() {
-            given = None;
-        }
-        if given.is_none() && orders <= options.orders && (orders < highest / step || charged) {
-            orders += 1;
-            end.say(format_args!("i {orders}"));
-            let word = Word::Order { number: orders as u32, stop: orders > options.orders, ampere: 6 + orders as u32 % 26 };
-            end.begin_flight();
-            end.send_saved(&word.bytes());
-            given = Some(Timer::new());
+    }
+
+    fn word(&mut self, content: &[u8]) {
+        match Word::of(content) {
+            Some(Word::Meter { index, wh }) => {
+                self.counted += 1;
+                self.energy += u64::from(wh);
+                self.highest = self.highest.max(index as usize);
+            }
+            Some(Word::Charged { .. }) => self.charged = true,
+            _ => {}
         }
     }
-    end.say(format_args!("total {counted} {energy}"));
+
+    /// Gives the next order when it is time to, and the one before is acknowledged. Whether all are.
+    fn order(&mut self, options: &Options, end: &mut End) -> bool {
+        // Only the number of an order's last sending can be acknowledged, so an ACK alone is no reason to send again.
+        if self.given.as_mut().is_some_and(|timer| timer.fires()) && end.resend() {
+            self.given = None;
+        }
+        let step = options.meter_records() / (options.orders + 1) + 1;
+        if self.given.is_none() && self.orders <= options.orders && (self.orders < self.highest / step || self.charged) {
+            self.orders += 1;
+            end.say(format_args!("i {}", self.orders));
+            let (number, stop) = (self.orders as u32, self.orders > options.orders);
+            end.begin_flight();
+            end.send_saved(&Word::Order { number, stop, ampere: 6 + number % 26 }.bytes());
+            self.given = Some(Timer::new());
+        }
+        self.orders > options.orders && self.given.is_none()
+    }
+}
+
+pub fn run(options: &Options, mut end: End) {
+    let mut gateway = Gateway::default();
+    let mut handshake = Handshake::begin(&mut end, false);
+    while !gateway.closed && end.wait(5) {
+        gateway.hear(&mut end, &mut handshake);
+        if let Some(timer) = &mut gateway.closing {
+            if timer.fires() {
+                end.close_again();
+            }
+            continue;
+        }
+        handshake.act(&mut end);
+        if gateway.order(options, &mut end) {
+            end.close();
+            gateway.closing = Some(Timer::new());
+        }
+    }
+    end.say(format_args!("total {} {}", gateway.counted, gateway.energy));
     end.finish();
 }

@@ -2,8 +2,6 @@
 
 use std::time::{Duration, Instant};
 
-use huskelapse::content_type::{ACK, HANDSHAKE};
-
 use crate::end::{End, Record};
 use crate::messages::{body, Brought, Message, Messages, CERTIFICATE, CLIENT_HELLO, EXTENSIONS, FINISHED, SERVER_HELLO, VERIFY};
 
@@ -70,20 +68,18 @@ impl Handshake {
         self.state == State::Done
     }
 
-    /// A record that is no application data.
-    pub fn record(&mut self, end: &mut End, record: &Record) {
-        if record.content_type == ACK && record.epoch >= 2 {
-            if self.state != State::Done {
-                end.acknowledge(&record.content);
-                if end.resend() && self.state == State::LastAck {
-                    end.receiver.release_application_data();
-                    self.state = State::Done;
-                }
-            }
-            return;
+    /// An ACK came: what it left unacknowledged goes out again.
+    pub fn ack(&mut self, end: &mut End) {
+        if self.state != State::Done && end.resend() && self.state == State::LastAck {
+            end.receiver.release_application_data();
+            self.state = State::Done;
         }
-        // In plaintext until there are keys, and sealed from then on: anyone can have written a record in plaintext.
-        if record.content_type != HANDSHAKE || (record.epoch == 0) != (self.state == State::Hello) {
+    }
+
+    /// A record with pieces of messages.
+    pub fn record(&mut self, end: &mut End, record: &Record) {
+        // In plaintext, read before there were keys and looked at when there are: anyone can have written it.
+        if record.epoch == 0 && self.state != State::Hello {
             return;
         }
         let brought = self.give(end, record.epoch, &record.content);

@@ -16,6 +16,20 @@ pub struct Record {
 pub enum Event {
     Keyed(u16),
     Handed(Record),
+    /// Dealt with by the library: an ACK, a close or another alert, by its description, or one that is ignored.
+    Dealt {
+        epoch: u16,
+        number: u64,
+        content_type: u8,
+        description: Option<u8>,
+    },
+    /// Dropped beyond the close.
+    Beyond {
+        epoch: u16,
+        number: u64,
+    },
+    /// In plaintext, and dropped.
+    Unprotected,
     Read(u64),
 }
 
@@ -45,6 +59,8 @@ pub struct Ledger {
     pub read: usize,
     pub plaintext: usize,
     pub unopened: usize,
+    /// How often a close was told.
+    pub closes: usize,
     /// Handshake messages that were put together, and their pieces.
     pub messages: usize,
     pub pieces: usize,
@@ -57,6 +73,19 @@ fn record_of(words: &mut SplitAsciiWhitespace<'_>) -> Option<Record> {
     let content_type = words.next()?.parse().ok()?;
     let content = hex::decode(words.next().unwrap_or("")).ok()?;
     Some(Record { epoch, number, content_type, content })
+}
+
+/// A line on a record that the library dealt with.
+fn dealt(words: &mut SplitAsciiWhitespace<'_>) -> Option<Event> {
+    let epoch = words.next()?.parse().ok()?;
+    let number = words.next()?.parse().ok()?;
+    let content_type = words.next()?.parse().ok()?;
+    Some(Event::Dealt { epoch, number, content_type, description: words.next().and_then(|word| word.parse().ok()) })
+}
+
+fn beyond(words: &mut SplitAsciiWhitespace<'_>) -> Option<Event> {
+    let epoch = words.next()?.parse().ok()?;
+    Some(Event::Beyond { epoch, number: words.next()?.parse().ok()? })
 }
 
 impl Ledger {
@@ -91,6 +120,14 @@ impl Ledger {
                 self.events.push(Event::Read(words.next().and_then(|n| n.parse().ok()).unwrap_or(0)));
             }
             "k" => self.events.extend(words.next().and_then(|epoch| epoch.parse().ok()).map(Event::Keyed)),
+            "d" => {
+                let event = dealt(words);
+                self.closes += usize::from(matches!(event, Some(Event::Dealt { description: Some(0), .. })));
+                self.handed += usize::from(event.is_some());
+                self.events.extend(event);
+            }
+            "b" => self.events.extend(beyond(words)),
+            "n" => self.events.push(Event::Unprotected),
             "p" => self.plaintext += 1,
             "u" => self.unopened += 1,
             "m" => {

@@ -1,9 +1,10 @@
 //! One direction of the bad link: it loses, doubles, delays, reorders, corrupts and forges.
 
-use std::collections::BTreeMap;
+use std::collections::{BTreeMap, VecDeque};
 use std::ops::Range;
 use std::time::{Duration, Instant};
 
+use huskelapse::content_type::{ACK, ALERT};
 use rand::rngs::SmallRng;
 use rand::{Rng, RngCore, SeedableRng};
 use serde::Serialize;
@@ -21,6 +22,8 @@ pub enum Kind {
     Replayed,
     /// Made up by the link.
     Forged,
+    /// An alert or an ACK in plaintext, made up by the link once the far end encrypts.
+    Plaintext,
 }
 
 /// A datagram on its way. `records` are the sealed records that it was sent with, by the order in which the far end sealed them.
@@ -72,15 +75,82 @@ pub struct Direction {
     in_epoch_3: usize,
     /// The last datagram with records of epoch 3 was among the first.
     loses_first: bool,
+    /// The datagram that came last, and its records.
+    latest: (Vec<u8>, Range<usize>),
+    stranger: Stranger,
     order: usize,
     pub tally: Tally,
 }
+
+/// Who writes alerts and ACKs in plaintext to the far end.
+struct Stranger {
+    /// Apart from the other choices, since when the far end encrypts is a matter of time.
+    random: SmallRng,
+    /// The far end encrypts. Before that a plaintext alert is as good as any.
+    begins: bool,
+    /// Each kind of forgery has been sent.
+    has_begun: bool,
+    /// Epochs and numbers of what the far end sealed last.
+    named: VecDeque<(u16, u64)>,
+}
+
+/// An ACK of so many records fits a datagram.
+const NAMED: usize = 64;
+/// Of alerts a fatal one and a close.
+const FATAL: [u8; 2] = [2, 40];
+const CLOSE: [u8; 2] = [1, 0];
 
 const OLD: usize = 512;
 const IDLE: Duration = Duration::from_millis(2);
 
 fn comes_up(random: &mut SmallRng, percent: f64) -> bool {
     random.gen_bool(percent / 100.0)
+}
+
+impl Stranger {
+    fn new(seed: u64) -> Stranger {
+        Stranger { random: SmallRng::seed_from_u64(seed), begins: false, has_begun: false, named: VecDeque::new() }
+    }
+
+    /// A record in plaintext, under any number.
+    fn record(&mut self, content_type: u8, content: &[u8]) -> Vec<u8> {
+        let mut header = [content_type, 0xFE, 0xFD, 0, 0, 0, 0, 0, 0, 0, 0, 0, 0];
+        self.random.fill_bytes(&mut header[5..11]);
+        header[11..].copy_from_slice(&(content.len() as u16).to_be_bytes());
+        [&header, content].concat()
+    }
+
+    /// A fatal alert, a close, or an ACK of all that is known.
+    fn forgery(&mut self, which: usize) -> Vec<u8> {
+        match which {
+            0 => self.record(ALERT, &FATAL),
+            1 => self.record(ALERT, &CLOSE),
+            _ => {
+                let mut content = (16 * self.named.len() as u16).to_be_bytes().to_vec();
+                for (epoch, number) in &self.named {
+                    content.extend(u64::from(*epoch).to_be_bytes());
+                    content.extend(number.to_be_bytes());
+                }
+                self.record(ACK, &content)
+            }
+        }
+    }
+
+    /// What it writes beside a datagram, in so many percent of the cases: first each kind, then one at a time.
+    fn writes(&mut self, percent: f64) -> Vec<Vec<u8>> {
+        if !self.begins || percent == 0.0 {
+            return Vec::new();
+        }
+        if !self.has_begun {
+            self.has_begun = true;
+            return (0..3).map(|which| self.forgery(which)).collect();
+        }
+        if !comes_up(&mut self.random, percent) {
+            return Vec::new();
+        }
+        let which = self.random.gen_range(0..3);
+        vec![self.forgery(which)]
+    }
 }
 
 impl Direction {
@@ -95,19 +165,29 @@ impl Direction {
             sealed: 0,
             in_epoch_3: 0,
             loses_first: false,
+            latest: (Vec::new(), 0..0),
+            stranger: Stranger::new(!(options.seed ^ salt)),
             order: 0,
             tally: Tally::default(),
         }
+    }
+
+    /// The far end encrypts from now on: what is written to it in plaintext must change nothing.
+    pub fn far_end_encrypts(&mut self) {
+        self.stranger.begins = true;
+    }
+
+    /// The far end sealed a record, which a forged ACK can name.
+    pub fn far_end_sealed(&mut self, epoch: u16, number: u64) {
+        self.stranger.named.truncate(NAMED - 1);
+        self.stranger.named.push_front((epoch, number));
     }
 
     /// A datagram comes from the sending end.
     pub fn arrive(&mut self, bytes: &[u8], now: Instant) -> Sent {
         // One number for each datagram, from which its choices are made: what became of those before it plays no part.
         let random = &mut SmallRng::seed_from_u64(self.random.next_u64());
-        let first = self.sealed;
-        let (sealed, in_epoch_3) = sealed_records(bytes);
-        self.sealed += sealed;
-        let records = first..self.sealed;
+        let (records, in_epoch_3) = self.records(bytes);
         self.tally.sent += 1;
         self.last = now;
         let place = self.place(in_epoch_3);
@@ -122,6 +202,7 @@ impl Direction {
             self.tally.forged += 1;
             self.hold(random, forged, now);
         }
+        self.forge_plaintext(now);
         self.remember(random, &datagram);
         let lost = place == Place::Elsewhere && comes_up(random, self.options.lose);
         if lost {
@@ -133,6 +214,18 @@ impl Direction {
             self.pass(random, datagram, now);
         }
         Sent { records, lost, among_first: false }
+    }
+
+    /// The sealed records of a datagram, and how many of epoch 3 are new. One that is sent once more as it was has the records that it had.
+    fn records(&mut self, bytes: &[u8]) -> (Range<usize>, usize) {
+        if self.latest.0 == bytes {
+            return (self.latest.1.clone(), 0);
+        }
+        let first = self.sealed;
+        let (sealed, in_epoch_3) = sealed_records(bytes);
+        self.sealed += sealed;
+        self.latest = (bytes.to_vec(), first..self.sealed);
+        (first..self.sealed, in_epoch_3)
     }
 
     /// Counts the records of epoch 3. A datagram that has one of the first is among them, whatever else is in it: a link loses datagrams.
@@ -209,6 +302,15 @@ impl Direction {
         Datagram { bytes, records: 0..0, kind: Kind::Forged }
     }
 
+    /// Alerts and ACKs in plaintext, once the far end encrypts.
+    fn forge_plaintext(&mut self, now: Instant) {
+        for bytes in self.stranger.writes(self.options.forge) {
+            let random = &mut SmallRng::seed_from_u64(self.stranger.random.next_u64());
+            self.tally.forged += 1;
+            self.hold(random, Datagram { bytes, records: 0..0, kind: Kind::Plaintext }, now);
+        }
+    }
+
     fn hold(&mut self, random: &mut SmallRng, datagram: Datagram, now: Instant) {
         let place = self.tally.sent + random.gen_range(0..=self.options.reorder);
         self.order += 1;
@@ -269,7 +371,7 @@ mod tests {
 
     const GOOD: [&str; 12] = ["--lose", "0", "--double", "0", "--reorder", "0", "--delay", "0", "--corrupt", "0", "--forge", "0"];
 
-    /// A datagram with a sealed record for each of these epochs, all of them filled with one byte.
+    /// A datagram with a sealed record for each of these epochs, all of them filled with one byte. Those of an end differ from each other.
     fn packed(epochs: &[u8], fill: u8) -> Vec<u8> {
         epochs.iter().flat_map(|epoch| [&[0x2C | epoch, fill, fill, 0, 20][..], &[fill; 20]].concat()).collect()
     }
@@ -305,7 +407,7 @@ mod tests {
     fn the_first_of_epoch_3_are_lost_and_no_others() {
         let mut direction = direction(&[&GOOD[..], &["--lose-first", "4"]].concat());
         let epochs = [2, 2, 3, 3, 2, 3, 3, 3, 2, 3];
-        let sent: Vec<_> = epochs.iter().map(|epoch| direction.arrive(&packed(&[*epoch], 0), Instant::now())).collect();
+        let sent: Vec<_> = epochs.iter().zip(0..).map(|(epoch, i)| direction.arrive(&packed(&[*epoch], i), Instant::now())).collect();
         let lost: Vec<_> = (0..10).filter(|i| sent[*i].lost).collect();
         assert_eq!(lost, [2, 3, 5, 6]);
         assert!(sent.iter().all(|sent| sent.lost == sent.among_first));
@@ -317,8 +419,8 @@ mod tests {
     #[test]
     fn a_datagram_with_one_of_the_first_is_lost_with_all_in_it() {
         let mut direction = direction(&[&GOOD[..], &["--lose-first", "6"]].concat());
-        let datagrams = [&[2, 3][..], &[3; 4], &[2], &[3; 4], &[3; 4]];
-        let lost = datagrams.map(|epochs| direction.arrive(&packed(epochs, 0), Instant::now()).lost);
+        let datagrams = [(&[2, 3][..], 0), (&[3; 4], 1), (&[2], 2), (&[3; 4], 3), (&[3; 4], 4)];
+        let lost = datagrams.map(|(epochs, i)| direction.arrive(&packed(epochs, i), Instant::now()).lost);
         assert_eq!(lost, [true, true, false, true, false]);
         let passed: Vec<_> = std::iter::from_fn(|| direction.due(Instant::now())).map(|datagram| datagram.records).collect();
         assert_eq!(passed, [6..7, 11..15]);
@@ -329,7 +431,9 @@ mod tests {
         let mut direction = direction(&["--lose-first", "100", "--forge", "95", "--double", "50"]);
         for i in 0..250 {
             let first = i < 100;
-            assert_eq!(direction.arrive(&packed(&[3], if first { 7 } else { 9 }), Instant::now()).among_first, first);
+            let mut bytes = packed(&[3], if first { 7 } else { 9 });
+            bytes[1] = i;
+            assert_eq!(direction.arrive(&bytes, Instant::now()).among_first, first);
         }
         let passed: Vec<_> = std::iter::from_fn(|| direction.due(Instant::now() + IDLE * 1000)).collect();
         assert!(passed.iter().any(|datagram| datagram.kind == Kind::Replayed));
@@ -346,6 +450,63 @@ mod tests {
             let passed: Vec<_> = std::iter::from_fn(|| direction.due(Instant::now() + IDLE * 1000)).collect();
             assert!(passed.iter().map(|datagram| (datagram.records.clone(), datagram.kind)).eq([(3..4, Kind::Intact)]));
         }
+    }
+
+    /// The plaintext records of what is due, their types and contents.
+    fn forged(direction: &mut Direction) -> Vec<(u8, Vec<u8>)> {
+        let due = std::iter::from_fn(|| direction.due(Instant::now() + IDLE * 1000));
+        let forged = due.filter(|datagram| datagram.kind == Kind::Plaintext);
+        forged.map(|datagram| (datagram.bytes[0], datagram.bytes[13..].to_vec())).collect()
+    }
+
+    #[test]
+    fn plaintext_is_forged_once_the_far_end_encrypts() {
+        let mut direction = direction(&[&GOOD[..10], &["--forge", "50"]].concat());
+        lost(&mut direction, 20..120);
+        assert_eq!(forged(&mut direction), []);
+        direction.far_end_encrypts();
+        direction.far_end_sealed(2, 1);
+        direction.far_end_sealed(3, 7);
+        lost(&mut direction, 20..21);
+        let named = [&[0, 32][..], &3_u64.to_be_bytes(), &7_u64.to_be_bytes(), &2_u64.to_be_bytes(), &1_u64.to_be_bytes()].concat();
+        assert_eq!(forged(&mut direction), [(ALERT, FATAL.to_vec()), (ALERT, CLOSE.to_vec()), (ACK, named)]);
+        lost(&mut direction, 20..120);
+        assert!((20..80).contains(&forged(&mut direction).len()));
+    }
+
+    #[test]
+    fn a_forged_ack_names_the_last_ones_and_fits() {
+        let mut direction = direction(&[&GOOD[..10], &["--forge", "1"]].concat());
+        direction.far_end_encrypts();
+        (0..1000).for_each(|number| direction.far_end_sealed(3, number));
+        lost(&mut direction, 20..21);
+        let ack = forged(&mut direction).pop().unwrap().1;
+        assert_eq!((ack.len(), &ack[..2], &ack[10..18]), (2 + 64 * 16, &[4, 0][..], &999_u64.to_be_bytes()[..]));
+    }
+
+    #[test]
+    fn no_plaintext_is_forged_where_nothing_is() {
+        let mut direction = direction(&GOOD);
+        direction.far_end_encrypts();
+        lost(&mut direction, 20..120);
+        assert_eq!(forged(&mut direction), []);
+    }
+
+    #[test]
+    fn forged_plaintext_changes_no_other_choice() {
+        let words = ["--seed", "7", "--corrupt", "50", "--forge", "50"];
+        let [mut one, mut other] = [&words; 2].map(|words| direction(words));
+        other.far_end_encrypts();
+        assert_eq!(lost(&mut one, 20..220), lost(&mut other, 20..220));
+        assert_eq!((one.tally.doubled, one.tally.damaged), (other.tally.doubled, other.tally.damaged));
+    }
+
+    #[test]
+    fn a_datagram_sent_once_more_has_the_records_that_it_had() {
+        let mut direction = direction(&GOOD);
+        let datagrams = [packed(&[3, 3], 1), packed(&[3], 2), packed(&[3], 2), packed(&[3], 3)];
+        let records = datagrams.map(|bytes| direction.arrive(&bytes, Instant::now()).records);
+        assert_eq!(records, [0..2, 2..3, 2..3, 3..4]);
     }
 
     #[test]

@@ -118,6 +118,7 @@ impl Page<'_> {
         self.row(f, "  read before their keys", |way| way.records.before_keys)?;
         self.row(f, "  on their way at the end", |way| way.records.on_their_way)?;
         self.row_if_any(f, "  LEFT OUT", |way| way.records.left_out)?;
+        self.row_if_any(f, "  DROPPED BEYOND THE CLOSE", |way| way.records.beyond_close)?;
         self.words(f, "lowest number handed over in epoch 3", |way| {
             way.records.lowest_number_handed_over_in_epoch_3.map_or("none".to_string(), |lowest| HumanCount(lowest).to_string())
         })?;
@@ -129,6 +130,9 @@ impl Page<'_> {
     fn readings(&self, f: &mut fmt::Formatter<'_>) -> fmt::Result {
         self.row(f, "records read in plaintext", |way| way.readings.plaintext)?;
         self.row(f, "sealed records read before encryption", |way| way.readings.unopened)?;
+        self.row(f, "alerts and ACKs forged in plaintext after encryption", |way| way.readings.forged_in_plaintext)?;
+        self.row(f, "  dropped", |way| way.readings.forged_in_plaintext_dropped)?;
+        self.row(f, "closes seen", |way| way.readings.closes)?;
         self.row(f, "handshake messages put together", |way| way.readings.messages)?;
         self.row(f, "  from so many pieces", |way| way.readings.pieces)?;
         let [up, down] = [&self.0.post_to_gateway.readings, &self.0.gateway_to_post.readings];
@@ -177,7 +181,10 @@ impl Page<'_> {
             (None, true) => "holds",
         };
         writeln!(f, "{head}: no record handed over twice, changed or invented, none left out that arrived undamaged and in reach,")?;
-        let rest = "none marked acknowledged that was not handed over; each meter record counted was sent, each order obeyed once";
+        let rest = "none marked acknowledged that was not handed over; each meter record counted was sent, each order obeyed once;";
+        writeln!(f, "{:head$}  {rest}", "", head = head.len())?;
+        let closes = if verdict.unfinished.is_none() { ", both closes seen" } else { "" };
+        let rest = format!("no alert or ACK forged in plaintext heeded, no record dropped beyond a close{closes}");
         writeln!(f, "{:head$}  {rest}", "", head = head.len())
     }
 

@@ -55,7 +55,7 @@ pub struct Datagrams {
     pub unread: usize,
 }
 
-/// Records sealed, by what became of them; each is counted once in the fields up to `left_out`.
+/// Records sealed, by what became of them; each is counted once in the fields up to `beyond_close`.
 #[derive(Clone, Default, Serialize)]
 pub struct Records {
     pub sealed: usize,
@@ -67,6 +67,7 @@ pub struct Records {
     pub before_keys: usize,
     pub on_their_way: usize,
     pub left_out: usize,
+    pub beyond_close: usize,
     /// Of those lost, the ones that --lose-first asks for.
     pub lost_first: usize,
     pub lowest_number_handed_over_in_epoch_3: Option<u64>,
@@ -80,6 +81,10 @@ pub struct Records {
 pub struct Readings {
     pub plaintext: usize,
     pub unopened: usize,
+    /// Alerts and ACKs that the link forged in plaintext once the reading end encrypts, and those of them that were dropped.
+    pub forged_in_plaintext: usize,
+    pub forged_in_plaintext_dropped: usize,
+    pub closes: usize,
     /// Handshake messages put together, and the pieces that they were put together from.
     pub messages: usize,
     pub pieces: usize,
@@ -128,6 +133,7 @@ impl Way {
                 before_keys: account.count(Fate::BeforeKeys),
                 on_their_way: account.count(Fate::OnItsWay),
                 left_out: account.count(Fate::LeftOut),
+                beyond_close: account.count(Fate::BeyondClose),
                 lost_first: account.lost_first,
                 lowest_number_handed_over_in_epoch_3: account.lowest_in_epoch_3,
                 beside_another: account.beside,
@@ -137,6 +143,9 @@ impl Way {
             readings: Readings {
                 plaintext: ledger.plaintext,
                 unopened: ledger.unopened,
+                forged_in_plaintext: account.forged,
+                forged_in_plaintext_dropped: account.forged_dropped,
+                closes: account.closes,
                 messages: ledger.messages,
                 pieces: ledger.pieces,
                 doubles: account.doubles,
@@ -246,7 +255,15 @@ mod tests {
         let obeyed = (1..=counted).collect();
         let told = Told { counted, energy, orders_given: counted, orders_obeyed: obeyed, done: [true, true], ..Told::default() };
         let tally = Tally { sent: 1, delivered: 1, ..Tally::default() };
-        Report::new(&options, [&tally, &Tally::default()], &[up, Ledger::default()], &told, ending, 0.25)
+        let ledgers = [up, Ledger::default()].map(|ledger| if ending == Ending::Ended { close(ledger) } else { ledger });
+        Report::new(&options, [&tally, &Tally::default()], &ledgers, &told, ending, 0.25)
+    }
+
+    /// The last record is a close, which is seen.
+    fn close(mut ledger: Ledger) -> Ledger {
+        ledger.seals(&mut "3 100000 21 0100".split_ascii_whitespace());
+        ledger.reads("d", &mut "3 100000 21 0".split_ascii_whitespace());
+        ledger
     }
 
     #[test]
@@ -256,7 +273,9 @@ mod tests {
         assert_eq!(json["exit_status"], 0);
         assert_eq!(json["unfinished"], Value::Null);
         assert_eq!(json["post_to_gateway"]["datagrams"]["sent"], 1);
-        assert_eq!(json["post_to_gateway"]["records"]["handed_over"], 1);
+        assert_eq!(json["post_to_gateway"]["records"]["handed_over"], 2);
+        assert_eq!(json["post_to_gateway"]["readings"]["closes"], 1);
+        assert_eq!(json["gateway_to_post"]["readings"]["closes"], 1);
         assert_eq!(json["post_to_gateway"]["readings"]["dropped"][0]["refusal"], 9);
         assert_eq!(json["meter"]["counted_wh"], 14);
     }
@@ -285,14 +304,14 @@ mod tests {
         for (first, told) in [(40_000, "40,000"), (65_535, "65,535")] {
             let report = report_without_first(first, Ending::Ended);
             let json: Value = serde_json::from_str(&report.json()).expect("JSON");
-            assert_eq!(row(&report, LOWEST).unwrap(), [told, "none"]);
+            assert_eq!(row(&report, LOWEST).unwrap(), [told, "100,000"]);
             assert_eq!(row(&report, LOST_FIRST).unwrap(), [told, "0"]);
             assert_eq!(row(&report, OUT_OF_REACH), None);
             assert_eq!(json["post_to_gateway"]["records"]["lowest_number_handed_over_in_epoch_3"], first);
-            assert_eq!(json["gateway_to_post"]["records"]["lowest_number_handed_over_in_epoch_3"], Value::Null);
+            assert_eq!(json["gateway_to_post"]["records"]["lowest_number_handed_over_in_epoch_3"], 100_000);
             assert_eq!((json["post_to_gateway"]["records"]["lost_first"].clone(), json["exit_status"].clone()), (first.into(), 0.into()));
         }
-        assert_eq!(row(&report(Ending::Ended), LOWEST).unwrap(), ["0", "none"]);
+        assert_eq!(row(&report(Ending::Ended), LOWEST).unwrap(), ["0", "100,000"]);
         assert_eq!(row(&report(Ending::Ended), LOST_FIRST), None);
     }
 
@@ -304,6 +323,22 @@ mod tests {
         assert_eq!(row(&report, "from so many pieces").unwrap(), ["4", "0"]);
         let readings = &json["post_to_gateway"]["readings"];
         assert_eq!((readings["messages"].clone(), readings["pieces"].clone()), (2.into(), 4.into()));
+    }
+
+    #[test]
+    fn the_page_says_what_was_forged_and_that_both_closed() {
+        let mut up = Ledger::default();
+        up.delivers(&Datagram { bytes: vec![], records: 0..0, kind: Kind::Plaintext });
+        for (kind, words) in [("p", ""), ("n", "26"), ("g", &check(&[]).to_string())] {
+            up.reads(kind, &mut words.split_ascii_whitespace());
+        }
+        let report = report_of(up, &["--records", "1"], Ending::Ended);
+        assert_eq!(row(&report, "alerts and ACKs forged in plaintext after encryption").unwrap(), ["1", "0"]);
+        assert_eq!(row(&report, "dropped ").unwrap(), ["1", "0"]);
+        assert_eq!(row(&report, "closes seen").unwrap(), ["1", "1"]);
+        assert_eq!(row(&report, "DROPPED BEYOND THE CLOSE"), None);
+        let page = Page(&report).to_string();
+        assert!(page.contains("no record dropped beyond a close, both closes seen\n"), "{page}");
     }
 
     #[test]

@@ -90,7 +90,12 @@ impl<'a> Run<'a> {
         let mut words = line.split_ascii_whitespace();
         let kind = words.next().unwrap_or("");
         match kind {
-            "s" => self.ledgers[side].seals(&mut words),
+            "s" => {
+                self.ledgers[side].seals(&mut words);
+                if let Some(record) = self.ledgers[side].sealed.last() {
+                    self.directions[1 - side].far_end_sealed(record.epoch, record.number);
+                }
+            }
             "a" => self.ledgers[side].acknowledges(&mut words),
             "resent" => self.told.resent[side] = next_number(&mut words) as usize,
             "marked" => self.told.marked[side] = next_number(&mut words) as usize,
@@ -105,6 +110,9 @@ impl<'a> Run<'a> {
             "stopped" => self.told.stopped[side] = line.split_once(' ').map(|(_, why)| why.to_string()),
             _ => {
                 self.ledgers[1 - side].reads(kind, &mut words);
+                if kind == "k" {
+                    self.directions[1 - side].far_end_encrypts();
+                }
             }
         }
     }

@@ -3,7 +3,7 @@
 use indicatif::HumanCount;
 use serde::Serialize;
 
-use crate::account::Account;
+use crate::account::{Account, Fate};
 use crate::report::{Meter, Told};
 
 /// How a run came to its end.
@@ -52,6 +52,7 @@ impl Verdict {
     pub fn new(ending: Ending, accounts: &[Account; 2], told: &Told, meter: &Meter) -> Verdict {
         let mut findings = wrong_records(accounts, told.done);
         findings.extend(wrong_counts(told, meter));
+        findings.extend(wrong_closes(ending, accounts, told.done));
         let none_in_reach = accounts.iter().any(Account::none_in_reach);
         let unfinished = unfinished(ending, told).map(|why| if none_in_reach { format!("{why}; {NONE_IN_REACH}") } else { why });
         let (word, exit_status) = match (findings.is_empty(), &unfinished) {
@@ -76,6 +77,8 @@ fn wrong_records(accounts: &[Account; 2], done: [bool; 2]) -> Vec<String> {
         (sum(|a| a.invented, by_sender), "handed over that was not sealed"),
         (sum(|a| a.left_out, always), "left out though undamaged and in reach"),
         (sum(|a| a.unacknowledged, by_receiver), "marked acknowledged of which no sending was handed over"),
+        (sum(|a| a.count(Fate::BeyondClose), always), "dropped beyond a close, after which none is sent"),
+        (sum(|a| a.forged - a.forged_dropped, always), "forged in plaintext that was not dropped"),
     ];
     let found = counts.into_iter().filter(|(n, _)| *n > 0);
     found.map(|(n, what)| format!("{}: a record {what}", HumanCount(n as u64))).collect()
@@ -92,6 +95,14 @@ fn wrong_counts(told: &Told, meter: &Meter) -> Vec<String> {
         wrong.push("an order was obeyed that was not given, or twice".to_string());
     }
     wrong
+}
+
+/// Each end closes once, and ends by itself only when it has seen the other's close.
+fn wrong_closes(ending: Ending, accounts: &[Account; 2], done: [bool; 2]) -> Option<String> {
+    let [up, down] = accounts.each_ref().map(|account| account.closes);
+    let is_whole = ending == Ending::Ended && done == [true, true];
+    let is_wrong = up.max(down) > 1 || (is_whole && (up, down) != (1, 1));
+    is_wrong.then(|| "an end did not see the other's close, or saw two".to_string())
 }
 
 fn unfinished(ending: Ending, told: &Told) -> Option<String> {
@@ -117,13 +128,18 @@ mod tests {
         Meter { to_send: 3, sent: 3, sent_wh: 30, handed_over: 3, handed_over_wh: 30, counted: 3, counted_wh: 30 }
     }
 
+    /// A direction whose close was seen.
+    fn closed() -> Account {
+        Account { closes: 1, ..Account::default() }
+    }
+
     fn verdict(ending: Ending, up: Account, told: &Told) -> Verdict {
-        Verdict::new(ending, &[up, Account::default()], told, &meter())
+        Verdict::new(ending, &[up, closed()], told, &meter())
     }
 
     #[test]
     fn a_whole_run_holds() {
-        let verdict = verdict(Ending::Ended, Account::default(), &told());
+        let verdict = verdict(Ending::Ended, closed(), &told());
         assert_eq!((verdict.word, verdict.exit_status), (Word::Holds, 0));
         assert!(verdict.findings.is_empty() && verdict.unfinished.is_none());
     }
@@ -148,11 +164,15 @@ mod tests {
     #[test]
     fn each_finding_does_not_hold() {
         let accounts = [
-            Account { twice: 1, ..Account::default() },
-            Account { changed: 1, ..Account::default() },
-            Account { invented: 1, ..Account::default() },
-            Account { left_out: 1, ..Account::default() },
-            Account { unacknowledged: 1, ..Account::default() },
+            Account { twice: 1, ..closed() },
+            Account { changed: 1, ..closed() },
+            Account { invented: 1, ..closed() },
+            Account { left_out: 1, ..closed() },
+            Account { unacknowledged: 1, ..closed() },
+            Account { fates: vec![Fate::BeyondClose], ..closed() },
+            Account { forged: 2, forged_dropped: 1, ..closed() },
+            Account { closes: 0, ..closed() },
+            Account { closes: 2, ..closed() },
         ];
         for account in accounts {
             let verdict = verdict(Ending::Ended, account, &told());
@@ -169,7 +189,7 @@ mod tests {
             (Told { orders_given: 1, ..told() }, meter()),
         ];
         for (told, meter) in wrong {
-            let verdict = Verdict::new(Ending::Ended, &[Account::default(), Account::default()], &told, &meter);
+            let verdict = Verdict::new(Ending::Ended, &[closed(), closed()], &told, &meter);
             assert_eq!((verdict.word, verdict.exit_status, verdict.findings.len()), (Word::DoesNotHold, 1, 1));
         }
     }
@@ -178,6 +198,15 @@ mod tests {
     fn a_finding_stays_one_in_a_run_not_finished() {
         let verdict = verdict(Ending::TimeOver(1), Account { twice: 1, ..Account::default() }, &told());
         assert_eq!((verdict.word, verdict.exit_status), (Word::DoesNotHold, 1));
+    }
+
+    #[test]
+    fn a_close_not_seen_is_no_finding_in_a_run_not_finished() {
+        let broke = Told { done: [false, true], ..told() };
+        for (ending, told) in [(Ending::TimeOver(1), told()), (Ending::Interrupted, told()), (Ending::Ended, broke)] {
+            let verdict = verdict(ending, Account::default(), &told);
+            assert_eq!((verdict.word, verdict.exit_status), (Word::NotFinished, 2));
+        }
     }
 
     #[test]

@@ -19,9 +19,12 @@ fn main() -> Result<(), Box<dyn std::error::Error>> {
     let mut receiver = Receiver::new(Receiver::MIN_PROTECTED)?;
     receiver.key(3, &iv)?;
     receiver.enable_peer_encryption();
-    for reading in receiver.read(datagram, &mut to_open)? {
+    let mut other_direction = Sender::new(1200, 4)?; // of the receiving end: ACKs mark what it sent
+    for reading in receiver.read(datagram, &mut to_open, &mut other_direction)? {
         match reading {
-            Reading::Opened { epoch, number, content, .. } => println!("{epoch}.{number}: {}", content.escape_ascii()),
+            Reading::ApplicationData { epoch, number, content } => println!("{epoch}.{number}: {}", content.escape_ascii()),
+            Reading::Close { .. } => println!("the far end closes"),
+            Reading::Alert { description, .. } => eprintln!("alert {description}"),
             Reading::Dropped(why) => eprintln!("{why}"), // refusal 9: the record's number is used or too old
             _ => {}
         }

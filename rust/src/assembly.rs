@@ -6,8 +6,8 @@ use crate::Refusal;
 
 /// Puts whole handshake messages together (RFC 9147, section 5.5): the number of the next message, and the pieces of it that are held.
 ///
-/// The content of each reading of type [`HANDSHAKE`](crate::content_type::HANDSHAKE) goes to [`Assembly::pieces`]. Messages come out
-/// whole, once, as 0, 1, 2 and so on, in a buffer that the host lends. Here a message of two pieces; the second arrives first, and twice:
+/// The content of each [`Reading::Handshake`](crate::Reading::Handshake) goes to [`Assembly::pieces`]. Messages come out whole, once,
+/// as 0, 1, 2 and so on, in a buffer that the host lends. Here a message of two pieces; the second arrives first, and twice:
 ///
 /// ```
 /// use huskelapse::{Assembly, Piece, Refusal};

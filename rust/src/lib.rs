@@ -5,7 +5,8 @@
 //! IVs, replay windows and the queue. No thread, no input or output, and no allocation but for the memory of `Sender::new`.
 //!
 //! A [`Sender`] and a [`Receiver`] are the two directions of one end, an [`Assembly`] puts handshake messages together. A [`Cipher`]
-//! answers the library's questions. A record from one end to the other:
+//! answers the library's questions. What is read comes as what it is ([`Reading`]): ACKs are acted on, a close is remembered, and what
+//! anyone can have written in plaintext is dropped once peer encryption is on. A record from one end to the other:
 //!
 //! ```
 //! use huskelapse::{content_type, Reading, Receiver, Refusal, Sender};
@@ -25,11 +26,12 @@
 //! let mut receiver = Receiver::new(Receiver::MIN_PROTECTED)?;
 //! receiver.key(3, &iv)?;
 //! receiver.enable_peer_encryption();
+//! let mut gateway = Sender::new(1200, 4)?; // its other direction, which ACKs are for
 //! let mut copy = datagram.to_vec();
-//! for reading in receiver.read(datagram, &mut Toy(5))? {
-//!     assert_eq!(reading, Reading::Opened { epoch: 3, number: 0, content_type: 23, content: b"14.2 kWh" });
+//! for reading in receiver.read(datagram, &mut Toy(5), &mut gateway)? {
+//!     assert_eq!(reading, Reading::ApplicationData { epoch: 3, number: 0, content: b"14.2 kWh" });
 //! }
-//! for reading in receiver.read(&mut copy, &mut Toy(5))? {
+//! for reading in receiver.read(&mut copy, &mut Toy(5), &mut gateway)? {
 //!     assert_eq!(reading, Reading::Dropped(Refusal::NotFresh));
 //! }
 //! # Ok::<(), huskelapse::Error>(())

@@ -21,8 +21,9 @@
 //! let mut receiver = Receiver::new(Receiver::MIN_PROTECTED)?;
 //! receiver.key(3, &iv)?;
 //! receiver.enable_peer_encryption();
-//! let mut readings = receiver.read(datagram, &mut to_open)?;
-//! assert!(matches!(readings.next(), Some(Reading::Opened { content: b"14.2 kWh", .. })));
+//! let mut other_direction = Sender::new(1200, 4)?; // of the receiving end: ACKs are for what it sent
+//! let mut readings = receiver.read(datagram, &mut to_open, &mut other_direction)?;
+//! assert!(matches!(readings.next(), Some(Reading::ApplicationData { content: b"14.2 kWh", .. })));
 //! # Ok::<(), Box<dyn std::error::Error>>(())
 //! ```
 

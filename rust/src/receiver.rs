@@ -3,12 +3,12 @@ use core::iter::FusedIterator;
 
 use huskelapse_sys as ffi;
 
-use crate::{Cipher, Refusal};
+use crate::{Acked, Cipher, Refusal, Sender};
 
-/// The receive side of a link: epochs with their IVs and replay windows.
+/// The receive side of a link: epochs with their IVs and replay windows, and the close.
 ///
 /// ```
-/// use huskelapse::{Reading, Receiver, Refusal};
+/// use huskelapse::{Reading, Receiver, Refusal, Sender};
 /// # mod toy { include!(concat!(env!("CARGO_MANIFEST_DIR"), "/tests/toy/mod.rs")); }
 /// # use toy::Toy;
 ///
@@ -16,6 +16,7 @@ use crate::{Cipher, Refusal};
 /// receiver.key(3, &[7; 12])?;
 /// assert_eq!(receiver.key(3, &[8; 12]), Err(Refusal::BadEpoch));
 /// receiver.enable_peer_encryption();
+/// let mut sender = Sender::new(1200, 4)?; // the other direction of this end: ACKs are for what it sent
 ///
 /// // An alert in plaintext, then a sealed record that no key opens, then a cut-off header.
 /// let mut datagram = [21, 0xFE, 0xFD, 0, 0, 0, 0, 0, 0, 0, 4, 0, 2, 1, 0].to_vec();
@@ -23,11 +24,11 @@ use crate::{Cipher, Refusal};
 /// datagram.extend([0; 20]);
 /// datagram.push(22);
 /// // `Toy` stands for a cipher with the keys of this direction.
-/// let readings: Vec<Reading> = receiver.read(&mut datagram, &mut Toy(5))?.collect();
+/// let readings: Vec<Reading> = receiver.read(&mut datagram, &mut Toy(5), &mut sender)?.collect();
 /// assert_eq!(
 ///     readings,
 ///     [
-///         Reading::Plaintext { number: 4, content_type: 21, content: &[1, 0] },
+///         Reading::Unprotected { number: 4, content_type: 21 },
 ///         Reading::Dropped(Refusal::NotOpened),
 ///         Reading::Fault(Refusal::Truncated),
 ///     ]
@@ -83,8 +84,8 @@ impl Receiver {
         Refusal::answer(answer.refusal, answer.told == 1)
     }
 
-    /// From now on sealed records are opened. This is not undone. Records in plaintext are handed over as before, and anyone can have
-    /// written them: act on none of them then.
+    /// From now on sealed records are opened, and records in plaintext are dropped ([`Reading::Unprotected`]), since anyone can have
+    /// written them. This is not undone.
     pub fn enable_peer_encryption(&mut self) {
         Refusal::never(self.state.enable_encryption());
     }
@@ -95,11 +96,17 @@ impl Receiver {
         Refusal::never(self.state.release_application_data());
     }
 
-    /// Reads a datagram, at most 16,384 bytes, record by record, and says of each record what became of it.
+    /// Reads a datagram, at most 16,384 bytes, record by record, and says of each record what it is or what became of it. ACKs are acted
+    /// on: they mark what `sender` has saved, which is the sender of this end. After [`Reading::Alert`] the rest of the datagram is not
+    /// read.
+    ///
+    /// Before peer encryption is on anyone can have written what is read of epoch 0. Of an ACK nothing comes then; but an alert 0, as
+    /// [`Reading::Close`] of epoch 0, closes every sealed epoch: a host that goes on makes a new receiver.
     ///
     /// A record is read when the iterator comes to it, and asks the cipher for one mask and one opening at most. What is left unread
     /// when the iterator is dropped is not read. Number bytes are unmasked and protected parts opened in place, so a datagram is read
-    /// from the same memory only once. What is handed over borrows the datagram, and neither the iterator nor receiver and cipher.
+    /// from the same memory only once. What is handed over borrows the datagram, and neither the iterator nor receiver, cipher and sender.
+    /// While it is read the sender does nothing else: what is to be acknowledged is noted afterwards ([`Sender::note`]).
     ///
     /// At most 16 readings hand over bytes. Records are dropped without a limit: a datagram that a stranger made can have thousands.
     ///
@@ -115,14 +122,15 @@ impl Receiver {
     /// Contents stay where they are while records behind are read, and while the receiver goes on:
     ///
     /// ```
-    /// # use huskelapse::{Reading, Receiver, Refusal};
+    /// # use huskelapse::{Reading, Receiver, Refusal, Sender};
     /// # mod toy { include!(concat!(env!("CARGO_MANIFEST_DIR"), "/tests/toy/mod.rs")); }
     /// # use toy::Toy;
-    /// let mut receiver = Receiver::new(Receiver::MIN_PROTECTED)?;
+    /// let (mut receiver, mut sender) = (Receiver::new(Receiver::MIN_PROTECTED)?, Sender::new(1200, 4)?);
     /// let mut hellos = [[22, 0xFE, 0xFD, 0, 0, 0, 0, 0, 0, 0, 0, 0, 2, 1, 0]; 2];
-    /// let readings: Vec<Reading> = receiver.read(hellos.as_flattened_mut(), &mut Toy(5))?.collect();
+    /// let readings: Vec<Reading> = receiver.read(hellos.as_flattened_mut(), &mut Toy(5), &mut sender)?.collect();
     /// receiver.key(2, &[7; 12])?;
-    /// assert_eq!(readings, [Reading::Plaintext { number: 0, content_type: 22, content: &[1, 0] }; 2]);
+    /// sender.key(2, &[8; 12])?;
+    /// assert_eq!(readings, [Reading::Handshake { epoch: 0, number: 0, content: &[1, 0] }; 2]);
     /// # Ok::<(), Refusal>(())
     /// ```
     ///
@@ -131,30 +139,41 @@ impl Receiver {
     /// ```compile_fail,E0506
     /// # mod toy { include!(concat!(env!("CARGO_MANIFEST_DIR"), "/tests/toy/mod.rs")); }
     /// # use toy::Toy;
-    /// let mut receiver = huskelapse::Receiver::new(17).unwrap();
+    /// let (mut receiver, mut sender) = (huskelapse::Receiver::new(17).unwrap(), huskelapse::Sender::new(1200, 4).unwrap());
     /// let mut datagram = [0; 100];
-    /// let readings: Vec<_> = receiver.read(&mut datagram, &mut Toy(5)).unwrap().collect();
+    /// let readings: Vec<_> = receiver.read(&mut datagram, &mut Toy(5), &mut sender).unwrap().collect();
     /// datagram[0] = 1;
     /// println!("{readings:?}");
     /// ```
     ///
-    /// While it is read the receiver does nothing else:
+    /// While it is read the receiver does nothing else, and neither does the sender:
     ///
     /// ```compile_fail,E0499
     /// # mod toy { include!(concat!(env!("CARGO_MANIFEST_DIR"), "/tests/toy/mod.rs")); }
     /// # use toy::Toy;
-    /// let mut receiver = huskelapse::Receiver::new(17).unwrap();
-    /// for reading in receiver.read(&mut [0; 100], &mut Toy(5)).unwrap() {
+    /// let (mut receiver, mut sender) = (huskelapse::Receiver::new(17).unwrap(), huskelapse::Sender::new(1200, 4).unwrap());
+    /// for reading in receiver.read(&mut [0; 100], &mut Toy(5), &mut sender).unwrap() {
     ///     receiver.key(2, &[7; 12]).unwrap();
     /// }
     /// ```
-    pub fn read<'r, 'd, C: Cipher + ?Sized>(
+    ///
+    /// ```compile_fail,E0499
+    /// # mod toy { include!(concat!(env!("CARGO_MANIFEST_DIR"), "/tests/toy/mod.rs")); }
+    /// # use toy::Toy;
+    /// let (mut receiver, mut sender) = (huskelapse::Receiver::new(17).unwrap(), huskelapse::Sender::new(1200, 4).unwrap());
+    /// for reading in receiver.read(&mut [0; 100], &mut Toy(5), &mut sender).unwrap() {
+    ///     sender.note(3, 0).unwrap();
+    /// }
+    /// ```
+    pub fn read<'r, 'd, C: Cipher + ?Sized, Q, F>(
         &'r mut self,
         datagram: &'d mut [u8],
         cipher: &'r mut C,
+        sender: &'r mut Sender<Q, F>,
     ) -> Result<Readings<'r, 'd, C>, Refusal> {
+        let (flight, sending) = sender.for_acks();
         match ffi::Datagram::begin_read(&mut self.state, datagram) {
-            Ok((datagram, first)) => Ok(Readings { datagram, first: Some(first), ended: false, cipher }),
+            Ok((datagram, first)) => Ok(Readings { datagram, first: Some(first), ended: false, cipher, flight, sending }),
             Err(refusal) => Err(Refusal::of(refusal, 0)),
         }
     }
@@ -166,12 +185,57 @@ impl fmt::Debug for Receiver {
     }
 }
 
-/// What is said of one record of a datagram.
+/// What is said of one record of a datagram. Of epoch 0 are records in plaintext: anyone can have written them. A sealed record is told once
+/// for its epoch and number.
 #[derive(Clone, Copy, Debug, PartialEq, Eq)]
 #[non_exhaustive]
 pub enum Reading<'a> {
-    /// A sealed record that the cipher opened, handed over once for its epoch and number.
-    Opened {
+    /// Pieces of handshake messages, for [`Assembly::pieces`](crate::Assembly::pieces). Of epoch 0 only until peer encryption is on.
+    Handshake {
+        /// The epoch it was sealed in, or 0.
+        epoch: u16,
+        /// Its full number.
+        number: u64,
+        /// Its content without padding.
+        content: &'a [u8],
+    },
+    /// Application data, opened.
+    ApplicationData {
+        /// The epoch it was sealed in.
+        epoch: u16,
+        /// Its full number.
+        number: u64,
+        /// Its content without padding.
+        content: &'a [u8],
+    },
+    /// An ACK that was opened, and that has been acted on.
+    Ack {
+        /// The epoch it was sealed in.
+        epoch: u16,
+        /// Its full number.
+        number: u64,
+        /// What it did: with nothing unacknowledged a retransmission timer can stop.
+        acked: Acked,
+    },
+    /// The far end closes, by alert 0, the first one: records beyond it, of a higher number in its epoch or of a higher epoch, are dropped
+    /// from now on ([`Reading::Beyond`]). Those before it that come late are told.
+    Close {
+        /// The epoch it was sealed in, or 0.
+        epoch: u16,
+        /// Its full number.
+        number: u64,
+    },
+    /// An alert with another description, but for 90, which is ignored. The datagram is over.
+    Alert {
+        /// The epoch it was sealed in, or 0.
+        epoch: u16,
+        /// Its full number.
+        number: u64,
+        /// Which alert (RFC 8446, section 6).
+        description: u8,
+    },
+    /// A record of a type that has no name here, opened.
+    Other {
         /// The epoch it was sealed in.
         epoch: u16,
         /// Its full number.
@@ -179,15 +243,6 @@ pub enum Reading<'a> {
         /// Its content type, whatever byte it is.
         content_type: u8,
         /// Its content without padding.
-        content: &'a [u8],
-    },
-    /// A record of epoch 0. Anyone can have written it.
-    Plaintext {
-        /// The number in its header.
-        number: u64,
-        /// 21, 22 or 26.
-        content_type: u8,
-        /// Its content.
         content: &'a [u8],
     },
     /// A sealed record that arrived while peer encryption was off.
@@ -198,6 +253,30 @@ pub enum Reading<'a> {
         number: u16,
         /// Its protected part.
         protected: &'a [u8],
+    },
+    /// Nothing is done with it: an ACK in plaintext, alert 90, an alert under two bytes, a close after the first, or a change of cipher
+    /// spec (20).
+    Ignored {
+        /// The epoch it was sealed in, or 0.
+        epoch: u16,
+        /// Its full number.
+        number: u64,
+        /// 20, 21 or 26.
+        content_type: u8,
+    },
+    /// Dropped beyond the close. Its number is used.
+    Beyond {
+        /// The epoch it was sealed in, or 0; of a record that is not opened the two bits.
+        epoch: u16,
+        /// Its full number; of a record that is not opened the number bytes as they lie.
+        number: u64,
+    },
+    /// Dropped: in plaintext, and peer encryption is on.
+    Unprotected {
+        /// The number in its header.
+        number: u64,
+        /// 21, 22 or 26.
+        content_type: u8,
     },
     /// A record is dropped, with [`Refusal::BadPlaintext`] (4), [`BeforeEncryption`](Refusal::BeforeEncryption) (5),
     /// [`NoKeys`](Refusal::NoKeys) (6), [`TooShort`](Refusal::TooShort) (7), [`NumberTooLarge`](Refusal::NumberTooLarge) (8),
@@ -216,9 +295,12 @@ pub struct Readings<'r, 'd, C: ?Sized> {
     /// Set also while the cipher is asked, so that it stays if it panics.
     ended: bool,
     cipher: &'r mut C,
+    /// Of the sender what ACKs are for.
+    flight: &'r mut ffi::Flight,
+    sending: &'r mut ffi::Sending,
 }
 
-impl<C: Cipher + ?Sized> Readings<'_, '_, C> {
+impl<'d, C: Cipher + ?Sized> Readings<'_, 'd, C> {
     /// What the library says of the next record once its questions are answered.
     fn step(&mut self) -> ffi::Reading {
         let mut r = self.first.take().unwrap_or_else(|| self.datagram.read());
@@ -249,6 +331,29 @@ impl<C: Cipher + ?Sized> Readings<'_, '_, C> {
         }
         r
     }
+
+    /// Has the library deal with a reading, and says what it is.
+    fn dealt(&mut self, r: &ffi::Reading) -> Reading<'d> {
+        let class = self.datagram.classify(self.flight, self.sending);
+        let ffi::Reading { epoch, number, content_type, .. } = *r;
+        match class.kind {
+            ffi::CLASS_HANDSHAKE => Reading::Handshake { epoch, number, content: self.hand(r) },
+            ffi::CLASS_APPLICATION_DATA => Reading::ApplicationData { epoch, number, content: self.hand(r) },
+            ffi::CLASS_OTHER => Reading::Other { epoch, number, content_type, content: self.hand(r) },
+            ffi::CLASS_UNOPENED => Reading::Unopened { epoch_bits: epoch as u8, number: number as u16, protected: self.hand(r) },
+            ffi::CLASS_ACK => Reading::Ack { epoch, number, acked: Acked::of(class.marked, class.unacknowledged, class.saved) },
+            ffi::CLASS_CLOSE => Reading::Close { epoch, number },
+            ffi::CLASS_ALERT => Reading::Alert { epoch, number, description: class.description },
+            ffi::CLASS_IGNORED => Reading::Ignored { epoch, number, content_type },
+            ffi::CLASS_BEYOND => Reading::Beyond { epoch, number },
+            ffi::CLASS_UNPROTECTED => Reading::Unprotected { number, content_type },
+            _ => unreachable!("the library deals with the reading that it told"),
+        }
+    }
+
+    fn hand(&mut self, r: &ffi::Reading) -> &'d [u8] {
+        self.datagram.hand(r.start, r.length)
+    }
 }
 
 impl<'d, C: Cipher + ?Sized> Iterator for Readings<'_, 'd, C> {
@@ -261,19 +366,8 @@ impl<'d, C: Cipher + ?Sized> Iterator for Readings<'_, 'd, C> {
         self.ended = true;
         let r = self.step();
         self.ended = matches!(r.kind, ffi::READING_END | ffi::READING_REFUSED);
-        let ffi::Reading { number, epoch, content_type, .. } = r;
         match r.kind {
-            ffi::READING_OPENED => {
-                Some(Reading::Opened { epoch, number, content_type, content: self.datagram.hand(r.start, r.length) })
-            }
-            ffi::READING_PLAINTEXT => {
-                Some(Reading::Plaintext { number, content_type, content: self.datagram.hand(r.start, r.length) })
-            }
-            ffi::READING_UNOPENED => Some(Reading::Unopened {
-                epoch_bits: epoch as u8,
-                number: number as u16,
-                protected: self.datagram.hand(r.start, r.length),
-            }),
+            ffi::READING_PLAINTEXT | ffi::READING_UNOPENED | ffi::READING_OPENED => Some(self.dealt(&r)),
             ffi::READING_DROPPED => Some(Reading::Dropped(Refusal::of(r.refusal, 0))),
             _ => (r.refusal != 0).then(|| Reading::Fault(Refusal::of(r.refusal, 0))),
         }

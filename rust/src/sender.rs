@@ -74,21 +74,19 @@ use crate::{Cipher, CipherError, Error, Refusal, SealFailed};
 /// receiver.key(3, &[7; 12])?;
 /// receiver.enable_peer_encryption();
 /// post.key(3, &[8; 12])?;
-/// for reading in receiver.read(datagram, &mut Toy(5))? {
-///     assert_eq!(reading, Reading::Opened { epoch: 3, number: 1, content_type: 23, content: b"stop" });
-///     assert!(post.note(3, 1)?);
-/// }
+/// let order = receiver.read(datagram, &mut Toy(5), &mut post)?.next();
+/// assert_eq!(order, Some(Reading::ApplicationData { epoch: 3, number: 1, content: b"stop" }));
+/// assert!(post.note(3, 1)?);
 /// assert!(post.send_ack()?);
 /// post.seal(&mut cipher)?;
 /// let ack = post.take(&mut buffer)?.expect("the ACK");
 ///
-/// // The gateway acts on it.
+/// // The gateway reads it, by which it is acted on.
 /// let mut receiver = Receiver::new(Receiver::MIN_PROTECTED)?;
 /// receiver.key(3, &[8; 12])?;
 /// receiver.enable_peer_encryption();
-/// for reading in receiver.read(ack, &mut Toy(5))? {
-///     if let Reading::Opened { content_type: content_type::ACK, content, .. } = reading {
-///         let acked = gateway.acknowledge(content)?;
+/// for reading in receiver.read(ack, &mut Toy(5), &mut gateway)? {
+///     if let Reading::Ack { acked, .. } = reading {
 ///         assert_eq!((acked.marked, acked.unacknowledged), (1, 0));
 ///     }
 /// }
@@ -140,6 +138,20 @@ pub struct Acked {
     pub unacknowledged: usize,
     /// Records still saved; with 0 the flight is empty.
     pub saved: usize,
+}
+
+impl Acked {
+    /// By the counts that a call tells.
+    pub(crate) fn of(marked: u8, unacknowledged: u8, saved: u8) -> Acked {
+        Acked { marked: marked.into(), unacknowledged: unacknowledged.into(), saved: saved.into() }
+    }
+}
+
+impl<Q, F> Sender<Q, F> {
+    /// What an ACK is acted on with.
+    pub(crate) fn for_acks(&mut self) -> (&mut ffi::Flight, &mut ffi::Sending) {
+        (&mut self.flight, &mut self.state)
+    }
 }
 
 #[cfg(feature = "alloc")]
@@ -269,7 +281,8 @@ impl<Q: AsRef<[u8]> + AsMut<[u8]>, F: AsRef<[u8]> + AsMut<[u8]>> Sender<Q, F> {
         Refusal::answer(answer.refusal, answer.told.into())
     }
 
-    /// Acts on the content of an ACK that was opened, never of one in plaintext: the saved records that it names are not sent again. If
+    /// Acts on the content of an ACK that was opened, never of one in plaintext: the saved records that it names are not sent again.
+    /// [`Receiver::read`](crate::Receiver::read) does this with each ACK that it opens: this is for a host that opens records itself. If
     /// the flight has records of epoch 2 and all of them are named, it is emptied, and records of other epochs go with it, acknowledged
     /// or not: save those in a flight of their own. Content that has not the form of an ACK changes nothing.
     ///
@@ -278,9 +291,7 @@ impl<Q: AsRef<[u8]> + AsMut<[u8]>, F: AsRef<[u8]> + AsMut<[u8]>> Sender<Q, F> {
     /// None with a state that calls made; a later release may refuse.
     pub fn acknowledge(&mut self, content: &[u8]) -> Result<Acked, Refusal> {
         let answer = self.flight.ack(&mut self.state, content);
-        let acked =
-            Acked { marked: answer.marked.into(), unacknowledged: answer.unacknowledged.into(), saved: answer.saved.into() };
-        Refusal::answer(answer.refusal, acked)
+        Refusal::answer(answer.refusal, Acked::of(answer.marked, answer.unacknowledged, answer.saved))
     }
 
     /// Notes a record that was handed over for the next ACK. False where 32 are noted already: then it is not.

@@ -286,7 +286,7 @@ fn message_numbers_are_spent_at_65535() {
 #[cfg(feature = "alloc")]
 #[test]
 fn messages_of_a_sender() {
-    use huskelapse::{content_type, Reading, Receiver, Sender};
+    use huskelapse::{Reading, Receiver, Sender};
 
     let (certificate, finished) = ([7; 2000], [8; 40]);
     let mut sender = Sender::new(600, 16).unwrap();
@@ -299,14 +299,14 @@ fn messages_of_a_sender() {
     while let Some(datagram) = sender.take_in_place().unwrap() {
         datagrams.push(datagram.to_vec());
     }
-    let mut receiver = Receiver::new(Receiver::MIN_PROTECTED).unwrap();
+    let (mut receiver, mut other) = (Receiver::new(Receiver::MIN_PROTECTED).unwrap(), Sender::new(600, 1).unwrap());
     receiver.key(2, &[7; 12]).unwrap();
     receiver.enable_peer_encryption();
     let (mut bench, mut all) = (Bench::new(), Vec::new());
     // The first datagram is lost, the others come last first.
     for datagram in datagrams.iter_mut().skip(1).rev() {
-        for reading in receiver.read(datagram, &mut toy::Toy(5)).unwrap() {
-            let Reading::Opened { content_type: content_type::HANDSHAKE, content, .. } = reading else { panic!("{reading:?}") };
+        for reading in receiver.read(datagram, &mut toy::Toy(5), &mut other).unwrap() {
+            let Reading::Handshake { content, .. } = reading else { panic!("{reading:?}") };
             all.extend(bench.give(content));
         }
     }

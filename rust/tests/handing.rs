@@ -64,7 +64,7 @@ fn a_record_that_is_handed_on_is_not_unmasked() {
 
 #[test]
 fn words_that_are_no_state_begin_nothing() {
-    let mut state = Receiving { word: [u64::MAX; 39] };
+    let mut state = Receiving { word: [u64::MAX; 39], ..Receiving::BLANK };
     assert_eq!(Datagram::begin_read(&mut state, &mut [0; 20]).err(), Some(12));
     assert_eq!(Datagram::begin_read(&mut receiving(), &mut [0; 16_385]).err(), Some(1));
 }

@@ -21,9 +21,8 @@ where
     receiver.key(3, &[7; 12])?;
     receiver.enable_peer_encryption();
     let mut cipher = Toy(5);
-    let mut readings = receiver.read(datagram, &mut cipher)?;
-    let content = b"14.2 kWh";
-    assert_eq!(readings.next(), Some(Reading::Opened { epoch: 3, number: 0, content_type: APPLICATION_DATA, content }));
+    let mut readings = receiver.read(datagram, &mut cipher, &mut sender)?;
+    assert_eq!(readings.next(), Some(Reading::ApplicationData { epoch: 3, number: 0, content: b"14.2 kWh" }));
     assert_eq!(readings.next(), None);
     Ok(())
 }

@@ -122,10 +122,10 @@ fn records_from_end_to_end() {
             sender.send(epoch, 22, &content).unwrap();
             assert_eq!(sender.seal(&mut to_seal), Ok(2));
             let mut datagram = sender.take_in_place().unwrap().unwrap().to_vec();
-            let readings = receiver.read(&mut datagram, &mut to_open).unwrap();
+            let readings = receiver.read(&mut datagram, &mut to_open, &mut sender).unwrap();
             let opened = [(0, 40), (1, 1400)].map(|(number, length)| {
                 let content = &content[..length];
-                Reading::Opened { epoch, number, content_type: 22, content }
+                Reading::Handshake { epoch, number, content }
             });
             assert!(readings.eq(opened));
         }
@@ -188,6 +188,7 @@ fn a_receiver_without_the_cipher_s_keys() {
     receiver.enable_peer_encryption();
     let mut datagram = [0; 30];
     datagram[..5].copy_from_slice(&[0x2F, 0, 0, 0, 25]);
-    let readings: Vec<_> = receiver.read(&mut datagram, &mut Keys::to_open(Suite::Aes256Gcm)).unwrap().collect();
+    let (mut keys, mut sender) = (Keys::to_open(Suite::Aes256Gcm), Sender::new(600, 1).unwrap());
+    let readings: Vec<_> = receiver.read(&mut datagram, &mut keys, &mut sender).unwrap().collect();
     assert_eq!(readings, [Reading::Dropped(Refusal::NotOpened)]);
 }

@@ -27,8 +27,13 @@ fn receiver() -> Receiver {
     receiver
 }
 
+/// The other direction of the receiving end, which has sent nothing.
+fn idle() -> Sender {
+    Sender::new(600, 1).unwrap()
+}
+
 fn opened(number: u64, content: &[u8]) -> Reading<'_> {
-    Reading::Opened { epoch: 3, number, content_type: APPLICATION_DATA, content }
+    Reading::ApplicationData { epoch: 3, number, content }
 }
 
 /// Fails for record 1, in the mask or in the opening, or panics there.
@@ -68,10 +73,10 @@ impl Cipher for Failing {
 fn contents_lie_in_the_datagram() {
     let mut bytes = datagram(&[b"14.2 kWh", b"", b"14.3 kWh"]);
     let range = bytes.as_ptr_range();
-    let kept: Vec<Reading> = receiver().read(&mut bytes, &mut Toy(5)).unwrap().collect();
+    let kept: Vec<Reading> = receiver().read(&mut bytes, &mut Toy(5), &mut idle()).unwrap().collect();
     assert_eq!(kept, [opened(0, b"14.2 kWh"), opened(1, b""), opened(2, b"14.3 kWh")]);
     for reading in kept {
-        let Reading::Opened { content, .. } = reading else { panic!("{reading:?}") };
+        let Reading::ApplicationData { content, .. } = reading else { panic!("{reading:?}") };
         assert!(range.contains(&content.as_ptr()));
     }
 }
@@ -97,12 +102,12 @@ fn sent(numbers: &[u64]) -> Vec<Vec<u8>> {
 fn an_epoch_is_found_after_a_gap() {
     let [mut first, mut last, mut beyond] = <[Vec<u8>; 3]>::try_from(sent(&[40_000, 65_535, 65_536])).unwrap();
     let mut late = receiver();
-    assert_eq!(late.read(&mut first, &mut Toy(5)).unwrap().next(), Some(opened(40_000, b"14.2 kWh")));
-    assert_eq!(late.read(&mut last, &mut Toy(5)).unwrap().next(), Some(opened(65_535, b"14.2 kWh")));
+    assert_eq!(late.read(&mut first, &mut Toy(5), &mut idle()).unwrap().next(), Some(opened(40_000, b"14.2 kWh")));
+    assert_eq!(late.read(&mut last, &mut Toy(5), &mut idle()).unwrap().next(), Some(opened(65_535, b"14.2 kWh")));
     // The bits of 65,536 are those of 0: they tell it only once higher numbers are used.
     let mut again = beyond.clone();
-    assert_eq!(receiver().read(&mut again, &mut Toy(5)).unwrap().next(), Some(Reading::Dropped(Refusal::NotOpened)));
-    assert_eq!(late.read(&mut beyond, &mut Toy(5)).unwrap().next(), Some(opened(65_536, b"14.2 kWh")));
+    assert_eq!(receiver().read(&mut again, &mut Toy(5), &mut idle()).unwrap().next(), Some(Reading::Dropped(Refusal::NotOpened)));
+    assert_eq!(late.read(&mut beyond, &mut Toy(5), &mut idle()).unwrap().next(), Some(opened(65_536, b"14.2 kWh")));
 }
 
 #[test]
@@ -110,9 +115,9 @@ fn what_is_left_is_not_read() {
     let original = datagram(&[b"one", b"two", b"three"]);
     let mut receiver = receiver();
     let mut bytes = original.clone();
-    let first = receiver.read(&mut bytes, &mut Toy(5)).unwrap().next();
-    let (mut again, mut cipher) = (original.clone(), Toy(5));
-    let mut readings = receiver.read(&mut again, &mut cipher).unwrap();
+    let first = receiver.read(&mut bytes, &mut Toy(5), &mut idle()).unwrap().next();
+    let (mut again, mut cipher, mut sender) = (original.clone(), Toy(5), idle());
+    let mut readings = receiver.read(&mut again, &mut cipher, &mut sender).unwrap();
     assert_eq!(readings.next(), Some(Reading::Dropped(Refusal::NotFresh)));
     assert_eq!((readings.next(), readings.next()), (Some(opened(1, b"two")), Some(opened(2, b"three"))));
     assert_eq!((readings.next(), readings.next()), (None, None));
@@ -125,11 +130,11 @@ fn a_record_whose_mask_fails_is_dropped_alone() {
     let mut receiver = receiver();
     let mut bytes = original.clone();
     let mut cipher = Failing { mask: true, panics: false, asked: 0 };
-    let readings: Vec<_> = receiver.read(&mut bytes, &mut cipher).unwrap().collect();
+    let readings: Vec<_> = receiver.read(&mut bytes, &mut cipher, &mut idle()).unwrap().collect();
     assert_eq!(readings, [opened(0, b"one"), Reading::Dropped(Refusal::NotOpened), opened(2, b"three")]);
     // Its number is not used: it can arrive once more.
     let mut bytes = original.clone();
-    let readings: Vec<_> = receiver.read(&mut bytes, &mut Toy(5)).unwrap().collect();
+    let readings: Vec<_> = receiver.read(&mut bytes, &mut Toy(5), &mut idle()).unwrap().collect();
     let again = Reading::Dropped(Refusal::NotFresh);
     assert_eq!(readings, [again, opened(1, b"two"), again]);
 }
@@ -138,7 +143,7 @@ fn a_record_whose_mask_fails_is_dropped_alone() {
 fn a_record_that_is_not_opened_is_dropped_alone() {
     let mut bytes = datagram(&[b"one", b"two", b"three"]);
     let mut cipher = Failing { mask: false, panics: false, asked: 0 };
-    let readings: Vec<_> = receiver().read(&mut bytes, &mut cipher).unwrap().collect::<Vec<_>>();
+    let readings: Vec<_> = receiver().read(&mut bytes, &mut cipher, &mut idle()).unwrap().collect::<Vec<_>>();
     assert_eq!(readings, [opened(0, b"one"), Reading::Dropped(Refusal::NotOpened), opened(2, b"three")]);
 }
 
@@ -148,13 +153,13 @@ fn a_panic_ends_the_datagram() {
         let original = datagram(&[b"one", b"two", b"three"]);
         let mut receiver = receiver();
         let mut bytes = original.clone();
-        let mut cipher = Failing { mask, panics: true, asked: 0 };
-        let mut readings = receiver.read(&mut bytes, &mut cipher).unwrap();
+        let (mut cipher, mut sender) = (Failing { mask, panics: true, asked: 0 }, idle());
+        let mut readings = receiver.read(&mut bytes, &mut cipher, &mut sender).unwrap();
         let first = readings.next();
         assert!(catch_unwind(AssertUnwindSafe(|| readings.next().is_some())).is_err());
         assert_eq!((first, readings.next()), (Some(opened(0, b"one")), None));
         let mut bytes = original.clone();
-        let readings: Vec<_> = receiver.read(&mut bytes, &mut Toy(5)).unwrap().collect();
+        let readings: Vec<_> = receiver.read(&mut bytes, &mut Toy(5), &mut idle()).unwrap().collect();
         assert_eq!(readings, [Reading::Dropped(Refusal::NotFresh), opened(1, b"two"), opened(2, b"three")]);
     }
 }
@@ -163,8 +168,8 @@ fn a_panic_ends_the_datagram() {
 fn remove_tells_of_a_question_that_waited() {
     let mut receiver = receiver();
     let mut bytes = datagram(&[b"one", b"two"]);
-    let mut cipher = Failing { mask: true, panics: true, asked: 0 };
-    let readings = receiver.read(&mut bytes, &mut cipher).unwrap();
+    let (mut cipher, mut sender) = (Failing { mask: true, panics: true, asked: 0 }, idle());
+    let readings = receiver.read(&mut bytes, &mut cipher, &mut sender).unwrap();
     assert!(catch_unwind(AssertUnwindSafe(|| readings.count())).is_err());
     assert_eq!(receiver.remove(3), Ok(true));
     assert_eq!(receiver.remove(3), Err(Refusal::BadEpoch));
@@ -196,8 +201,8 @@ fn records_are_dropped_without_a_limit() {
         (receiver(), &closed, Refusal::NotOpened, 712),
     ] {
         assert_eq!(count, 16_384 / record.len());
-        let (mut bytes, mut cipher) = (full_of(record), Toy(5));
-        let mut readings = receiver.read(&mut bytes, &mut cipher).unwrap();
+        let (mut bytes, mut cipher, mut sender) = (full_of(record), Toy(5), idle());
+        let mut readings = receiver.read(&mut bytes, &mut cipher, &mut sender).unwrap();
         for i in 0..count {
             assert_eq!(readings.next(), Some(Reading::Dropped(refusal)), "{i}");
         }
@@ -210,7 +215,7 @@ fn records_are_dropped_without_a_limit() {
 #[test]
 fn a_record_is_handed_over_once_of_many_copies() {
     let mut bytes = full_of(&datagram(&[b"x"]));
-    let readings: Vec<_> = receiver().read(&mut bytes, &mut Toy(5)).unwrap().collect();
+    let readings: Vec<_> = receiver().read(&mut bytes, &mut Toy(5), &mut idle()).unwrap().collect();
     assert_eq!(readings[0], opened(0, b"x"));
     assert_eq!(readings[1..712], [Reading::Dropped(Refusal::NotFresh); 711]);
     assert_eq!(readings[712..], [Reading::Fault(Refusal::Truncated)]);
@@ -228,7 +233,7 @@ fn dropped_records_lie_between_sixteen_readings() {
         let number = u64::from(content[0]);
         let plaintext = [21, 0xFE, 0xFD, 0, 0, 0, 0, 0, 0, 0, content[0], 0, 3];
         bytes.extend([&dropped[..], record, &dropped, &plaintext, content].concat());
-        let reading = Reading::Plaintext { number, content_type: 21, content };
+        let reading = Reading::Unprotected { number, content_type: 21 };
         for reading in [opened(number, content), reading] {
             expected.extend([Reading::Dropped(Refusal::TooShort); 200]);
             expected.push(reading);
@@ -238,14 +243,14 @@ fn dropped_records_lie_between_sixteen_readings() {
     // The seventeenth ends the datagram.
     expected.truncate(16 * 201 + 200);
     expected.push(Reading::Fault(Refusal::TooManyReadings));
-    let readings: Vec<_> = receiver().read(&mut bytes, &mut Toy(5)).unwrap().collect();
+    let readings: Vec<_> = receiver().read(&mut bytes, &mut Toy(5), &mut idle()).unwrap().collect();
     assert!(readings == expected);
 }
 
 #[test]
 fn sixteen_readings_and_a_fault() {
     let mut bytes = datagram(&[&b"x"[..]; 20]);
-    let readings: Vec<_> = receiver().read(&mut bytes, &mut Toy(5)).unwrap().collect();
+    let readings: Vec<_> = receiver().read(&mut bytes, &mut Toy(5), &mut idle()).unwrap().collect();
     assert_eq!(readings.len(), 17);
     assert!((0..16).all(|i| readings[i] == opened(i as u64, b"x")));
     assert_eq!(readings[16], Reading::Fault(Refusal::TooManyReadings));
@@ -254,8 +259,8 @@ fn sixteen_readings_and_a_fault() {
 #[test]
 fn lengths() {
     let mut receiver = receiver();
-    assert_eq!(receiver.read(&mut [], &mut Toy(5)).unwrap().next(), None);
-    assert_eq!(receiver.read(&mut [0; 16_385], &mut Toy(5)).err(), Some(Refusal::DatagramTooLong));
+    assert_eq!(receiver.read(&mut [], &mut Toy(5), &mut idle()).unwrap().next(), None);
+    assert_eq!(receiver.read(&mut [0; 16_385], &mut Toy(5), &mut idle()).err(), Some(Refusal::DatagramTooLong));
     assert_eq!(Receiver::new(18).err(), Some(Refusal::OutOfRange));
 }
 
@@ -263,7 +268,7 @@ fn lengths() {
 fn a_cipher_can_be_a_trait_object() {
     let mut bytes = datagram(&[b"one"]);
     let cipher: &mut dyn Cipher = &mut Toy(5);
-    assert_eq!(receiver().read(&mut bytes, cipher).unwrap().next(), Some(opened(0, b"one")));
+    assert_eq!(receiver().read(&mut bytes, cipher, &mut idle()).unwrap().next(), Some(opened(0, b"one")));
 }
 
 /// Numbers from a seed (SplitMix64).
@@ -293,8 +298,8 @@ fn any_bytes_are_read() {
                 bytes[i] ^= random.below(256) as u8;
             }
             bytes.truncate(random.below(2 * bytes.len()));
-            for reading in receiver.read(&mut bytes, &mut Toy(5)).unwrap() {
-                if let Reading::Opened { epoch, number, content, .. } = reading {
+            for reading in receiver.read(&mut bytes, &mut Toy(5), &mut idle()).unwrap() {
+                if let Reading::ApplicationData { epoch, number, content } = reading {
                     assert_eq!((epoch, content), (3, contents[number as usize]));
                     assert!(!std::mem::replace(&mut handed[number as usize], true));
                 }

@@ -28,9 +28,9 @@ mod messages {
     include!("readme/messages.rs");
 
     use super::toy::Toy;
-    use huskelapse::{Receiver, Sender};
+    use huskelapse::{Reading, Receiver, Sender};
 
-    /// A message in plaintext, then one of two sealed records, the second read first. Plaintext behind encryption is not looked at.
+    /// A message in plaintext, then one of two sealed records, the second read first. Plaintext behind encryption is dropped.
     #[test]
     fn it_puts_messages_together() {
         let body: Vec<u8> = (0..1000).map(|i| (i % 251) as u8).collect();
@@ -46,18 +46,19 @@ mod messages {
         let mut receiver = Receiver::new(Receiver::MIN_PROTECTED).unwrap();
         receiver.key(2, &[7; 12]).unwrap();
         let (mut assembly, mut buffer, mut acted) = (Assembly::new(), [0; Assembly::MESSAGE_ROOM], Vec::new());
-        let mut read = |receiver: &mut Receiver, datagram: &mut [u8], encrypted: bool| {
-            for reading in receiver.read(datagram, &mut Toy(5)).unwrap() {
-                put_together(reading, encrypted, &mut assembly, &mut buffer, |msg_type, body| acted.push((msg_type, body.to_vec())))
-                    .unwrap();
+        let mut read = |receiver: &mut Receiver, datagram: &mut [u8]| {
+            for reading in receiver.read(datagram, &mut Toy(5), &mut sender).unwrap() {
+                let Reading::Handshake { content, .. } = reading else { continue };
+                let act = |msg_type, body: &[u8]| acted.push((msg_type, body.to_vec()));
+                put_together(content, &mut assembly, &mut buffer, act).unwrap();
             }
             acted.clone()
         };
         let expected = [(2, b"hello".to_vec()), (11, body)];
-        assert_eq!(read(&mut receiver, &mut hello, false), expected[..1]);
+        assert_eq!(read(&mut receiver, &mut hello), expected[..1]);
         receiver.enable_peer_encryption();
-        assert_eq!(read(&mut receiver, &mut forged, true), expected[..1]);
-        assert_eq!(read(&mut receiver, &mut second, true), expected[..1]);
-        assert_eq!(read(&mut receiver, &mut first, true), expected);
+        assert_eq!(read(&mut receiver, &mut forged), expected[..1]);
+        assert_eq!(read(&mut receiver, &mut second), expected[..1]);
+        assert_eq!(read(&mut receiver, &mut first), expected);
     }
 }

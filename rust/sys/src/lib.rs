@@ -30,6 +30,19 @@ pub const READING_OPENED: u8 = 5;
 pub const READING_MASK: u8 = 6;
 pub const READING_OPENING: u8 = 7;
 
+pub const CLASS_REFUSED: u8 = 0;
+pub const CLASS_NOTHING: u8 = 1;
+pub const CLASS_BEYOND: u8 = 2;
+pub const CLASS_UNPROTECTED: u8 = 3;
+pub const CLASS_IGNORED: u8 = 4;
+pub const CLASS_ACK: u8 = 5;
+pub const CLASS_CLOSE: u8 = 6;
+pub const CLASS_ALERT: u8 = 7;
+pub const CLASS_HANDSHAKE: u8 = 8;
+pub const CLASS_APPLICATION_DATA: u8 = 9;
+pub const CLASS_OTHER: u8 = 10;
+pub const CLASS_UNOPENED: u8 = 11;
+
 pub const SEALING_REFUSED: u8 = 0;
 pub const SEALING_NONE: u8 = 1;
 pub const SEALING_SEAL: u8 = 2;
@@ -54,13 +67,16 @@ pub const NOTES: usize = 32;
 /// Bytes of the buffer that a message is put together in.
 pub const MESSAGE_ROOM: usize = 16_384;
 
+const RECEIVING_WORDS: usize = 39;
+const PENDING: usize = 9;
 const FLIGHT_WORDS: usize = 73;
 const FLIGHT_NUMBERS: usize = 384;
 
 #[repr(C)]
 #[derive(Clone, Debug, PartialEq, Eq)]
 pub struct Receiving {
-    pub word: [u64; 39],
+    pub word: [u64; RECEIVING_WORDS],
+    pub pending: [u64; PENDING],
 }
 
 #[repr(C)]
@@ -109,6 +125,19 @@ pub struct Reading {
     pub header_len: usize,
     pub length: usize,
     pub nonce: [u8; 12],
+}
+
+#[repr(C)]
+#[derive(Clone, Copy, Debug, PartialEq, Eq)]
+pub struct Class {
+    pub kind: u8,
+    pub refusal: u8,
+    pub description: u8,
+    pub marked: u8,
+    pub unacknowledged: u8,
+    pub saved: u8,
+    pub start: usize,
+    pub length: usize,
 }
 
 #[repr(C)]
@@ -179,24 +208,49 @@ pub struct Piece {
 // The layout that include/layout.c asserts of the header.
 #[cfg(target_pointer_width = "64")]
 const _: () = {
-    assert!(size_of::<Receiving>() == 312 && size_of::<Sending>() == 312);
+    assert!(size_of::<Receiving>() == 384 && size_of::<Sending>() == 312);
     assert!(size_of::<Flight>() == 3656 && size_of::<Notes>() == 520 && size_of::<Assembly>() == 848);
     assert!(size_of::<Told>() == 2 && size_of::<Acked>() == 4 && size_of::<Saved>() == 3);
-    assert!(size_of::<Reading>() == 56 && size_of::<Sealing>() == 56);
+    assert!(size_of::<Reading>() == 56 && size_of::<Class>() == 24 && size_of::<Sealing>() == 56);
     assert!(size_of::<Take>() == 16 && size_of::<Part>() == 24 && size_of::<Queued>() == 16 && size_of::<Piece>() == 16);
 };
 
 unsafe extern "C" {
-    fn husk_receiving_init(s: *mut Receiving, min_protected: usize) -> u8;
+    fn husk_receiving_init_words(word: *mut [u64; RECEIVING_WORDS], pending: *mut [u64; PENDING], min_protected: usize) -> u8;
     fn husk_receiving_key(s: *mut Receiving, epoch: u16, iv: *const [u8; 12]) -> u8;
     fn husk_receiving_remove(s: *mut Receiving, epoch: u16) -> Told;
     fn husk_receiving_enable_encryption(s: *mut Receiving) -> u8;
     fn husk_receiving_release_application_data(s: *mut Receiving) -> u8;
-    fn husk_receiving_begin(s: *mut Receiving, n: usize) -> u8;
-    fn husk_receiving_read(s: *mut Receiving, d: *mut u8, n: usize) -> Reading;
-    fn husk_receiving_begin_read(s: *mut Receiving, d: *mut u8, n: usize) -> Reading;
+    fn husk_receiving_begin_words(word: *mut [u64; RECEIVING_WORDS], pending: *mut [u64; PENDING], n: usize) -> u8;
+    fn husk_receiving_read_words(
+        word: *mut [u64; RECEIVING_WORDS],
+        pending: *mut [u64; PENDING],
+        d: *mut u8,
+        n: usize,
+    ) -> Reading;
+    fn husk_receiving_begin_read_words(
+        word: *mut [u64; RECEIVING_WORDS],
+        pending: *mut [u64; PENDING],
+        d: *mut u8,
+        n: usize,
+    ) -> Reading;
     fn husk_receiving_mask(s: *mut Receiving, mask_0: u8, mask_1: u8, d: *mut u8, n: usize) -> Reading;
-    fn husk_receiving_opened(s: *mut Receiving, opened: u8, length: usize, d: *const u8, n: usize) -> Reading;
+    fn husk_receiving_opened_words(
+        word: *mut [u64; RECEIVING_WORDS],
+        pending: *mut [u64; PENDING],
+        opened: u8,
+        length: usize,
+        d: *const u8,
+        n: usize,
+    ) -> Reading;
+    fn husk_receiving_classify_words(
+        word: *mut [u64; RECEIVING_WORDS],
+        pending: *mut [u64; PENDING],
+        flight: *mut [u64; FLIGHT_WORDS],
+        numbers: *mut [u64; FLIGHT_NUMBERS],
+        d: *const u8,
+        n: usize,
+    ) -> Class;
 
     fn husk_sending_init(s: *mut Sending, mtu: usize, limit: usize) -> u8;
     fn husk_sending_key(s: *mut Sending, epoch: u16, iv: *const [u8; 12]) -> u8;
@@ -286,11 +340,11 @@ unsafe extern "C" {
 
 impl Receiving {
     /// Words that no call made.
-    pub const BLANK: Receiving = Receiving { word: [0; 39] };
+    pub const BLANK: Receiving = Receiving { word: [0; RECEIVING_WORDS], pending: [0; PENDING] };
 
     #[inline]
     pub fn init(&mut self, min_protected: usize) -> u8 {
-        unsafe { husk_receiving_init(self, min_protected) }
+        unsafe { husk_receiving_init_words(&mut self.word, &mut self.pending, min_protected) }
     }
 
     #[inline]
@@ -315,7 +369,7 @@ impl Receiving {
 
     #[inline]
     pub fn begin(&mut self, n: usize) -> u8 {
-        unsafe { husk_receiving_begin(self, n) }
+        unsafe { husk_receiving_begin_words(&mut self.word, &mut self.pending, n) }
     }
 
     // Reading call by call, for drivers: the whole datagram is lent to each call, any datagram. Datagram has the same calls for hosts,
@@ -323,12 +377,12 @@ impl Receiving {
 
     #[inline]
     pub fn read(&mut self, d: &mut [u8]) -> Reading {
-        unsafe { husk_receiving_read(self, d.as_mut_ptr(), d.len()) }
+        unsafe { husk_receiving_read_words(&mut self.word, &mut self.pending, d.as_mut_ptr(), d.len()) }
     }
 
     #[inline]
     pub fn begin_read(&mut self, d: &mut [u8]) -> Reading {
-        unsafe { husk_receiving_begin_read(self, d.as_mut_ptr(), d.len()) }
+        unsafe { husk_receiving_begin_read_words(&mut self.word, &mut self.pending, d.as_mut_ptr(), d.len()) }
     }
 
     #[inline]
@@ -338,7 +392,14 @@ impl Receiving {
 
     #[inline]
     pub fn opened(&mut self, opened: bool, length: usize, d: &[u8]) -> Reading {
-        unsafe { husk_receiving_opened(self, opened.into(), length, d.as_ptr(), d.len()) }
+        let opened = opened.into();
+        unsafe { husk_receiving_opened_words(&mut self.word, &mut self.pending, opened, length, d.as_ptr(), d.len()) }
+    }
+
+    #[inline]
+    pub fn classify(&mut self, f: &mut Flight, _: &mut Sending, d: &[u8]) -> Class {
+        let (flight, numbers) = (&mut f.word, &mut f.numbers);
+        unsafe { husk_receiving_classify_words(&mut self.word, &mut self.pending, flight, numbers, d.as_ptr(), d.len()) }
     }
 }
 
@@ -368,7 +429,7 @@ impl<'r, 'd> Datagram<'r, 'd> {
     #[inline]
     pub fn begin_read(state: &'r mut Receiving, d: &'d mut [u8]) -> Result<(Datagram<'r, 'd>, Reading), u8> {
         let (start, length) = (d.as_mut_ptr(), d.len());
-        let first = unsafe { husk_receiving_begin_read(state, start, length) };
+        let first = unsafe { husk_receiving_begin_read_words(&mut state.word, &mut state.pending, start, length) };
         if first.kind == READING_REFUSED {
             return Err(first.refusal);
         }
@@ -379,7 +440,7 @@ impl<'r, 'd> Datagram<'r, 'd> {
 
     #[inline]
     pub fn read(&mut self) -> Reading {
-        let r = unsafe { husk_receiving_read(self.state, self.start, self.length) };
+        let r = unsafe { husk_receiving_read_words(&mut self.state.word, &mut self.state.pending, self.start, self.length) };
         self.tell(&r);
         r
     }
@@ -395,9 +456,18 @@ impl<'r, 'd> Datagram<'r, 'd> {
 
     #[inline]
     pub fn opened(&mut self, opened: bool, length: usize) -> Reading {
-        let r = unsafe { husk_receiving_opened(self.state, opened.into(), length, self.start, self.length) };
+        let (state, opened) = (&mut *self.state, opened.into());
+        let r =
+            unsafe { husk_receiving_opened_words(&mut state.word, &mut state.pending, opened, length, self.start, self.length) };
         self.tell(&r);
         r
+    }
+
+    /// Deals with the reading that was told last. It writes nothing to the datagram, and the cursor stays or goes to the end.
+    #[inline]
+    pub fn classify(&mut self, f: &mut Flight, _: &mut Sending) -> Class {
+        let (state, flight, numbers) = (&mut *self.state, &mut f.word, &mut f.numbers);
+        unsafe { husk_receiving_classify_words(&mut state.word, &mut state.pending, flight, numbers, self.start, self.length) }
     }
 
     /// Keeps what a reading says of places.
