@@ -33,6 +33,7 @@ pub use error::{
 pub use rng::SeededRng;
 
 pub mod beside;
+pub mod classes;
 pub mod dice;
 pub mod differences;
 pub mod driver;

@@ -10,13 +10,27 @@ pub struct Request {
 }
 
 /// Known by their places.
-pub const REQUESTS: [Request; 1] = [Request {
-    number: 1,
-    difference: 5,
-    instead: "the number of request 1 in its place",
-}];
+pub const REQUESTS: [Request; 3] = [
+    Request {
+        number: 1,
+        difference: 5,
+        instead: "the number of request 1 in its place",
+    },
+    Request {
+        number: 3,
+        difference: 65,
+        instead: "its flight put back behind a plaintext ACK",
+    },
+    Request {
+        number: 3,
+        difference: 66,
+        instead: "the datagram cut behind the alert, and what it kept before the alert handed on",
+    },
+];
 
 pub const REBUILDING: usize = 0;
+pub const PLAINTEXT_ACK: usize = 1;
+pub const BEHIND_ALERT: usize = 2;
 
 /// The number that stands in the place of the Rust's 0: where the number nearest to the expected one that ends in the bits is
 /// negative, the nearest of 0 or more. The bits alone are the smallest of 0 or more that ends in them; if even they are more than
@@ -111,7 +125,8 @@ impl Left {
             histories - left
         );
         let counts = self.by.0.iter().zip(&self.changes.0);
-        for (request, (histories, records)) in REQUESTS.iter().zip(counts) {
+        let met = REQUESTS.iter().zip(counts).filter(|(_, (n, _))| **n > 0);
+        for (request, (histories, records)) in met {
             let Request {
                 difference,
                 instead,

@@ -6,7 +6,7 @@ use std::process::ExitCode;
 use std::{io, panic};
 
 use dimpl::beside::Answers;
-use dimpl::differences::{Found, rebuilding, receiving, sending};
+use dimpl::differences::{Found, classes, rebuilding, receiving, sending};
 use dimpl::{driver, library};
 
 fn print(title: &str, found: &[Found]) {
@@ -22,6 +22,8 @@ fn print(title: &str, found: &[Found]) {
 fn all(sends: &dyn Answers, receives: &dyn Answers, count: u64, seed: u64) -> io::Result<bool> {
     print("number rebuilding", &rebuilding::all(receives)?);
     print("receiving", &receiving::all(receives)?);
+    // No program deals with readings.
+    print("readings dealt with", &classes::all(&*library::classes())?);
     print("sending", &sending::all(sends, count, seed)?);
     print("a number sealed twice", &[sending::sealed_twice()]);
     Ok(true)

@@ -1,5 +1,6 @@
 //! Where the Rust is known to differ: the smallest inputs, and what it does there.
 
+pub mod classes;
 pub mod rebuilding;
 pub mod receiving;
 pub mod sending;

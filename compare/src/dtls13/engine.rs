@@ -98,6 +98,36 @@ pub mod probe {
         engine.process_ack(content)
     }
 
+    /// The saved records, to be put back.
+    pub struct Flight(ArrayVec<Entry, 12>);
+
+    pub fn flight(engine: &Engine) -> Flight {
+        let copy = |entry: &Entry| Entry {
+            content_type: entry.content_type,
+            epoch: entry.epoch,
+            send_seq: entry.send_seq,
+            fragment_len: entry.fragment_len,
+            fragment: entry.fragment.clone(),
+            acked: entry.acked,
+        };
+        Flight(engine.flight_saved_records.iter().map(copy).collect())
+    }
+
+    pub fn put_back(engine: &mut Engine, flight: Flight) {
+        engine.flight_saved_records = flight.0;
+    }
+
+    /// Which saved records are marked.
+    pub fn marks(engine: &Engine) -> Vec<bool> {
+        let entries = engine.flight_saved_records.iter();
+        entries.map(|entry| entry.acked).collect()
+    }
+
+    /// The place of the close that is remembered.
+    pub fn close(engine: &Engine) -> Option<Sequence> {
+        engine.close_notify_sequence
+    }
+
     /// Takes the marks of the saved records away, as before any ACK.
     pub fn unmark(engine: &mut Engine) {
         for entry in &mut engine.flight_saved_records {

@@ -34,9 +34,9 @@ impl Model {
 
 /// A datagram in the making.
 #[derive(Default)]
-pub(super) struct Packet {
+pub struct Packet {
     pub bytes: Vec<u8>,
-    replies: Vec<Reply>,
+    pub replies: Vec<Reply>,
 }
 
 impl Packet {

@@ -59,6 +59,17 @@ impl Receiver {
         }
     }
 
+    /// A datagram with the replies to its questions: the records kept, in their order.
+    pub fn read_records(
+        &mut self,
+        engine: &mut Engine,
+        bytes: &[u8],
+        replies: &[Reply],
+    ) -> ArrayVec<Record, 16> {
+        let min = self.min_protected;
+        datagram(engine, min, bytes, Some(replies), &mut self.run)
+    }
+
     /// A datagram whose questions the cipher itself answers: the records handed over.
     pub fn read(&mut self, engine: &mut Engine, bytes: &[u8]) -> Vec<Answer> {
         self.run.handed.clear();
@@ -108,7 +119,7 @@ impl Receiver {
             }
             Step::Mark { .. } => {}
             Step::Datagram { bytes, replies } => {
-                datagram(engine, self.min_protected, bytes, Some(replies), run)
+                datagram(engine, self.min_protected, bytes, Some(replies), run);
             }
         }
     }
@@ -293,8 +304,14 @@ impl RecordHandler for Tap<'_> {
     }
 }
 
-/// A datagram read to its end.
-fn datagram(engine: &mut Engine, min: u8, bytes: &[u8], replies: Option<&[Reply]>, run: &mut Run) {
+/// A datagram read to its end: the records kept.
+fn datagram(
+    engine: &mut Engine,
+    min: u8,
+    bytes: &[u8],
+    replies: Option<&[Reply]>,
+    run: &mut Run,
+) -> ArrayVec<Record, 16> {
     script::set_min_protected(min as usize);
     script::set_opens(replies.is_none());
     // What sealing asked before.
@@ -370,6 +387,7 @@ fn datagram(engine: &mut Engine, min: u8, bytes: &[u8], replies: Option<&[Reply]
             ..Answer::default()
         },
     );
+    records
 }
 
 /// One record of a datagram.

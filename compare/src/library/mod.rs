@@ -1,6 +1,7 @@
 //! The library that hosts link, asked in this process through its C functions: the steps and answers of the Rattle
 //! programs `readings` and `sendings` (compare/README.md), over the words and the memory that a host keeps.
 
+mod classes;
 mod receiving;
 mod sending;
 
@@ -21,6 +22,21 @@ pub fn sending(program: Option<&String>) -> Box<dyn Answers> {
     match program {
         Some(program) => Box::new(Program(program.clone())),
         None => Box::new(Sending),
+    }
+}
+
+/// Who answers histories in which readings are dealt with.
+pub fn classes() -> Box<dyn Answers> {
+    Box::new(Classes)
+}
+
+struct Classes;
+
+impl Answers for Classes {
+    fn answers(&self, lines: &[Line]) -> io::Result<Vec<Vec<u8>>> {
+        let mut host = classes::Host::new();
+        let answers = lines.iter().map(|line| host.step(line.letter, &line.asked));
+        Ok(answers.collect())
     }
 }
 

@@ -19,8 +19,8 @@ const COUNT: usize = 15;
 
 /// The words of a link, and the begun datagram.
 pub struct Host {
-    state: Receiving,
-    datagram: Vec<u8>,
+    pub(super) state: Receiving,
+    pub(super) datagram: Vec<u8>,
     /// Where the protected part lies that an opening question which waits asks about, and its length.
     opening: Option<(usize, usize)>,
     /// What `begin_read` said of the datagram just begun, and the words and the datagram that it left.

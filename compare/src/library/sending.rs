@@ -27,6 +27,7 @@ const LENGTHS: usize = 19;
 /// Words of the flight; crates/flight_words says what every word is. Six an entry: content type, epoch, number, length of
 /// the content, whether it is acknowledged, how many numbers it remembers.
 const ROW: usize = 6;
+const MARKED: usize = 4;
 const ENTRIES: usize = 12;
 const SAVED: usize = 72;
 /// An entry's remembered numbers at most.
@@ -34,8 +35,8 @@ const REMEMBERED: usize = 32;
 
 /// The words of a link, and the memory lent to it.
 pub struct Host {
-    state: Sending,
-    flight: Flight,
+    pub(super) state: Sending,
+    pub(super) flight: Flight,
     notes: Notes,
     queue: Vec<u8>,
     kept: Vec<u8>,
@@ -259,6 +260,13 @@ impl Host {
             shown.extend_from_slice(&(short as u16).to_be_bytes());
         }
         Answer::shown(shown)
+    }
+
+    /// Which saved records are marked.
+    pub(super) fn marks(&self) -> Vec<bool> {
+        let saved = (self.flight.word[SAVED] as usize).min(ENTRIES);
+        let mark = |i: usize| self.flight.word[ROW * i + MARKED] != 0;
+        (0..saved).map(mark).collect()
     }
 
     /// A saved record.

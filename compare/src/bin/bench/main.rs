@@ -48,6 +48,7 @@ fn record_of(n: usize, what: &str, rust: OfSize, rattle: OfSize) -> Row {
 fn rows() -> Vec<Row> {
     let sizes = [16, 200, 1200];
     let read = sizes.map(|n| record_of(n, "read a record", rust::read, rattle::read));
+    let deal = sizes.map(|n| record_of(n, "and deal with it", rust::deal, rattle::deal));
     let send = sizes.map(|n| record_of(n, "send a record", rust::send, rattle::send));
     let in_place =
         sizes.map(|n| record_of(n, "send, taken in place", rust::send, rattle::send_in_place));
@@ -69,7 +70,7 @@ fn rows() -> Vec<Row> {
         rust::act_on_ack,
         rattle::act_on_ack,
     );
-    let mut rows = Vec::from_iter(read.into_iter().chain(send).chain(in_place));
+    let mut rows = Vec::from_iter(read.into_iter().chain(deal).chain(send).chain(in_place));
     rows.extend([message, resend, ack]);
     rows
 }

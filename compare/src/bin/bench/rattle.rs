@@ -139,6 +139,23 @@ pub fn read(n: usize, count: u32) -> f64 {
     })
 }
 
+pub fn deal(n: usize, count: u32) -> f64 {
+    let mut s = receiving();
+    let mut host = Host::new();
+    let mut record = sealed(n);
+    time(count, |i| {
+        number(&mut record, i);
+        let d = black_box(&mut record);
+        let asked = s.begin_read(d);
+        assert!(asked.kind == 6);
+        let opening = s.mask([0, 0], d);
+        let r = s.opened(true, opening.length - 16, d);
+        let c = s.classify(&mut host.f, &mut host.s, d);
+        assert!(c.kind == 9 && c.length == n && r.number == i as u64);
+        black_box(&record[c.start..c.start + c.length]);
+    })
+}
+
 pub fn send(n: usize, count: u32) -> f64 {
     let mut host = Host::new();
     let content = vec![0x55; n];

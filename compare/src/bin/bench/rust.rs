@@ -68,18 +68,41 @@ pub fn send_flight(engine: &mut Engine, content: &[u8]) {
     }
 }
 
+/// The one record of a datagram, read.
+#[inline(always)]
+fn read_one(engine: &mut Engine, datagram: &[u8]) -> Record {
+    let mut records: ArrayVec<Record, 16> = ArrayVec::new();
+    incoming::probe::parse_records(datagram, engine, &mut records).unwrap();
+    records.pop().unwrap()
+}
+
+/// What is read is used, and its buffer given back.
+#[inline(always)]
+fn use_one(engine: &mut Engine, record: Record, n: usize, i: u32) {
+    assert!(record.record().length as usize == n);
+    assert!(record.record().sequence.sequence_number == i as u64);
+    black_box(record.record().fragment(record.buffer()));
+    RecordHandler::push_buffer(engine, incoming::probe::into_buffer(record));
+}
+
 pub fn read(n: usize, count: u32) -> f64 {
     let mut engine = engine();
     let mut record = sealed(n);
     time(count, |i| {
         number(&mut record, i);
-        let mut records: ArrayVec<Record, 16> = ArrayVec::new();
-        incoming::probe::parse_records(black_box(&record), &mut engine, &mut records).unwrap();
-        let record = records.pop().unwrap();
-        assert!(record.record().length as usize == n);
-        assert!(record.record().sequence.sequence_number == i as u64);
-        black_box(record.record().fragment(record.buffer()));
-        RecordHandler::push_buffer(&mut engine, incoming::probe::into_buffer(record));
+        let one = read_one(&mut engine, black_box(&record));
+        use_one(&mut engine, one, n, i);
+    })
+}
+
+pub fn deal(n: usize, count: u32) -> f64 {
+    let mut engine = engine();
+    let mut record = sealed(n);
+    time(count, |i| {
+        number(&mut record, i);
+        let one = read_one(&mut engine, black_box(&record));
+        let kept = engine.classify_record(one).unwrap().unwrap();
+        use_one(&mut engine, kept, n, i);
     })
 }
 
