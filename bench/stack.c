@@ -8,7 +8,7 @@
 
 #include "huskelapse.h"
 
-enum { SHALLOW = 65536, DEEP = 1 << 20, WORD = sizeof(uint64_t), CALLS = 31 };
+enum { SHALLOW = 65536, DEEP = 1 << 20, WORD = sizeof(uint64_t), CALLS = 32 };
 
 static const uint64_t paint = 0xA5C35A3C96E1781E;
 
@@ -67,17 +67,19 @@ static __attribute__((noinline)) void note(int call, const char *name, size_t pa
         return a;                                                   \
     }
 
-MEASURED(0, uint8_t, husk_receiving_init, (HuskReceiving *s, size_t n), (s, n))
+MEASURED(0, uint8_t, husk_receiving_init_words, (uint64_t *w, uint64_t *x, size_t n), (w, x, n))
 MEASURED(1, uint8_t, husk_receiving_key, (HuskReceiving *s, uint16_t epoch, const uint8_t *iv), (s, epoch, iv))
 MEASURED(2, HuskTold, husk_receiving_remove, (HuskReceiving *s, uint16_t epoch), (s, epoch))
 MEASURED(3, uint8_t, husk_receiving_enable_encryption, (HuskReceiving *s), (s))
 MEASURED(4, uint8_t, husk_receiving_release_application_data, (HuskReceiving *s), (s))
-MEASURED(5, uint8_t, husk_receiving_begin, (HuskReceiving *s, size_t n), (s, n))
-MEASURED(6, HuskReading, husk_receiving_read, (HuskReceiving *s, uint8_t *d, size_t n), (s, d, n))
-MEASURED(7, HuskReading, husk_receiving_begin_read, (HuskReceiving *s, uint8_t *d, size_t n), (s, d, n))
+MEASURED(5, uint8_t, husk_receiving_begin_words, (uint64_t *w, uint64_t *x, size_t n), (w, x, n))
+MEASURED(6, HuskReading, husk_receiving_read_words, (uint64_t *w, uint64_t *x, uint8_t *d, size_t n), (w, x, d, n))
+MEASURED(7, HuskReading, husk_receiving_begin_read_words, (uint64_t *w, uint64_t *x, uint8_t *d, size_t n), (w, x, d, n))
 MEASURED(8, HuskReading, husk_receiving_mask, (HuskReceiving *s, uint8_t m0, uint8_t m1, uint8_t *d, size_t n), (s, m0, m1, d, n))
-MEASURED(9, HuskReading, husk_receiving_opened, (HuskReceiving *s, uint8_t opened, size_t len, const uint8_t *d, size_t n),
-    (s, opened, len, d, n))
+MEASURED(9, HuskReading, husk_receiving_opened_words,
+    (uint64_t *w, uint64_t *x, uint8_t opened, size_t len, const uint8_t *d, size_t n), (w, x, opened, len, d, n))
+MEASURED(31, HuskClass, husk_receiving_classify_words,
+    (uint64_t *w, uint64_t *x, uint64_t *f, uint64_t *m, const uint8_t *d, size_t n), (w, x, f, m, d, n))
 
 MEASURED(10, uint8_t, husk_sending_init, (HuskSending *s, size_t mtu, size_t limit), (s, mtu, limit))
 MEASURED(11, uint8_t, husk_sending_key, (HuskSending *s, uint16_t epoch, const uint8_t *iv), (s, epoch, iv))

@@ -3,7 +3,7 @@
 
 #include "flight.h"
 
-enum { NOTES = 32, PAIR = 16, MOST_PAIRS = 1060 };
+enum { NOTES = 32, MOST_PAIRS = 1060 };
 
 /* The parts of a HuskNotes, lent apart as those of a flight. */
 typedef struct {
@@ -84,7 +84,7 @@ static void call_resend(void)
 
 /* ---- acting on an ACK */
 
-static void put(uint8_t *p, uint64_t x, int n)
+void put(uint8_t *p, uint64_t x, int n)
 {
     for (; n > 0; n--, x >>= 8)
         p[n - 1] = (uint8_t)x;
@@ -98,13 +98,11 @@ static uint64_t get(const uint8_t *p, int n)
     return x;
 }
 
-/* A pair that names the i-th saved record by its number or one that it remembers, or perhaps nothing. */
-static void put_pair(uint8_t *p, uint64_t i)
+void put_pair(uint8_t *p, const uint64_t *w, const uint64_t *remembered)
 {
-    const uint64_t *w = &f->word[E_WORDS * i];
     uint64_t k = w[E_REMEMBERED] < REMEMBERED ? w[E_REMEMBERED] + 1 : REMEMBERED;
     put(p, one_in(16) ? below(5) : w[E_EPOCH] % 65536, 8);
-    put(p + 8, one_in(8) ? below(40) : one_in(2) ? w[E_NUMBER] : numbers->word[REMEMBERED * i + below(k) % REMEMBERED], 8);
+    put(p + 8, one_in(8) ? below(40) : one_in(2) ? w[E_NUMBER] : remembered[below(k) % REMEMBERED], 8);
 }
 
 /* An ACK, then perhaps cut or changed; or random bytes. */
@@ -119,8 +117,10 @@ static void lend_ack(void)
         return;
     }
     put(built, n - 2, 2);
-    for (uint64_t k = 0; k < pairs; k++)
-        put_pair(built + 2 + PAIR * k, each ? k % ENTRIES : below(saved > 0 && !one_in(8) ? saved : ENTRIES));
+    for (uint64_t k = 0; k < pairs; k++) {
+        uint64_t i = each ? k % ENTRIES : below(saved > 0 && !one_in(8) ? saved : ENTRIES);
+        put_pair(built + 2 + PAIR * k, &f->word[E_WORDS * i], &numbers->word[REMEMBERED * i]);
+    }
     if (one_in(6))
         n = below(n + 1);
     if (one_in(6))
@@ -129,48 +129,47 @@ static void lend_ack(void)
     memcpy(content.bytes, built, n);
 }
 
-static int is_named(uint64_t pairs, uint64_t epoch, uint64_t number)
+static int is_named(const uint8_t *p, uint64_t pairs, uint64_t epoch, uint64_t number)
 {
-    for (const uint8_t *p = content.bytes + 2; pairs > 0; pairs--, p += PAIR)
+    for (; pairs > 0; pairs--, p += PAIR)
         if (get(p, 8) == epoch && get(p + 8, 8) == number)
             return 1;
     return 0;
 }
 
-static uint64_t is_acked(const uint64_t *w, const uint64_t *remembered, uint64_t pairs)
+static uint64_t is_acked(const uint64_t *w, const uint64_t *remembered, const uint8_t *p, uint64_t pairs)
 {
-    uint64_t acked = w[E_MARKED] || is_named(pairs, w[E_EPOCH], w[E_NUMBER]);
+    uint64_t acked = w[E_MARKED] || is_named(p, pairs, w[E_EPOCH], w[E_NUMBER]);
     for (uint64_t k = 0; !acked && k < w[E_REMEMBERED] && k < REMEMBERED; k++)
-        acked = (uint64_t)is_named(pairs, w[E_EPOCH], remembered[k]);
+        acked = (uint64_t)is_named(p, pairs, w[E_EPOCH], remembered[k]);
     return acked;
 }
 
-/* Marks what the ACK names; whether there are records of epoch 2 and all of these are marked. */
-static int act(Records *e)
+/* Marks what the pairs name; whether there are records of epoch 2 and all of these are marked. */
+static int act(Records *e, const Numbers *remembered, const uint8_t *p, uint64_t pairs)
 {
     uint64_t any_of_2 = 0, waits = 0;
     for (uint64_t i = 0; i < e->word[SAVED]; i++) {
         uint64_t *w = &e->word[E_WORDS * i];
-        w[E_MARKED] = is_acked(w, &numbers_before.word[REMEMBERED * i], (content.n - 2) / PAIR);
+        w[E_MARKED] = is_acked(w, &remembered->word[REMEMBERED * i], p, pairs);
         any_of_2 |= w[E_EPOCH] == 2;
         waits |= w[E_EPOCH] == 2 && !w[E_MARKED];
     }
     return any_of_2 && !waits;
 }
 
-static void check_acted(const HuskAcked *told)
+void check_marks(const Records *before, const Numbers *remembered, const Records *now, const uint8_t *c, size_t n, const HuskAcked *told)
 {
-    Records e = flight_plain(&flight_before), g = flight_plain(f);
+    Records e = flight_plain(before), g = flight_plain(now);
     unsigned before_it = unmarked(&e), ends = 0;
     require(e.word[SAVED] <= ENTRIES, "a flight out of range");
-    if (content.n >= 2 && get(content.bytes, 2) == content.n - 2 && (content.n - 2) % PAIR == 0)
-        ends = (unsigned)act(&e);
+    if (n >= 2 && get(c, 2) == n - 2 && (n - 2) % PAIR == 0)
+        ends = (unsigned)act(&e, remembered, c + 2, (n - 2) / PAIR);
     require(told->marked == before_it - unmarked(&e), "another count of records marked");
     if (ends)
         e.word[SAVED] = 0;
     require(told->saved == e.word[SAVED] && told->unacknowledged == unmarked(&e), "another count of records left");
     require(memcmp(&e, &g, sizeof e) == 0, "another flight than the ACK leaves");
-    require(memcmp(&numbers_before, numbers, sizeof numbers_before) == 0, "an ACK has changed the remembered numbers");
 }
 
 static void call_ack(void)
@@ -181,8 +180,9 @@ static void call_ack(void)
     HuskAcked t = husk_flight_ack_words(f->word, numbers->word, content_bytes(), content.n);
     flight_done(FLIGHT_ACK, t.marked != 0, t.refusal);
     require(t.refusal != 12 || !flight_made, "12 for a flight that calls made");
+    require(memcmp(&numbers_before, numbers, sizeof numbers_before) == 0, "an ACK has changed the remembered numbers");
     if (t.refusal == 0)
-        check_acted(&t);
+        check_marks(&flight_before, &numbers_before, f, content.bytes, content.n, &t);
     else
         require(t.marked == 0 && t.unacknowledged == 0 && t.saved == 0, "a field not used is not zero");
 }

@@ -10,11 +10,13 @@
     answer __real_##name(__VA_ARGS__); \
     answer __wrap_##name(__VA_ARGS__)
 
-WRAPPED(HuskReading, husk_receiving_read, HuskReceiving *s, uint8_t *d, size_t n);
-WRAPPED(HuskReading, husk_receiving_begin_read, HuskReceiving *s, uint8_t *d, size_t n);
+WRAPPED(uint8_t, husk_receiving_init_words, uint64_t *w, uint64_t *x, size_t min);
+WRAPPED(HuskReading, husk_receiving_read_words, uint64_t *w, uint64_t *x, uint8_t *d, size_t n);
+WRAPPED(HuskReading, husk_receiving_begin_read_words, uint64_t *w, uint64_t *x, uint8_t *d, size_t n);
 WRAPPED(HuskReading, husk_receiving_mask, HuskReceiving *s, uint8_t m0, uint8_t m1, uint8_t *d, size_t n);
-WRAPPED(HuskReading, husk_receiving_opened, HuskReceiving *s, uint8_t opened, size_t length, const uint8_t *d, size_t n);
-WRAPPED(uint8_t, husk_receiving_begin, HuskReceiving *s, size_t n);
+WRAPPED(HuskReading, husk_receiving_opened_words, uint64_t *w, uint64_t *x, uint8_t opened, size_t length, const uint8_t *d, size_t n);
+WRAPPED(uint8_t, husk_receiving_begin_words, uint64_t *w, uint64_t *x, size_t n);
+WRAPPED(HuskClass, husk_receiving_classify_words, uint64_t *w, uint64_t *x, uint64_t *f, uint64_t *m, const uint8_t *d, size_t n);
 WRAPPED(HuskTold, husk_receiving_remove, HuskReceiving *s, uint16_t epoch);
 WRAPPED(uint8_t, husk_sending_key, HuskSending *s, uint16_t epoch, const uint8_t *iv);
 WRAPPED(uint8_t, husk_sending_send, HuskSending *s, uint16_t epoch, uint8_t type, const uint8_t *c, size_t cn, uint8_t *q, size_t qn);
@@ -46,9 +48,25 @@ static int planted(int fault)
     return chosen == fault;
 }
 
-HuskReading __wrap_husk_receiving_read(HuskReceiving *s, uint8_t *d, size_t n)
+/* The datagrams whose classes are known answers have these lengths, or one byte less where that is refused. */
+static int is_known(size_t n)
 {
-    HuskReading r = __real_husk_receiving_read(s, d, n);
+    return n == 28 || n == 29 || n == 30 || n == 45 || n == 46 || n == 63;
+}
+
+uint8_t __wrap_husk_receiving_init_words(uint64_t *w, uint64_t *x, size_t min)
+{
+    uint64_t closed = x[6];
+    uint8_t answer = __real_husk_receiving_init_words(w, x, min);
+    if (closed == 1 && planted(66))
+        x[6] = closed; /* an old close */
+    return answer;
+}
+
+HuskReading __wrap_husk_receiving_read_words(uint64_t *w, uint64_t *x, uint8_t *d, size_t n)
+{
+    uint64_t waits = x[0];
+    HuskReading r = __real_husk_receiving_read_words(w, x, d, n);
     if (n > 0 && planted(1))
         sink = ((const volatile uint8_t *)d)[n];
     if (n > 0 && planted(2))
@@ -57,16 +75,22 @@ HuskReading __wrap_husk_receiving_read(HuskReceiving *s, uint8_t *d, size_t n)
         *d = 0;
     if (r.kind == HUSK_READING_UNOPENED && planted(4))
         r.length++;
-    for (uint64_t i = 0; r.kind == HUSK_READING_DROPPED && planted(5); i++)
+    for (uint64_t i = 0; r.kind == HUSK_READING_DROPPED && !is_known(n) && planted(5); i++)
         sink = (uint8_t)i;
+    if (r.kind == HUSK_READING_DROPPED && waits != 0 && planted(67))
+        x[0] = waits; /* a reading that was passed over */
+    if (r.kind == HUSK_READING_UNOPENED && planted(68))
+        x[2] = 0; /* an unopened record noted as epoch 0 */
     return r;
 }
 
-HuskReading __wrap_husk_receiving_begin_read(HuskReceiving *s, uint8_t *d, size_t n)
+HuskReading __wrap_husk_receiving_begin_read_words(uint64_t *w, uint64_t *x, uint8_t *d, size_t n)
 {
-    HuskReading r = __real_husk_receiving_begin_read(s, d, n);
+    HuskReading r = __real_husk_receiving_begin_read_words(w, x, d, n);
     if (r.kind == HUSK_READING_PLAINTEXT && planted(28))
-        s->word[22] = 0;
+        w[22] = 0;
+    if (r.kind == HUSK_READING_PLAINTEXT && x[6] == 1 && planted(69))
+        x[6] = 0; /* the close is forgotten */
     return r;
 }
 
@@ -82,20 +106,94 @@ HuskReading __wrap_husk_receiving_mask(HuskReceiving *s, uint8_t m0, uint8_t m1,
     return r;
 }
 
-HuskReading __wrap_husk_receiving_opened(HuskReceiving *s, uint8_t opened, size_t length, const uint8_t *d, size_t n)
+HuskReading __wrap_husk_receiving_opened_words(uint64_t *w, uint64_t *x, uint8_t opened, size_t length, const uint8_t *d, size_t n)
 {
-    HuskReading r = __real_husk_receiving_opened(s, opened, length, d, n);
+    HuskReading r = __real_husk_receiving_opened_words(w, x, opened, length, d, n);
     if (r.kind == HUSK_READING_DROPPED && planted(7))
         r.refusal = 9;
+    if (r.kind == HUSK_READING_OPENED && r.content_type > 26 && !is_known(n) && planted(70))
+        x[1] = HUSK_APPLICATION_DATA;
     return r;
 }
 
-uint8_t __wrap_husk_receiving_begin(HuskReceiving *s, size_t n)
+uint8_t __wrap_husk_receiving_begin_words(uint64_t *w, uint64_t *x, size_t n)
 {
-    uint8_t answer = __real_husk_receiving_begin(s, n);
+    uint64_t waits = x[0];
+    uint8_t answer = __real_husk_receiving_begin_words(w, x, n);
     if (answer == 1 && planted(8))
-        s->word[21] = 0;
+        w[21] = 0;
+    if (answer == 0 && waits == 5 && planted(71))
+        x[0] = waits;
     return answer;
+}
+
+/* Faults in the class of a reading that waited with these words and this content. */
+static void class_fault(HuskClass *k, const uint64_t *x, const uint8_t *c, int encrypted)
+{
+    int alert = x[1] == HUSK_ALERT && k->kind == HUSK_CLASS_IGNORED, at_close = x[6] && x[2] == x[7] && x[3] == x[8];
+    if (at_close && k->kind > HUSK_CLASS_ALERT && planted(72))
+        k->kind = HUSK_CLASS_BEYOND; /* at the close, not beyond it */
+    if (alert && k->length > 1 && c[1] == 90 && planted(73))
+        k->kind = HUSK_CLASS_ALERT, k->description = 90;
+    if (alert && k->length == 1 && planted(74))
+        k->kind = HUSK_CLASS_ALERT, k->description = c[0];
+    if (k->kind == HUSK_CLASS_ALERT && planted(75))
+        k->description = c[0]; /* the level */
+    if (k->kind == HUSK_CLASS_UNPROTECTED && x[1] == HUSK_HANDSHAKE && planted(76))
+        k->kind = HUSK_CLASS_HANDSHAKE;
+    if (k->kind == HUSK_CLASS_HANDSHAKE && x[0] == 3 && !encrypted && planted(77))
+        k->kind = HUSK_CLASS_UNPROTECTED;
+    if (k->kind == HUSK_CLASS_BEYOND && x[2] != x[7] && planted(78))
+        k->kind = HUSK_CLASS_OTHER; /* a higher epoch is not beyond */
+    if (k->kind == HUSK_CLASS_BEYOND && x[0] == 4 && planted(79))
+        k->kind = HUSK_CLASS_UNOPENED;
+    if (k->kind == HUSK_CLASS_OTHER && x[1] > 26 && planted(80))
+        k->kind = HUSK_CLASS_APPLICATION_DATA;
+    if (k->kind == HUSK_CLASS_ACK && k->saved > 3 && planted(81))
+        k->marked = (uint8_t)(k->saved - k->unacknowledged);
+}
+
+/* Faults in what is left behind: x is what waits now, y what waited. */
+static void left_fault(const HuskClass *k, uint64_t *w, uint64_t cursor, uint64_t *x, const uint64_t *y, const uint8_t *c)
+{
+    int again = k->kind == HUSK_CLASS_IGNORED && y[1] == HUSK_ALERT && k->length > 1 && c[1] == 0;
+    if (again && planted(82))
+        x[7] = y[2], x[8] = y[3]; /* a second close moves the place */
+    if (k->kind == HUSK_CLASS_APPLICATION_DATA && planted(83))
+        x[0] = y[0]; /* dealt with a second time */
+    if (k->kind == HUSK_CLASS_ALERT && planted(84))
+        w[21] = cursor; /* the datagram goes on */
+    if (k->kind == HUSK_CLASS_CLOSE && planted(85))
+        x[8]++;
+    if (k->kind == HUSK_CLASS_CLOSE && y[2] > 2 && planted(86))
+        x[6] = 0; /* not remembered */
+    if (k->refusal == 15 && planted(87))
+        x[0] = 0;
+    if (k->refusal == 12 && y[0] == 5 && y[1] == HUSK_ACK && planted(88))
+        x[0] = 0; /* an ACK for what is no flight is gone */
+}
+
+HuskClass __wrap_husk_receiving_classify_words(uint64_t *w, uint64_t *x, uint64_t *f, uint64_t *m, const uint8_t *d, size_t n)
+{
+    uint64_t cursor = w[21], y[9], g[73];
+    memcpy(y, x, sizeof y);
+    memcpy(g, f, sizeof g);
+    HuskClass k = __real_husk_receiving_classify_words(w, x, f, m, d, n);
+    const uint8_t *c = y[4] < n ? d + y[4] : d;
+    int inside = y[4] < n && y[5] <= n - y[4];
+    if (is_known(n) || (k.kind >= HUSK_CLASS_BEYOND && !inside))
+        return k;
+    if (n > 0 && planted(89))
+        sink = ((const volatile uint8_t *)d)[n];
+    if (n > 0 && k.kind == HUSK_CLASS_OTHER && planted(90))
+        *(uint8_t *)(uintptr_t)d = 0;
+    if (k.kind == HUSK_CLASS_IGNORED && y[1] == HUSK_ACK && planted(91))
+        __real_husk_flight_ack_words(f, m, c, k.length); /* a plaintext ACK marks */
+    if (k.kind == HUSK_CLASS_ACK && k.saved > 0 && k.marked > 0 && planted(92))
+        memcpy(f, g, sizeof g); /* a sealed ACK does not */
+    class_fault(&k, y, c, w[17] == 1);
+    left_fault(&k, w, cursor, x, y, c);
+    return k;
 }
 
 HuskTold __wrap_husk_receiving_remove(HuskReceiving *s, uint16_t epoch)

@@ -251,6 +251,81 @@ static void known_ack(void)
     drain(&s, &f, queue, sizeof queue, 0, 514 + 17);
 }
 
+static void check_class(HuskClass k, unsigned kind, unsigned description, size_t start, size_t length)
+{
+    require(k.kind == kind && k.refusal == 0 && k.description == description, "a known class");
+    require(k.start == start && k.length == length, "a known class's place");
+    require(kind == HUSK_CLASS_ACK || (k.marked == 0 && k.unacknowledged == 0 && k.saved == 0), "a known class has no marks");
+}
+
+/* A record sealed in epoch 3 as this number, read and dealt with; behind it lies half a plaintext record. */
+static HuskClass dealt(HuskReceiving *s, HuskFlight *f, HuskSending *t, uint8_t number, const char *text, size_t n)
+{
+    uint8_t d[80] = {0x2F, 0, number, 0, (uint8_t)(n + HUSK_TAG)};
+    size_t end = 5 + n + HUSK_TAG + 6;
+    require(husk_receiving_begin_read(s, d, end).kind == HUSK_READING_MASK, "a known mask question");
+    require(husk_receiving_mask(s, 0, 0, d, end).number == number, "a known opening question");
+    memcpy(d + 5, text, n);
+    require(husk_receiving_opened(s, 1, n, d, end).kind == HUSK_READING_OPENED, "a known reading");
+    HuskClass k = husk_receiving_classify(s, f, t, d, end - 1);
+    require(k.kind == HUSK_CLASS_REFUSED && k.refusal == HUSK_NO_QUESTION && k.length == 0, "a known wrong length");
+    k = husk_receiving_classify(s, f, t, d, end);
+    check_class(husk_receiving_classify(s, f, t, d, end), HUSK_CLASS_NOTHING, 0, 0, 0);
+    HuskReading r = husk_receiving_read(s, d, end);
+    require(r.kind == HUSK_READING_END && r.refusal == (k.kind == HUSK_CLASS_ALERT ? 0 : HUSK_TRUNCATED), "a known end");
+    return k;
+}
+
+/* An empty handshake record, alert 90 and an ACK of (0, 0), all in plaintext; and a sealed record. */
+static void known_plaintext(HuskReceiving *s, HuskFlight *f, HuskSending *t, int encrypted)
+{
+    uint8_t d[13 + 15 + 31 + 4] = {22, 0xFE, 0xFD, 0, 0, 0, 0, 0, 0, 0, 9, 0, 0, /**/ 21, 0xFE, 0xFD, 0, 0, 0, 0, 0, 0, 0, 9, 0, 2, 1, 90};
+    const unsigned kinds[2][3] = {{HUSK_CLASS_HANDSHAKE, HUSK_CLASS_IGNORED, HUSK_CLASS_IGNORED},
+        {HUSK_CLASS_UNPROTECTED, HUSK_CLASS_UNPROTECTED, HUSK_CLASS_UNPROTECTED}};
+    memcpy(d + 28, "\x1A\xFE\xFD\0\0\0\0\0\0\0\x09\0\x12\0\x10", 15);
+    memcpy(d + 59, "\x27\x07\0\0", 4);
+    require(husk_receiving_begin_read(s, d, sizeof d).kind == HUSK_READING_PLAINTEXT, "a known reading");
+    check_class(husk_receiving_classify(s, f, t, d, sizeof d), kinds[encrypted][0], 0, 13, 0);
+    require(husk_receiving_read(s, d, sizeof d).kind == HUSK_READING_PLAINTEXT, "a known reading");
+    check_class(husk_receiving_classify(s, f, t, d, sizeof d), kinds[encrypted][1], 0, 26, 2);
+    require(husk_receiving_read(s, d, sizeof d).kind == HUSK_READING_PLAINTEXT, "a known reading");
+    check_class(husk_receiving_classify(s, f, t, d, sizeof d), kinds[encrypted][2], 0, 41, 18);
+    unsigned last = husk_receiving_read(s, d, sizeof d).kind;
+    require(last == (encrypted ? HUSK_READING_DROPPED : HUSK_READING_UNOPENED), "a known sealed record");
+    check_class(husk_receiving_classify(s, f, t, d, sizeof d), encrypted ? HUSK_CLASS_NOTHING : HUSK_CLASS_UNOPENED, 0, encrypted ? 0 : 63, 0);
+}
+
+/* Every class once. Three records are saved in epoch 0, of which a sealed ACK marks the first. */
+static void known_classes(void)
+{
+    static uint8_t queue[576], kept[12 * 576];
+    HuskReceiving s;
+    HuskSending t;
+    HuskFlight f;
+    calling(RECEIVING_CLASSIFY);
+    husk_flight_init(&f);
+    require(husk_sending_init(&t, 576, 1) == 0 && husk_receiving_init(&s, 17) == 0 && husk_receiving_key(&s, 3, iv) == 0, "a known start");
+    for (int i = 0; i < 3; i++)
+        require(husk_flight_send(&f, &t, 0, HUSK_HANDSHAKE, iv, 3, queue, sizeof queue, kept, sizeof kept) == 0, "a known record");
+    known_plaintext(&s, &f, &t, 0);
+    require(husk_receiving_enable_encryption(&s) == 0, "a known start");
+    known_plaintext(&s, &f, &t, 1);
+    check_saved(&f, 3, 3);
+    HuskClass k = dealt(&s, &f, &t, 1, "\0\x10\0\0\0\0\0\0\0\0\0\0\0\0\0\0\0\0\x1A", 19);
+    check_class(k, HUSK_CLASS_ACK, 0, 5, 18);
+    require(k.marked == 1 && k.unacknowledged == 2 && k.saved == 3, "a known ACK's marks");
+    check_class(dealt(&s, &f, &t, 2, "\2\x28\x15", 3), HUSK_CLASS_ALERT, 40, 5, 2);
+    check_class(dealt(&s, &f, &t, 3, "\0\x15", 2), HUSK_CLASS_IGNORED, 0, 5, 1);
+    check_class(dealt(&s, &f, &t, 8, "\1\0\x15", 3), HUSK_CLASS_CLOSE, 0, 5, 2);
+    require(s.pending[6] == 1 && s.pending[7] == 3 && s.pending[8] == 8, "a known close");
+    check_class(dealt(&s, &f, &t, 9, "hi\x17", 3), HUSK_CLASS_BEYOND, 0, 5, 2);
+    check_class(dealt(&s, &f, &t, 7, "hi\x17", 3), HUSK_CLASS_APPLICATION_DATA, 0, 5, 2);
+    check_class(dealt(&s, &f, &t, 6, "hi\x63", 3), HUSK_CLASS_OTHER, 0, 5, 2);
+    check_class(dealt(&s, &f, &t, 5, "hi\x16", 3), HUSK_CLASS_HANDSHAKE, 0, 5, 2);
+    check_class(dealt(&s, &f, &t, 4, "\1\0\x15", 3), HUSK_CLASS_IGNORED, 0, 5, 2);
+    require(s.pending[8] == 8, "a known close moved");
+}
+
 static void check_piece(HuskPiece a, unsigned kind, unsigned refusal, unsigned type, unsigned number, size_t length)
 {
     require(a.kind == kind && a.refusal == refusal && a.msg_type == type, "a known piece");
@@ -322,6 +397,7 @@ void known(void)
     known_resends();
     known_flight();
     known_ack();
+    known_classes();
     known_assembly();
     known_pieces();
     known_texts();

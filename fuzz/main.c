@@ -24,7 +24,7 @@
 #define HANG_SECONDS 60
 #endif
 
-enum { KINDS = 8, REFUSALS = 26, ENOUGH = 1000000 };
+enum { KINDS = 12, REFUSALS = 26, ENOUGH = 1000000 };
 
 #define R(n) (1u << (n))
 
@@ -33,18 +33,20 @@ static const struct {
     const char *name;
     uint32_t refusals[KINDS];
 } calls[CALLS] = {
-    [RECEIVING_INIT] = {"husk_receiving_init", {R(0) | R(12)}},
+    [RECEIVING_INIT] = {"husk_receiving_init_words", {R(0) | R(12)}},
     [RECEIVING_KEY] = {"husk_receiving_key", {R(0) | R(12) | R(13) | R(23)}},
     [RECEIVING_REMOVE] = {"husk_receiving_remove", {R(0) | R(12) | R(13), R(0)}},
     [RECEIVING_ENABLE] = {"husk_receiving_enable_encryption", {R(0) | R(12)}},
     [RECEIVING_RELEASE] = {"husk_receiving_release_application_data", {R(0) | R(12)}},
-    [RECEIVING_BEGIN] = {"husk_receiving_begin", {R(0) | R(1) | R(12)}},
-    [RECEIVING_READ] = {"husk_receiving_read",
+    [RECEIVING_BEGIN] = {"husk_receiving_begin_words", {R(0) | R(1) | R(12)}},
+    [RECEIVING_READ] = {"husk_receiving_read_words",
         {R(12) | R(15), R(0) | R(2) | R(3), R(4) | R(5) | R(6) | R(7), R(0), R(0), 0, R(0), R(0)}},
-    [RECEIVING_BEGIN_READ] = {"husk_receiving_begin_read",
+    [RECEIVING_BEGIN_READ] = {"husk_receiving_begin_read_words",
         {R(1) | R(12), R(0) | R(2), R(4) | R(5) | R(6) | R(7), R(0), R(0), 0, R(0)}},
     [RECEIVING_MASK] = {"husk_receiving_mask", {R(12) | R(15), 0, R(8) | R(9), 0, 0, 0, 0, R(0)}},
-    [RECEIVING_OPENED] = {"husk_receiving_opened", {R(12) | R(15), R(3), R(10) | R(11), 0, 0, R(0)}},
+    [RECEIVING_OPENED] = {"husk_receiving_opened_words", {R(12) | R(15), R(3), R(10) | R(11), 0, 0, R(0)}},
+    [RECEIVING_CLASSIFY] = {"husk_receiving_classify_words",
+        {R(12) | R(15), R(0), R(0), R(0), R(0), R(0), R(0), R(0), R(0), R(0), R(0), R(0)}},
     [SENDING_INIT] = {"husk_sending_init", {R(0) | R(12)}},
     [SENDING_KEY] = {"husk_sending_key", {R(0) | R(12) | R(13) | R(23)}},
     [SENDING_SEND] = {"husk_sending_send", {R(0) | R(12) | R(13) | R(14) | R(17) | R(19) | R(20)}},

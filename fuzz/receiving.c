@@ -1,25 +1,24 @@
 /* Histories of the receive side. */
 #include <string.h>
 
-#include "fuzz.h"
+#include "classes.h"
 
 enum { LONGEST = 17000, WORDS = 39 };
 #define LAST_NUMBER 0xFFFFFFFFFFFFu
 
-/* The words (crates/recv_words/specs/Words.antt). */
-enum { W_COUNT = 15, W_HIGHEST, W_ENCRYPTION, W_RELEASED, W_MIN, W_SIZE, W_CURSOR, W_READINGS, W_ASKED, W_EPOCH, W_TWO, W_HEADER,
-    W_LENGTH, W_NUMBER, W_IVS };
-
-static Area states, datagram_area, ivs;
-static Lent state, datagram, iv;
-static HuskReceiving *s;
-static HuskReceiving before;
+static Area states, pendings, datagram_area, ivs;
+static Lent state, waiting, datagram, iv;
+/* The state, what waits to be dealt with, and both as they were before the call. */
+static Words *s, before;
+static Pending *pending, pending_before;
 static uint8_t copy[LONGEST];
 static HuskReading last;
 /* Whether a datagram is begun and its end not yet told. */
 static int reading;
 /* Whether calls alone have made the state, from fresh. */
 static int made;
+/* Whether the last call was to deal with a reading and was refused. */
+static int undealt;
 
 /* ---- checks */
 
@@ -29,9 +28,9 @@ static int is_flat(const uint64_t *w)
 }
 
 /* The words of the same meaning in which no bit is without one. */
-static HuskReceiving plain(const HuskReceiving *x)
+static Words plain(const Words *x)
 {
-    HuskReceiving p = *x;
+    Words p = *x;
     for (int i = 0; i < 5; i++)
         p.word[i] %= 65536;
     p.word[W_HIGHEST] %= 65536;
@@ -46,32 +45,44 @@ static HuskReceiving plain(const HuskReceiving *x)
 }
 
 /* Words that calls made stay as they are; forged ones may be written anew with the same meaning. */
-static void check_kept(void)
+void check_words(const Words *was, const Words *now, int by_calls)
 {
-    HuskReceiving a, b;
-    if (memcmp(&before, s, sizeof before) == 0)
+    Words a, b;
+    if (memcmp(was, now, sizeof *was) == 0)
         return;
-    require(!made && is_flat(before.word), "a refused call has changed the state");
-    a = plain(&before);
-    b = plain(s);
-    require(memcmp(&a, &b, sizeof a) == 0, "a refused call has changed what the state means");
+    require(!by_calls && is_flat(was->word), "a call that may not has changed the state");
+    a = plain(was);
+    b = plain(now);
+    require(memcmp(&a, &b, sizeof a) == 0, "a call that may not has changed what the state means");
     words_rewritten++;
+}
+
+static void check_pending(const Pending *expected)
+{
+    require(memcmp(expected, pending, sizeof *expected) == 0, "another reading waits than was told, or another close");
 }
 
 static void done(int call, unsigned kind, unsigned refusal, int refused, int may_be_12)
 {
     answered(call, kind, refusal);
     check_beside(&state);
+    check_beside(&waiting);
     check_beside(&datagram);
     check_beside(&iv);
     if (refused)
-        check_kept();
+        check_words(&before, s, made);
     require(refusal != 12 || !made || may_be_12, "12 for a state that calls made");
 }
 
 static void number_answer(int call, uint8_t answer)
 {
     done(call, 0, answer, answer != 0, 0);
+}
+
+/* The words, for functions that are given the whole and use no more of it. */
+static HuskReceiving *whole(void)
+{
+    return (HuskReceiving *)(void *)s;
 }
 
 /* Fields that the kind does not use are zeros; places lie in the datagram. */
@@ -103,8 +114,10 @@ static void check_reading(const HuskReading *r, size_t n)
 
 static void reading_answer(int call, HuskReading r, size_t n, int may_be_12)
 {
+    Pending expected = call == RECEIVING_MASK ? pending_before : noted(&pending_before, &r);
     done(call, r.kind, r.refusal, r.kind == HUSK_READING_REFUSED, may_be_12);
     check_reading(&r, n);
+    check_pending(&expected);
     reading = reading && r.kind != HUSK_READING_END && (r.kind != HUSK_READING_REFUSED || !one_in(4));
     last = r;
 }
@@ -115,8 +128,10 @@ static size_t plaintext(uint8_t *p)
 {
     static const uint8_t types[] = {21, 22, 26};
     size_t n = below(40);
-    scatter(p, 13 + n);
+    scatter(p, 13 + 40);
     p[0] = one_in(16) ? p[0] : types[below(3)];
+    if (!one_in(4))
+        n = classes_content(p[0], p + 13, 40);
     p[1] = 0xFE;
     p[2] = one_in(4) ? 0xFF : 0xFD;
     memset(p + 3, 0, one_in(16) ? 1 : 2);
@@ -199,8 +214,10 @@ static void call_begin(void)
         n = one_in(2) ? n + 1 : (size_t)edge_word(n);
     calling(RECEIVING_BEGIN);
     datagrams++;
-    uint8_t answer = husk_receiving_begin(s, n);
+    uint8_t answer = husk_receiving_begin_words(s->word, pending->word, n);
     number_answer(RECEIVING_BEGIN, answer);
+    Pending expected = answer == 0 ? cleared(&pending_before) : pending_before;
+    check_pending(&expected);
     require((answer == 1) <= (n > 16384), "1 for a datagram that is not too long");
     if (answer == 0)
         reading = 1;
@@ -233,7 +250,7 @@ static void call_read(void)
     size_t n = length_lent();
     uint8_t *d = unwritten_lent(n);
     calling(RECEIVING_READ);
-    reading_answer(RECEIVING_READ, husk_receiving_read(s, d, n), n, 0);
+    reading_answer(RECEIVING_READ, husk_receiving_read_words(s->word, pending->word, d, n), n, 0);
 }
 
 static int same_reading(const HuskReading *a, const HuskReading *b)
@@ -244,13 +261,13 @@ static int same_reading(const HuskReading *a, const HuskReading *b)
 }
 
 /* What a beginning and a read of its first record answer, one after the other. */
-static HuskReading begin_then_read(HuskReceiving *copy, uint8_t *d, size_t n)
+static HuskReading begin_then_read(Words *copy, Pending *noting, uint8_t *d, size_t n)
 {
     HuskReading r = {0};
     calling(RECEIVING_BEGIN);
-    r.refusal = husk_receiving_begin(copy, n);
+    r.refusal = husk_receiving_begin_words(copy->word, noting->word, n);
     calling(RECEIVING_READ);
-    return r.refusal == 0 ? husk_receiving_read(copy, d, n) : r;
+    return r.refusal == 0 ? husk_receiving_read_words(copy->word, noting->word, d, n) : r;
 }
 
 static void call_begin_read(void)
@@ -258,11 +275,12 @@ static void call_begin_read(void)
     bring_datagram();
     size_t n = length_lent();
     uint8_t *d = unwritten_lent(n);
-    HuskReceiving copy = *s;
-    HuskReading two = begin_then_read(&copy, d, n);
+    Words copy = *s;
+    Pending noting = *pending;
+    HuskReading two = begin_then_read(&copy, &noting, d, n);
     calling(RECEIVING_BEGIN_READ);
     datagrams++;
-    HuskReading one = husk_receiving_begin_read(s, d, n);
+    HuskReading one = husk_receiving_begin_read_words(s->word, pending->word, d, n);
     require(same_reading(&one, &two), "another answer than a beginning and a read give");
     require(memcmp(&copy, s, sizeof copy) == 0, "another state than a beginning and a read leave");
     reading = one.kind != HUSK_READING_REFUSED && n == datagram.n;
@@ -303,10 +321,20 @@ static void call_mask(void)
         memcpy(copy, d, n);
     calling(RECEIVING_MASK);
     replies++;
-    r = husk_receiving_mask(s, m0, m1, d, n);
+    r = husk_receiving_mask(whole(), m0, m1, d, n);
     reading_answer(RECEIVING_MASK, r, n, 0);
     check_masked(&r, d, n, m0, m1);
     check_rebuilt(&r, d);
+}
+
+/* A content of some type that calls can act on. */
+static void put_content(uint8_t *p, size_t n)
+{
+    uint8_t type = classes_type();
+    size_t length = n == 0 ? 0 : classes_content(type, p, n - 1);
+    memset(p + length, 0, n - length);
+    if (n > 0)
+        p[length] = type;
 }
 
 /* The host's plaintext: content, type, zeros; or nothing but zeros. */
@@ -316,6 +344,10 @@ static void put_plaintext(void)
     uint8_t *p = datagram.bytes + last.start + last.header_len;
     if (last.start + last.header_len + last.length > datagram.n)
         return;
+    if (!one_in(3)) {
+        put_content(p, n);
+        return;
+    }
     if (zeros < n && p[n - zeros - 1] == 0)
         p[n - zeros - 1] = 23;
     memset(p + n - zeros, 0, zeros);
@@ -332,7 +364,7 @@ static void call_opened(void)
     }
     calling(RECEIVING_OPENED);
     replies++;
-    reading_answer(RECEIVING_OPENED, husk_receiving_opened(s, yes, length, d, n), n, yes > 1);
+    reading_answer(RECEIVING_OPENED, husk_receiving_opened_words(s->word, pending->word, yes, length, d, n), n, yes > 1);
 }
 
 static uint16_t some_epoch(void)
@@ -349,14 +381,14 @@ static void call_key(void)
     iv = lend(&ivs, 12, one_in(2));
     scatter(iv.bytes, 12);
     calling(RECEIVING_KEY);
-    number_answer(RECEIVING_KEY, husk_receiving_key(s, epoch, iv.fixed));
+    number_answer(RECEIVING_KEY, husk_receiving_key(whole(), epoch, iv.fixed));
 }
 
 static void call_remove(void)
 {
     uint16_t epoch = last.kind >= HUSK_READING_MASK && one_in(2) ? last.epoch : some_epoch();
     calling(RECEIVING_REMOVE);
-    HuskTold t = husk_receiving_remove(s, epoch);
+    HuskTold t = husk_receiving_remove(whole(), epoch);
     done(RECEIVING_REMOVE, t.told, t.refusal, t.refusal != 0, 0);
     if (t.refusal == 0)
         require(t.told == (before.word[W_ASKED] != 0 && before.word[W_EPOCH] % 65536 == epoch), "a question told that did not wait");
@@ -366,8 +398,10 @@ static void call_fresh(void)
 {
     size_t min = one_in(32) ? (size_t)edge_word(17) : below(18);
     calling(RECEIVING_INIT);
-    uint8_t answer = husk_receiving_init(s, min);
+    uint8_t answer = husk_receiving_init_words(s->word, pending->word, min);
     done(RECEIVING_INIT, 0, answer, 0, 1);
+    const Pending nothing = {{0}};
+    check_pending(&nothing);
     require((answer == 12) == (min > 17), "a setting in range is refused, or one beyond is taken");
     made = answer == 0;
 }
@@ -375,7 +409,8 @@ static void call_fresh(void)
 static void call_flag(int call)
 {
     calling(call);
-    number_answer(call, call == RECEIVING_ENABLE ? husk_receiving_enable_encryption(s) : husk_receiving_release_application_data(s));
+    number_answer(call,
+        call == RECEIVING_ENABLE ? husk_receiving_enable_encryption(whole()) : husk_receiving_release_application_data(whole()));
 }
 
 /* ---- states */
@@ -388,7 +423,7 @@ static void make_state(void)
         call_key();
     }
     before = *s;
-    if (!one_in(6))
+    if (!one_in(4))
         call_flag(RECEIVING_ENABLE);
     before = *s;
     if (one_in(3))
@@ -399,8 +434,11 @@ static void make_state(void)
 static void change_state(void)
 {
     for (uint64_t k = 1 + below(3); k > 0; k--) {
-        uint64_t i = one_in(4) ? below(WORDS) : below(W_IVS);
-        s->word[i] = edge_word(s->word[i]);
+        uint64_t i = one_in(4) ? below(WORDS) : below(W_IVS), j = below(P_WORDS);
+        if (one_in(4))
+            pending->word[j] = edge_word(pending->word[j]);
+        else
+            s->word[i] = edge_word(s->word[i]);
     }
     made = 0;
 }
@@ -429,14 +467,34 @@ static void forge_state(void)
     w[W_HEADER] = one_in(8) ? below(n + 2) : 2 + below(4);
     w[W_LENGTH] = one_in(8) ? edge_word(n) : 16 + below(40);
     w[W_NUMBER] = one_in(2) ? below(100) : edge_word(LAST_NUMBER);
+    forge_pending(pending, n);
+    uint64_t *x = pending->word;
+    if (x[P_START] <= n && x[P_LENGTH] <= n - x[P_START]) /* with a content of its type */
+        x[P_LENGTH] = classes_content((uint8_t)x[P_TYPE], datagram.bytes + x[P_START], (size_t)x[P_LENGTH]);
     made = 0;
 }
 
 /* ---- histories */
 
+/* Deals with the reading that waits, or with none. */
+static void call_class(void)
+{
+    size_t n = length_lent();
+    undealt = call_classify(s, pending, made, fixed_lent(n), n) == HUSK_CLASS_REFUSED;
+    check_beside(&state);
+    check_beside(&waiting);
+    check_beside(&datagram);
+}
+
 static void step(void)
 {
     before = *s;
+    pending_before = *pending;
+    if (pending->word[P_KIND] != 0 && !undealt && !one_in(6)) {
+        call_class();
+        return;
+    }
+    undealt = 0;
     if (last.kind == HUSK_READING_MASK && !one_in(5)) {
         call_mask();
         return;
@@ -445,7 +503,7 @@ static void step(void)
         call_opened();
         return;
     }
-    switch (below(24)) {
+    switch (below(26)) {
     case 0: call_key(); break;
     case 1: call_remove(); break;
     case 2: call_mask(); break;
@@ -453,6 +511,7 @@ static void step(void)
     case 4: call_flag(one_in(2) ? RECEIVING_ENABLE : RECEIVING_RELEASE); break;
     case 5: call_begin(); break;
     case 6: call_begin_read(); break;
+    case 7: call_class(); break;
     default:
         if (reading)
             call_read();
@@ -463,42 +522,66 @@ static void step(void)
     }
 }
 
-void receiving_history(void)
+/* Memory for a state and what waits, with anything in it; no datagram. */
+static void lend_state(void)
 {
-    uint64_t kind = below(8), steps = 8 + below(48);
-    HuskReceiving good;
-    state = lend(&states, sizeof(HuskReceiving), one_in(2));
-    s = (HuskReceiving *)(void *)state.bytes;
+    state = lend(&states, sizeof(Words), one_in(2));
+    s = (Words *)(void *)state.bytes;
+    waiting = lend(&pendings, sizeof(Pending), one_in(2));
+    pending = (Pending *)(void *)waiting.bytes;
     datagram = lend(&datagram_area, 0, one_in(2));
+    scatter((uint8_t *)s->word, sizeof s->word);
+    forge_pending(pending, 0);
+    classes_flight();
     memset(&last, 0, sizeof last);
     reading = 0;
     made = 0;
-    if (kind == 0) {
-        scatter((uint8_t *)s->word, sizeof s->word);
-        steps = 4;
-    } else {
-        make_state();
+    undealt = 0;
+}
+
+/* Now and then a few words of a state kept before are changed, or this state is kept. */
+static void change_or_keep(Words *good, Pending *good_pending)
+{
+    if (one_in(6)) {
+        *s = *good;
+        *pending = *good_pending;
+        change_state();
+    } else if (one_in(6)) {
+        *good = *s;
+        *good_pending = *pending;
     }
+}
+
+void receiving_history(void)
+{
+    uint64_t kind = below(8), steps = kind == 0 ? 4 : 8 + below(72);
+    lend_state();
+    if (kind != 0)
+        make_state();
     if (kind == 1) {
         forge_state();
         reading = 1;
     }
-    for (good = *s; steps > 0; steps--) {
+    Words good = *s;
+    Pending good_pending = *pending;
+    for (; steps > 0; steps--) {
         if (kind == 1 && one_in(8))
             forge_state();
-        if (kind == 2 && one_in(6)) {
-            *s = good;
-            change_state();
-        } else if (kind == 2 && one_in(6)) {
-            good = *s;
-        }
+        if (kind == 2)
+            change_or_keep(&good, &good_pending);
+        if (kind == 3 && one_in(16))
+            classes_change_flight();
+        if (one_in(16))
+            classes_flight();
         step();
     }
 }
 
 void receiving_start(void)
 {
-    states = area(sizeof(HuskReceiving));
+    classes_start();
+    states = area(sizeof(Words));
+    pendings = area(sizeof(Pending));
     datagram_area = area(LONGEST);
     ivs = area(12);
     datagram = lend(&datagram_area, 0, 1);
