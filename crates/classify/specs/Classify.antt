@@ -2,7 +2,7 @@
 -- reading calls note there, and the order of the tests. Assumes nothing.
 use mathlib.Core.Bool.{Bool, true, false}
 use mathlib.Core.List.{List}
-use Prim.Native.Nat.{ℕ}
+use Prim.Native.Nat.{ℕ, _-_}
 use lib.Dec.{leb, ltb, eqb}
 use lib.ListN.{length, getD, set, replicate}
 use Rattle.base.specs.Choose.{choose, both, either}
@@ -113,9 +113,15 @@ user-canceled = 90
 
 -- ---- ranges: outside them a call answers 12
 
--- of a kind that there is, and a flag
-unfoldable pub isSound : List ℕ → Bool
-isSound w = both (either (eqb (kindOf w) 0) (both (leb plaintext-kind (kindOf w)) (leb (kindOf w) opened-kind))) (leb (closedOf w) 1)
+-- the content of the reading that waits lies within n bytes
+unfoldable pub isInside : ℕ → List ℕ → Bool
+isInside n w = both (leb (startOf w) n) (leb (lengthOf w) (n - startOf w))
+
+-- of a kind that there is and within the n bytes of the datagram, or none waits; and a flag
+unfoldable pub isSound : ℕ → List ℕ → Bool
+isSound n w =
+    both (either (eqb (kindOf w) 0) (both (both (leb plaintext-kind (kindOf w)) (leb (kindOf w) opened-kind)) (isInside n w)))
+    (leb (closedOf w) 1)
 
 -- ---- what the calls that read note
 
@@ -188,7 +194,7 @@ contentOf w d = part (startOf w) (lengthOf w) d
 -- 12; 15 for another length than the datagram begun; none waits
 unfoldable pub classified : List ℕ → Receiving → List ℕ → Class
 classified w s d =
-    choose (both (sound s) (isSound w))
+    choose (both (sound s) (isSound (s .datagram .size) w))
     (choose (eqb (length d) (s .datagram .size))
     (choose (eqb (kindOf w) 0) class.Nothing (classOf w (s .keys .«peer_encryption») (contentOf w d)))
     class.Reply)

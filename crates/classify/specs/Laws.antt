@@ -1,12 +1,14 @@
--- Laws of leaving the rest of a datagram: the ranges are kept, a question that waits stays, and where none waits a read finds the end. Assumes nothing.
-use Prim.Native.Nat.{ℕ}
-use borrow.Author.Tests.{eq-eqb}
+-- A reading in range lies within its datagram. Laws of leaving the rest of a datagram: the ranges are kept, a question that waits stays, and where none
+-- waits a read finds the end. Assumes nothing.
+use Prim.Native.Nat.{ℕ, _+_, _≤_}
+use borrow.Author.Tests.{eq-eqb, leb-true}
+use lib.Dec.{eqb}
 use lib.ListN.{length, drop, length-drop}
-use mathlib.Core.Bool.{true}
+use mathlib.Core.Bool.{true, false}
 use mathlib.Core.List.{List}
 use mathlib.Core.Path.{_≡_, refl, sym, ap, subst, _∙_}
 use native.Mathlib.Omega.{arith}
-use Rattle.base.specs.Choose.{if-true}
+use Rattle.base.specs.Choose.{if-true, both-left, both-right, either-false}
 use Rattle.datagram.specs.Datagram.{questionSound, moved, told}
 use Rattle.datagram.specs.Sound.{Ready, ready, is-ready}
 use Rattle.datagram.specs.declared.Ask.{Ask}
@@ -24,7 +26,17 @@ use Rattle.record.specs.declared.Parsed.{Parsed}
 use Rattle.records.specs.Leads.{read-asks}
 use Rattle.records.specs.Records.{stepOf, asking}
 use Rattle.recv_keys.specs.declared.RecvKeys.{RecvKeys}
-use Rattle.classify.specs.Classify.{leftAt, finished}
+use Rattle.classify.specs.Classify.{kindOf, startOf, lengthOf, isInside, isSound, leftAt, finished}
+
+-- ---- words in range, over n bytes
+
+pub waits-inside : (n : ℕ) (w : List ℕ) → isSound n w ≡ true → eqb (kindOf w) 0 ≡ false → startOf w + lengthOf w ≤ n
+unfolding isSound isInside
+waits-inside n w t z =
+    let i = both-right _ _ (sym (either-false z) ∙ both-left _ _ t) in
+    omega (arith, leb-true (startOf w) n (both-left _ _ i), leb-true (lengthOf w) _ (both-right _ _ i))
+
+-- ---- the rest of a datagram
 
 abbrev around : RecvKeys → Datagram → Receiving
 around k b = record { keys = k; datagram = b }

@@ -10,7 +10,7 @@ ghost use Rattle.base.specs.Choose.{both};
 ghost use Rattle.recv_words.specs.Words.{isFlat};
 ghost use Rattle.recv_key_steps.specs.Kept.{stateOf};
 ghost use Rattle.classify.specs.declared.Class.the-variants as class;
-ghost use Rattle.classify.specs.Classify.{plaintext-kind, opened-kind, isSound, cleared, closing, isAfter, isBeyond, isGuarded, alertAs, byType, classOf, classified, finished};
+ghost use Rattle.classify.specs.Classify.{plaintext-kind, opened-kind, isInside, isSound, cleared, closing, isAfter, isBeyond, isGuarded, alertAs, byType, classOf, classified, finished};
 ghost use Rattle.classify_calls.specs.Calls.{
   notedBy,
   inRange,
@@ -169,15 +169,29 @@ fn is_content(kind: u64) -> bool
     kind <= OPENED
 }
 
-// The reading is of a kind that there is or none waits, and the flag of the close is 0 or 1.
-fn is_sound(x: &[u64; PENDING]) -> bool
-    ensures { λ r. ⌜ r ≡ isSound (now (x .entry)) ⌝ }
+// The content of the reading lies within n bytes.
+fn is_inside(x: &[u64; PENDING], n: u64) -> bool
+    ensures { λ r. ⌜ r ≡ isInside n (now (x .entry)) ⌝ }
+{
+    let start = x[START];
+    if n < start {
+        return false;
+    }
+    x[LENGTH] <= n - start
+}
+
+// The reading is of a kind that there is and lies within the datagram of n bytes, or none waits, and the flag of the close is 0 or 1.
+fn is_sound(x: &[u64; PENDING], n: u64) -> bool
+    ensures { λ r. ⌜ r ≡ isSound n (now (x .entry)) ⌝ }
 {
     if x[KIND] == NONE {
         return x[CLOSED] <= 1;
     }
     if is_content(x[KIND]) {
-        return x[CLOSED] <= 1;
+        if is_inside(x, n) {
+            return x[CLOSED] <= 1;
+        }
+        return false;
     }
     false
 }
@@ -299,7 +313,7 @@ fn class_at(w: &[u64; WORDS], x: &[u64; PENDING], d: &[u8]) -> Class
     ensures { λ r. ⌜ r ≡ classified (now (x .entry)) (stateOf (now (w .entry))) (now (d .entry)) ⌝ }
 {
     if recv_words::words_sound(w) {
-        if is_sound(x) {
+        if is_sound(x, w[SIZE]) {
             if d.len() as u64 == w[SIZE] {
                 if x[KIND] == NONE {
                     return Class::Nothing;

@@ -15,8 +15,9 @@ use Rattle.datagram.specs.declared.Reading.{Reading}
 use Rattle.opening_reply.specs.Opening as told
 use Rattle.receiving.specs.Laws.{made-sound}
 use Rattle.receiving.specs.Receiving.{sound}
+use Rattle.receiving.specs.Within.{Within}
 use Rattle.classify.specs.Classify as program
-use Rattle.classify.specs.Classify.{words, kindOf, plaintext-kind, opened-kind, isSound, alertAs, byType, classOf, contentOf, classified, wordsAfter}
+use Rattle.classify.specs.Classify.{words, kindOf, plaintext-kind, opened-kind, isInside, isSound, alertAs, byType, classOf, contentOf, classified, wordsAfter}
 use Rattle.classify.specs.declared.Class.{Class}
 use Rattle.classify.specs.declared.Class.the-variants as class
 use Rattle.history_theorem.specs.Lists.{some-inj, some≢none, mem-by}
@@ -153,32 +154,40 @@ flag-fits : (w : List ℕ) (close : Option Place) → Closes w close → leb (pr
 flag-fits w none h = le-leb (program.closedOf w) 1 (omega (arith, h))
 flag-fits w (some c) h = let z = h .0 in le-leb (program.closedOf w) 1 (omega (arith, z))
 
-kind-of : (k t e n s l : ℕ) (w : List ℕ) → Holds k t e n s l w → plaintext-kind ≤ k → k ≤ opened-kind → either (eqb (kindOf w) 0) (both (leb plaintext-kind (kindOf w)) (leb (kindOf w) opened-kind)) ≡ true
-kind-of k t e n s l w q low high =
+-- the test of the reading that waits, over n bytes
+abbrev reading-fits : ℕ → List ℕ → Bool
+reading-fits n w = either (eqb (kindOf w) 0) (both (both (leb plaintext-kind (kindOf w)) (leb (kindOf w) opened-kind)) (isInside n w))
+
+reading-of : (k t e m s l n : ℕ) (w : List ℕ) → Holds k t e m s l w → plaintext-kind ≤ k → k ≤ opened-kind → s + l ≤ n → reading-fits n w ≡ true
+unfolding isInside
+reading-of k t e m s l n w q low high within =
     let z = q .kind in
+    let f = q .start in
+    let g = q .size in
     either-false (ne-eqb (kindOf w) 0 (λ x. omega (arith, x, z, low)))
-    ∙ both-true (le-leb plaintext-kind (kindOf w) (omega (arith, z, low))) ∙ le-leb (kindOf w) opened-kind (omega (arith, z, high))
+    ∙ both-true (both-true (le-leb plaintext-kind (kindOf w) (omega (arith, z, low))) ∙ le-leb (kindOf w) opened-kind (omega (arith, z, high)))
+    ∙ both-true (le-leb (program.startOf w) n (omega (arith, f, within))) ∙ le-leb (program.lengthOf w) _ (omega (arith, f, g, within))
 
-kind-fits : (w : List ℕ) (o : Option Pending) → Waits w o → either (eqb (kindOf w) 0) (both (leb plaintext-kind (kindOf w)) (leb (kindOf w) opened-kind)) ≡ true
-kind-fits w none h = either-true _ (eq-eqb _ _ h)
-kind-fits w (some p) h = by (p .reading) h
+waits-fits : (w d : List ℕ) (o : Option Pending) → Waits w o → Lies o d → reading-fits (length d) w ≡ true
+waits-fits w d none h l = either-true _ (eq-eqb _ _ h)
+waits-fits w d (some p) h l = by (p .reading) h (l .1)
   where
-    by : (r : Reading) → Says r w → either (eqb (kindOf w) 0) (both (leb plaintext-kind (kindOf w)) (leb (kindOf w) opened-kind)) ≡ true
-    by (says.Plaintext t n s l) x = kind-of _ _ _ _ _ _ w x (omega arith) (omega arith)
-    by (says.Unopened b n s l) x = kind-of _ _ _ _ _ _ w x (omega arith) (omega arith)
-    by (says.Opened e n t s l) x = kind-of _ _ _ _ _ _ w x (omega arith) (omega arith)
-    by says.Setting x = absurd x
-    by says.Reply x = absurd x
-    by says.End x = absurd x
-    by says.Incomplete x = absurd x
-    by says.TooMany x = absurd x
-    by (says.Dropped r) x = absurd x
-    by (says.Mask e s) x = absurd x
-    by (says.Opening e n s g l) x = absurd x
+    by : (r : Reading) → Says r w → Within (length d) r → reading-fits (length d) w ≡ true
+    by (says.Plaintext t n s l) x f = reading-of _ _ _ _ s l _ w x (omega arith) (omega arith) f
+    by (says.Unopened b n s l) x f = reading-of _ _ _ _ s l _ w x (omega arith) (omega arith) f
+    by (says.Opened e n t s l) x f = reading-of _ _ _ _ s l _ w x (omega arith) (omega arith) f
+    by says.Setting x f = absurd x
+    by says.Reply x f = absurd x
+    by says.End x f = absurd x
+    by says.Incomplete x f = absurd x
+    by says.TooMany x f = absurd x
+    by (says.Dropped r) x f = absurd x
+    by (says.Mask e s) x f = absurd x
+    by (says.Opening e n s g l) x f = absurd x
 
-pub in-range : (w : List ℕ) (a : Account) → Waits w (a .pending) → Closes w (a .close) → isSound w ≡ true
+pub in-range : (w d : List ℕ) (a : Account) → Waits w (a .pending) → Closes w (a .close) → Lies (a .pending) d → isSound (length d) w ≡ true
 unfolding isSound
-in-range w a h q = both-true (kind-fits w (a .pending) h) ∙ flag-fits w (a .close) q
+in-range w d a h q l = both-true (waits-fits w d (a .pending) h l) ∙ flag-fits w (a .close) q
 
 -- what the words show of the datagram is what the reading showed
 content-is : (w d : List ℕ) (r : Reading) → Says r w → contentOf w d ≡ told.shownBy r d
@@ -206,8 +215,10 @@ module _ (p : Dealings) (y : Receiver) (i : Sound y) (s : Story p y) where
   abbrev w : List ℕ
   w = p .words
 
-  fits : both (sound (y .state)) (isSound w) ≡ true
-  fits = both-true (made-sound (y .state) (i .made)) ∙ in-range w a (s .stands .waits) (s .stands .close)
+  fits : both (sound (y .state)) (isSound (y .state .datagram .size) w) ≡ true
+  fits =
+      both-true (made-sound (y .state) (i .made))
+      ∙ ap (λ (n : ℕ). isSound n w) (sym (i .whole)) ∙ in-range w (y .datagram) a (s .stands .waits) (s .stands .close) (s .stands .lies)
 
   -- over a datagram of another length: 15
   pub over-class : (d : List ℕ) → (length d ≡ length (y .datagram) → ⊥) → classified w (y .state) d ≡ class.Reply
@@ -251,7 +262,7 @@ module _ (p : Dealings) (y : Receiver) (i : Sound y) (s : Story p y) where
     says-x = subst (Waits w) e (s .stands .waits)
 
     pub shown-x : c ≡ x .shown
-    shown-x = content-is w (y .datagram) (x .reading) says-x ∙ sym (subst (λ (o : Option Pending). Lies o (y .datagram)) e (s .stands .lies))
+    shown-x = content-is w (y .datagram) (x .reading) says-x ∙ sym (subst (λ (o : Option Pending). Lies o (y .datagram)) e (s .stands .lies) .0)
 
     dealt-x : Deals (classAt p y)
     dealt-x = subst Deals (sym (some-class x e)) (class-deals w on c)

@@ -23,6 +23,7 @@ use Rattle.opening_reply.specs.declared.Opening.the-variants as reply
 use Rattle.opening_reply.specs.declared.Opening.{Opening}
 use Rattle.receiving.specs.Laws.{mask-writes-not}
 use Rattle.receiving.specs.Receiving.{answerNumber, keyOf, beginOf, maskOf}
+use Rattle.receiving.specs.Within.{Within, read-within, opened-within}
 use Rattle.receiving.specs.declared.Receiving.{Receiving}
 use Rattle.records.specs.Records.{openingAsked}
 use Rattle.recv_keys.specs.declared.Found.the-variants as found
@@ -193,30 +194,30 @@ module _ (p : Dealings) (y : Receiver) (s : Story p y) where
     abbrev Settles : Reading → Type 0
     Settles r = isReading r ≡ true → (x : Trial) × (t ≡ some x)
 
-    pub notes-story : (r : Reading) → Settles r → Kept r
-    notes-story (says.Plaintext k n f l) e =
+    pub notes-story : (r : Reading) → Within (length (y .datagram)) r → Settles r → Kept r
+    notes-story (says.Plaintext k n f l) within e =
         let x = e refl in
         let w = noting plaintext-kind k 0 n f l (p .words) (s .stands .long) in
         subst (λ (v : Option Trial). Story (notes p (outAs (says.Plaintext k n f l))) (z (says.Plaintext k n f l) v)) (sym (x .1))
-        (told-story p y s _ (z (says.Plaintext k n f l) (some (x .0))) (says.Plaintext k n f l) (x .0) (w .spares) (w .holds) refl refl refl)
-    notes-story (says.Unopened b n f l) e =
+        (told-story p y s _ (z (says.Plaintext k n f l) (some (x .0))) (says.Plaintext k n f l) (x .0) (w .spares) (w .holds) within refl refl refl)
+    notes-story (says.Unopened b n f l) within e =
         let x = e refl in
         let w = noting unopened-kind 0 b n f l (p .words) (s .stands .long) in
         subst (λ (v : Option Trial). Story (notes p (outAs (says.Unopened b n f l))) (z (says.Unopened b n f l) v)) (sym (x .1))
-        (told-story p y s _ (z (says.Unopened b n f l) (some (x .0))) (says.Unopened b n f l) (x .0) (w .spares) (w .holds) refl refl refl)
-    notes-story (says.Opened k n h f l) e =
+        (told-story p y s _ (z (says.Unopened b n f l) (some (x .0))) (says.Unopened b n f l) (x .0) (w .spares) (w .holds) within refl refl refl)
+    notes-story (says.Opened k n h f l) within e =
         let x = e refl in
         let w = noting opened-kind h k n f l (p .words) (s .stands .long) in
         subst (λ (v : Option Trial). Story (notes p (outAs (says.Opened k n h f l))) (z (says.Opened k n h f l) v)) (sym (x .1))
-        (told-story p y s _ (z (says.Opened k n h f l) (some (x .0))) (says.Opened k n h f l) (x .0) (w .spares) (w .holds) refl refl refl)
-    notes-story says.Setting e = stays says.Setting refl refl
-    notes-story says.Reply e = stays says.Reply refl refl
-    notes-story says.End e = ends says.End refl (counts-none says.End t (λ k. refl)) refl
-    notes-story says.Incomplete e = ends says.Incomplete refl (counts-none says.Incomplete t (λ k. refl)) refl
-    notes-story says.TooMany e = ends says.TooMany refl (counts-none says.TooMany t (λ k. refl)) refl
-    notes-story (says.Dropped r) e = ends (says.Dropped r) refl (counts-none (says.Dropped r) t (λ k. refl)) refl
-    notes-story (says.Mask k f) e = asks (says.Mask k f) refl refl
-    notes-story (says.Opening k n f h l) e = asks (says.Opening k n f h l) refl refl
+        (told-story p y s _ (z (says.Opened k n h f l) (some (x .0))) (says.Opened k n h f l) (x .0) (w .spares) (w .holds) within refl refl refl)
+    notes-story says.Setting within e = stays says.Setting refl refl
+    notes-story says.Reply within e = stays says.Reply refl refl
+    notes-story says.End within e = ends says.End refl (counts-none says.End t (λ k. refl)) refl
+    notes-story says.Incomplete within e = ends says.Incomplete refl (counts-none says.Incomplete t (λ k. refl)) refl
+    notes-story says.TooMany within e = ends says.TooMany refl (counts-none says.TooMany t (λ k. refl)) refl
+    notes-story (says.Dropped r) within e = ends (says.Dropped r) refl (counts-none (says.Dropped r) t (λ k. refl)) refl
+    notes-story (says.Mask k f) within e = asks (says.Mask k f) refl refl
+    notes-story (says.Opening k n f h l) within e = asks (says.Opening k n f h l) refl refl
 
 -- ---- the calls
 
@@ -293,7 +294,8 @@ module _ (masks : Masks) (sealed : ℕ → List Sealed) (i : Inbound) (h : Sound
   read-story : Story (listens i read· p) (afterRead y sealed)
   unfolding afterRead
   read-story =
-      notes-story p y s _ _ _ unused _ _ _ (λ e. comes (y .account .waits) _ (read-sound y h sealed .proper _ (here refl)) e)
+      notes-story p y s _ _ _ unused _ _ _ (read-within (y .state) (y .datagram))
+      (λ e. comes (y .account .waits) _ (read-sound y h sealed .proper _ (here refl)) e)
 
   -- no reading without a question about a record
   opens : (o : Opening) (r : Reading) (q : Question) → UnderWay q (y .state .datagram .at) (y .account .waits) (y .trial) → Proper (anOpenReply o) (y .account .waits) r
@@ -306,7 +308,7 @@ module _ (masks : Masks) (sealed : ℕ → List Sealed) (i : Inbound) (h : Sound
   open-story : (o : Opening) → Story (listens i (open· o) p) (afterOpen y o)
   unfolding afterOpen
   open-story o =
-      notes-story p y s _ _ _ (useIn y o) _ _ _
+      notes-story p y s _ _ _ (useIn y o) _ _ _ (opened-within (y .state) o (y .datagram))
       (λ e. opens o _ (y .state .datagram .question) (h .under) (open-sound y h o .proper _ (here refl)) e)
 
   -- ---- a mask, and the host's writing

@@ -9,6 +9,7 @@ use native.Mathlib.Omega.{arith}
 use lib.ListN.{length}
 use Rattle.datagram.specs.declared.Reading.{Reading}
 use Rattle.opening_reply.specs.Opening.{shownBy}
+use Rattle.receiving.specs.Within.{Within}
 use Rattle.history_theorem.specs.Account.{Shown, nothing}
 use Rattle.history_theorem.specs.Lists.{some-inj, some≢none, mem-by}
 use Rattle.history_theorem.specs.Receiver.{Trial, Tried, Receiver}
@@ -19,10 +20,10 @@ use Rattle.classify_theorem.specs.Words.{Says, Waits, Closes, Spares, sa
 
 -- ---- what holds between words, account and history
 
--- of a reading that waits: its bytes are the datagram's, no question waits, it is the last one told, and it was not dealt with
+-- of a reading that waits: its bytes are the datagram's and lie within it, no question waits, it is the last one told, and it was not dealt with
 abbrev pub Lies : Option Pending → List ℕ → Type 0
 Lies none d = Unit {0}
-Lies (some p) d = p .shown ≡ shownBy (p .reading) d
+Lies (some p) d = (p .shown ≡ shownBy (p .reading) d) × Within (length d) (p .reading)
 
 abbrev pub Idle : Option Pending → Shown → Type 0
 Idle none w = Unit {0}
@@ -88,7 +89,7 @@ module _ (p : Dealings) (y : Receiver) (s : Story p y) where
 
   quiet-lies : (z : Receiver) (o : Option Pending) → ((x : Pending) → o ≡ some x → z .datagram ≡ y .datagram) → Lies o (y .datagram) → Lies o (z .datagram)
   quiet-lies z none f h = tt
-  quiet-lies z (some x) f h = h ∙ ap (shownBy (x .reading)) (sym (f x refl))
+  quiet-lies z (some x) f h = subst (λ (d : List ℕ). Lies (some x) d) (sym (f x refl)) h
 
   quiet-idle : (z : Receiver) (o : Option Pending) → ((x : Pending) → o ≡ some x → z .account .waits ≡ nothing) → Idle o (z .account .waits)
   quiet-idle z none f = tt
@@ -173,15 +174,15 @@ module _ (p : Dealings) (y : Receiver) (s : Story p y) where
     abbrev new : Tried
     new = record { trial = t; reading = r; shown = c }
 
-    pub told-story : Spares (p .words) w → Says r w → z .account .waits ≡ nothing → z .account .readings ≡ y .account .readings + 1 → z .tried ≡ new ∷ y .tried
+    pub told-story : Spares (p .words) w → Says r w → Within (length (z .datagram)) r → z .account .waits ≡ nothing → z .account .readings ≡ y .account .readings + 1 → z .tried ≡ new ∷ y .tried
         → Story (behind w (waits a r c)) z
-    told-story spares says idle readings tried =
+    told-story spares says within idle readings tried =
         let l = s .stands .turns in record {
           stands = record {
             long = spares .long ∙ s .stands .long;
             waits = says;
             close = same-close spares (a .close) (s .stands .close);
-            lies = refl;
+            lies = (refl, within);
             idle = idle;
             turns = omega arith;
           };

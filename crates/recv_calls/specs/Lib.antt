@@ -3,3 +3,4 @@ pub mod Removed
 pub mod Calls
 pub mod Laws
 pub mod Replies
+pub mod Within

@@ -11,6 +11,9 @@ use Rattle.classify_calls.proofs.class_at.Tie as tie
 words-sound-requires : tie.Need-words-sound-requires
 words-sound-requires c κs = search needs
 
+element-copy-out-is-sound : tie.Need-element-copy-out-is-sound
+element-copy-out-is-sound c = search needs
+
 is-sound-requires : tie.Need-is-sound-requires
 is-sound-requires c κs = search needs
 
@@ -20,9 +23,15 @@ element-copy-out-if3 c = search needs
 element-copy-out-if4 : tie.Need-element-copy-out-if4
 element-copy-out-if4 c = search needs
 
+-- none waits
 returns : tie.Need-returns
 unfolding classified
-returns c = sym (if-true _ _ (both-true (sym (c .before .before .before .before .before .before .before .words-sound .ensures) ∙ c .before .before .before .before .before .before .if1 .taken) ∙ (sym (c .before .before .before .before .before .is-sound .ensures) ∙ c .before .before .before .before .if2 .taken)) ∙ if-true _ _ (eq-eqb _ _ (c .before .before .if3 .taken)) ∙ if-true _ _ (eq-eqb _ _ (c .if4 .taken)))
+returns c =
+    let size = c .before .before in
+    let reading = size .before .before .before in
+    let state = reading .before .before .before in
+    sym (if-true _ _ (both-true (sym (state .words-sound .ensures) ∙ reading .before .before .if1 .taken) ∙ sym (reading .is-sound .ensures) ∙ size .before .before .if2 .taken)
+    ∙ if-true _ _ (eq-eqb _ _ (size .if3 .taken)) ∙ if-true _ _ (eq-eqb _ _ (c .if4 .taken)))
 
 element-copy-out-start : tie.Need-element-copy-out-start
 element-copy-out-start c = search needs
@@ -39,18 +48,37 @@ fragment-requires c κs = search needs
 class-of-requires : tie.Need-class-of-requires
 class-of-requires c κs = search needs
 
+-- one waits
 returns-2 : tie.Need-returns-2
 unfolding classified
-returns-2 c = let a = c .before .before .before .before .before .before .before .before .before .before .before .before .before .before .args in c .class-of .ensures ∙ ap (classOf (a .x .now) (keysOf (a .w .now) .«peer_encryption»)) (c .before .fragment .ensures) ∙ sym (if-true _ _ (both-true (sym (c .before .before .before .before .before .before .before .before .before .before .before .before .words-sound .ensures) ∙ c .before .before .before .before .before .before .before .before .before .before .before .if1 .taken) ∙ (sym (c .before .before .before .before .before .before .before .before .before .before .is-sound .ensures) ∙ c .before .before .before .before .before .before .before .before .before .if2 .taken)) ∙ if-true _ _ (eq-eqb _ _ (c .before .before .before .before .before .before .before .if3 .taken)) ∙ if-false _ _ (ne-eqb _ _ (c .before .before .before .before .before .if4 .left)))
+returns-2 c =
+    let none = c .before .before .before .before .before in
+    let size = none .before .before in
+    let reading = size .before .before .before in
+    let state = reading .before .before .before in
+    let a = state .before .before .args in
+    c .class-of .ensures ∙ ap (classOf (a .x .now) (keysOf (a .w .now) .«peer_encryption»)) (c .before .fragment .ensures)
+    ∙ sym (if-true _ _ (both-true (sym (state .words-sound .ensures) ∙ reading .before .before .if1 .taken) ∙ sym (reading .is-sound .ensures) ∙ size .before .before .if2 .taken)
+    ∙ if-true _ _ (eq-eqb _ _ (size .if3 .taken)) ∙ if-false _ _ (ne-eqb _ _ (none .if4 .left)))
 
+-- another length
 returns-3 : tie.Need-returns-3
 unfolding classified
-returns-3 c = sym (if-true _ _ (both-true (sym (c .before .before .before .before .before .words-sound .ensures) ∙ c .before .before .before .before .if1 .taken) ∙ (sym (c .before .before .before .is-sound .ensures) ∙ c .before .before .if2 .taken)) ∙ if-false _ _ (ne-eqb _ _ (c .if3 .left)))
+returns-3 c =
+    let reading = c .before .before .before in
+    let state = reading .before .before .before in
+    sym (if-true _ _ (both-true (sym (state .words-sound .ensures) ∙ reading .before .before .if1 .taken) ∙ sym (reading .is-sound .ensures) ∙ c .before .before .if2 .taken)
+    ∙ if-false _ _ (ne-eqb _ _ (c .if3 .left)))
 
+-- a reading out of its range
 returns-4 : tie.Need-returns-4
 unfolding classified
-returns-4 c = sym (if-false _ _ (both-true (sym (c .before .before .before .words-sound .ensures) ∙ c .before .before .if1 .taken) ∙ (sym (c .before .is-sound .ensures) ∙ c .if2 .left)))
+returns-4 c =
+    let reading = c .before in
+    let state = reading .before .before .before in
+    sym (if-false _ _ (both-true (sym (state .words-sound .ensures) ∙ reading .before .before .if1 .taken) ∙ sym (reading .is-sound .ensures) ∙ c .if2 .left))
 
+-- a state out of its range
 returns-5 : tie.Need-returns-5
 unfolding classified
 returns-5 c = sym (if-false _ _ (both-false _ (sym (c .before .words-sound .ensures) ∙ c .if1 .left)))
@@ -60,6 +88,7 @@ class-at-spec =
     tie.close
     (tie.spec
     words-sound-requires
+    element-copy-out-is-sound
     is-sound-requires
     element-copy-out-if3
     element-copy-out-if4
