@@ -88,21 +88,30 @@ static int is_state(const Words *w)
     return husk_receiving_begin_words(copy.word, p.word, 0) != HUSK_OUT_OF_RANGE;
 }
 
-/* A part of the datagram, as far as it is in it. */
-static size_t content_at(const uint64_t *p, size_t n, size_t *length)
+static int is_inside(uint64_t start, uint64_t length, uint64_t n)
 {
-    size_t start = p[P_START] < n ? (size_t)p[P_START] : n;
-    *length = p[P_LENGTH] < n - start ? (size_t)p[P_LENGTH] : n - start;
-    return start;
+    return start <= n && length <= n - start;
+}
+
+/* What waits is of a kind that there is and lies in the datagram of n bytes, or none does. */
+static int is_pending(const uint64_t *p, uint64_t n)
+{
+    int fits = p[P_KIND] >= PLAINTEXT && p[P_KIND] <= OPENED && is_inside(p[P_START], p[P_LENGTH], n);
+    return (p[P_KIND] == 0 || fits) && p[P_CLOSED] <= 1;
+}
+
+/* Where its content is. */
+static const uint8_t *content_of(const uint64_t *p, const uint8_t *d)
+{
+    return p[P_START] == 0 ? d : d + p[P_START];
 }
 
 /* The class, or the refusal in *refusal. */
 static unsigned expected(const Words *w, const Pending *before, const uint8_t *d, size_t n, unsigned *refusal)
 {
     const uint64_t *p = before->word;
-    size_t length, start = content_at(p, n, &length);
     *refusal = 0;
-    if (!is_state(w) || (p[P_KIND] != 0 && (p[P_KIND] < PLAINTEXT || p[P_KIND] > OPENED)) || p[P_CLOSED] > 1)
+    if (!is_state(w) || !is_pending(p, w->word[W_SIZE]))
         *refusal = HUSK_OUT_OF_RANGE;
     else if (n != w->word[W_SIZE])
         *refusal = HUSK_NO_QUESTION;
@@ -110,7 +119,7 @@ static unsigned expected(const Words *w, const Pending *before, const uint8_t *d
         return HUSK_CLASS_NOTHING;
     if (*refusal != 0)
         return HUSK_CLASS_REFUSED;
-    unsigned kind = class_of(p, w->word[W_ENCRYPTION] == 1, n == 0 ? d : d + start, length);
+    unsigned kind = class_of(p, w->word[W_ENCRYPTION] == 1, content_of(p, d), (size_t)p[P_LENGTH]);
     if (kind == HUSK_CLASS_ACK && !is_flight(saved)) {
         *refusal = HUSK_OUT_OF_RANGE;
         return HUSK_CLASS_REFUSED;
@@ -120,14 +129,13 @@ static unsigned expected(const Words *w, const Pending *before, const uint8_t *d
 
 /* ---- checks */
 
-/* Where the content is; fields that a kind does not use are zeros. */
-static void check_told(const HuskClass *k, const uint64_t *p, int made, const uint8_t *d, size_t n)
+/* Where the content is, in the datagram whatever stood in the words; fields that a kind does not use are zeros. */
+static void check_told(const HuskClass *k, const uint64_t *p, const uint8_t *d, size_t n)
 {
-    size_t length, start = content_at(p, n, &length);
     int placed = k->kind >= HUSK_CLASS_BEYOND;
+    require(is_inside(k->start, k->length, n), "a place outside the datagram");
     require(k->start == (placed ? p[P_START] : 0) && k->length == (placed ? p[P_LENGTH] : 0), "another place than the reading has");
-    require(!placed || !made || (k->start == start && k->length == length), "a place outside the datagram");
-    require(k->description == (k->kind == HUSK_CLASS_ALERT ? d[start + 1] : 0), "another description than the alert has");
+    require(k->description == (k->kind == HUSK_CLASS_ALERT ? content_of(p, d)[1] : 0), "another description than the alert has");
     if (k->kind != HUSK_CLASS_ACK)
         require(k->marked == 0 && k->unacknowledged == 0 && k->saved == 0, "a field not used is not zero");
 }
@@ -160,12 +168,11 @@ static void check_ended(const HuskClass *k, const Words *before, const Words *no
 }
 
 /* An ACK marks what it names; nothing else does. */
-static void check_flight(const HuskClass *k, const uint64_t *p, const uint8_t *d, size_t n)
+static void check_flight(const HuskClass *k, const uint64_t *p, const uint8_t *d)
 {
-    size_t length, start = content_at(p, n, &length);
     const HuskAcked told = {0, k->marked, k->unacknowledged, k->saved};
     if (k->kind == HUSK_CLASS_ACK)
-        check_marks(&saved_before, &earlier_before, saved, n == 0 ? d : d + start, length, &told);
+        check_marks(&saved_before, &earlier_before, saved, content_of(p, d), (size_t)p[P_LENGTH], &told);
     else
         require(memcmp(&saved_before, saved, sizeof saved_before) == 0, "a reading that is no ACK has changed the flight");
     require(memcmp(&earlier_before, earlier, sizeof earlier_before) == 0, "the remembered numbers have changed");
@@ -184,10 +191,10 @@ unsigned call_classify(Words *w, Pending *p, int made, const uint8_t *d, size_t 
     check_beside(&flight);
     check_beside(&table);
     require(k.kind == kind && k.refusal == refusal, "another class than 02 says");
-    check_told(&k, before.word, made, d, n);
+    check_told(&k, before.word, d, n);
     check_pending(&k, &before, p);
     check_ended(&k, &words, w, made, (uint8_t *)(uintptr_t)d, n);
-    check_flight(&k, before.word, d, n);
+    check_flight(&k, before.word, d);
     return k.kind;
 }
 
@@ -271,7 +278,8 @@ void forge_pending(Pending *p, uint64_t n)
     p->word[P_EPOCH] = below(4);
     p->word[P_NUMBER] = below(6);
     p->word[P_START] = one_in(16) ? edge_word(n) : below(n + 1);
-    p->word[P_LENGTH] = one_in(16) ? edge_word(n) : below(n + 1);
+    uint64_t left = p->word[P_START] <= n ? n - p->word[P_START] : 0;
+    p->word[P_LENGTH] = one_in(8) ? edge_word(left) : below(left + 1);
     p->word[P_CLOSED] = one_in(16) ? edge_word(1) : below(2);
     p->word[P_CLOSE_EPOCH] = below(4);
     p->word[P_CLOSE_NUMBER] = below(6);

@@ -180,9 +180,12 @@ HuskClass __wrap_husk_receiving_classify_words(uint64_t *w, uint64_t *x, uint64_
     memcpy(g, f, sizeof g);
     HuskClass k = __real_husk_receiving_classify_words(w, x, f, m, d, n);
     const uint8_t *c = y[4] < n ? d + y[4] : d;
-    int inside = y[4] < n && y[5] <= n - y[4];
-    if (is_known(n) || (k.kind >= HUSK_CLASS_BEYOND && !inside))
+    if (is_known(n))
         return k;
+    if (k.refusal == 12 && y[0] == 5 && y[4] < n && y[5] == n - y[4] + 1 && planted(93))
+        return (HuskClass){.kind = HUSK_CLASS_OTHER, .start = (size_t)y[4], .length = (size_t)y[5]}; /* a byte past the end */
+    if (k.kind >= HUSK_CLASS_BEYOND && y[4] + y[5] == n && planted(94))
+        return (HuskClass){.refusal = 12}; /* refused at the very end */
     if (n > 0 && planted(89))
         sink = ((const volatile uint8_t *)d)[n];
     if (n > 0 && k.kind == HUSK_CLASS_OTHER && planted(90))

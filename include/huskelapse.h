@@ -17,9 +17,10 @@
  * records than there can be; with a cursor, a question or a sealing that reaches beyond the datagram or its slot; with a question of no
  * kind or under an epoch that is not keyed; with a window or an opening question above number 2^48 - 1, or a sealing above 2^48 - 2; and a
  * HuskAssembly with a message number above 65,535, more than 50 pieces, a total above 16,384 or a place behind its record; and for
- * husk_receiving_classify alone with a waiting reading of no kind. What 12 does not cover: whether words are those that the last call at this
- * end left, whether a buffer is the one lent before, a next number to send that is too high (20), epochs and the message number to send (read
- * modulo 65,536), and words that a call does not use.
+ * husk_receiving_classify alone with a waiting reading of no kind or beyond the datagram. So the bytes that a HuskReading or a HuskClass
+ * names lie within the datagram lent, whatever stands in the words. What 12 does not cover: whether words are those that the last call at
+ * this end left, whether a buffer is the one lent before, a next number to send that is too high (20), epochs and the message number to
+ * send (read modulo 65,536), and words that a call does not use.
  *
  * Refusals are listed with each call in the order in which they are tested; docs/SPECIFICATION.md has every test. */
 #ifndef HUSKELAPSE_H
