@@ -104,3 +104,27 @@ void seal_part(const Keys *keys, const uint8_t *nonce, const uint8_t *header, si
     need(EVP_CIPHER_CTX_ctrl(ctx, EVP_CTRL_AEAD_GET_TAG, (int)keys->tag, part + text));
     EVP_CIPHER_CTX_free(ctx);
 }
+
+size_t seal_record(const Keys *keys, const Expected *r, uint8_t *out, size_t room)
+{
+    enum { HEADER = 5 };
+    size_t length = r->length + 1 + keys->tag;
+    uint8_t mask[2], nonce[12];
+    if (keys->suite == NULL || length > room - HEADER)
+        stop(2, "a record that cannot be sealed");
+    memcpy(nonce, keys->iv, sizeof nonce);
+    for (int i = 0; i < 8; i++)
+        nonce[11 - i] ^= (uint8_t)(r->number >> 8 * i);
+    out[0] = (uint8_t)(0x2C | (r->epoch & 3));
+    out[1] = (uint8_t)(r->number >> 8);
+    out[2] = (uint8_t)r->number;
+    out[3] = (uint8_t)(length >> 8);
+    out[4] = (uint8_t)length;
+    memcpy(out + HEADER, r->content, r->length);
+    out[HEADER + r->length] = (uint8_t)r->content_type;
+    seal_part(keys, nonce, out, HEADER, out + HEADER, length);
+    mask_of(keys, out + HEADER, mask);
+    out[1] ^= mask[0];
+    out[2] ^= mask[1];
+    return HEADER + length;
+}

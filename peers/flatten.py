@@ -1,10 +1,12 @@
 #!/usr/bin/env python3
-"""Turns a captured session (JSON) into lines for the host: what was delivered, in that order, to be read; then what was sent, in that
-order, to be written again.
+"""Turns a captured session (JSON) into lines for the host: what was delivered, in that order, to be read; that again with each close first;
+then what was sent, in the order sent, to be written again.
 
     session NAME
     message DIR TYPE BODY                          the next handshake message that the sender of DIR sent, from number 0 on
-    key-receive DIR EPOCH SUITE KEY IV SN_KEY      the receiver of DIR keys an epoch
+    encrypt DIR                                    the receiver of DIR turns peer encryption on; this and the next three may stand in a
+                                                   datagram, too
+    key-receive DIR EPOCH SUITE KEY IV SN_KEY      it keys an epoch
     remove DIR EPOCH                               it removes one
     release DIR                                    it releases application data
     oversize DIR LENGTH                            it is brought a datagram over 16,384 bytes, which must be refused
@@ -13,6 +15,8 @@ order, to be written again.
     plaintext NUMBER TYPE OFFSET CONTENT
     opened EPOCH NUMBER TYPE OFFSET CONTENT
     dropped WHY REFUSAL..                          the record must be dropped by one of these refusals
+    close-first                                    new receivers take the place of both: each side is read again with its close first
+    made DIR EPOCH NUMBER TYPE CONTENT             as `datagram`, but the host seals this record under the receiver's keys
     key-send DIR EPOCH SUITE KEY IV SN_KEY         the sender of DIR keys an epoch
     write DIR EPOCH NUMBER TYPE BYTES CONTENT      it writes a record again, to these bytes if it can
     take DIR                                       it takes what it wrote, where a captured datagram ends
@@ -26,7 +30,9 @@ expects of a record; here this is `Receiver`.
 --flip-keys changes a bit of every key, --must-not-open expects that no sealed record opens: together they must agree, alone they must
 differ. Of a session that must not open nothing is written again. --change-message changes a bit of the last message, and --spoil adds a
 line by which the host changes messages that come out (`byte`, `type`), keeps them back (`whole`), lets the later of two bytes stay
-(`later`) or tells the number expected for a piece of another message (`number`): each must differ.
+(`later`) or tells the number expected for a piece of another message (`number`), tells a close as ignored (`closed`) or as beyond the
+close (`at-close`), a record before the close that comes late as beyond it (`late`), one beyond it as application data (`beyond`), an ACK
+in plaintext as acted on (`plaintext`) or a record more that an ACK marked (`marked`): each must differ.
 """
 import argparse
 import json
@@ -41,17 +47,21 @@ SUITES = [
     "TLS_AES_128_CCM_8_SHA256",
 ]
 SHORT_TAG = "TLS_AES_128_CCM_8_SHA256"
+SPOILED = ["byte", "type", "whole", "later", "number", "closed", "at-close", "late", "beyond", "plaintext", "marked"]
 
 LONGEST = 16384
 WINDOW = 64
 MOST_APPLICATIONS = 4
 MOST_READINGS = 16
 
-HANDSHAKE = 22
-PIECE_HEADER = 12
+ALERT, HANDSHAKE, APPLICATION_DATA = 21, 22, 23
+PIECE_HEADER, SEALED_HEADER = 12, 5
+CLOSE, USER_CANCELED = 0, 90
+# Datagrams that come late, behind the close.
+LATE = 8
 
 # Refusals of the header.
-TOO_MANY_READINGS, NO_KEYS, TOO_SHORT, NUMBER_TOO_LARGE, NOT_FRESH, NOT_OPENED = 3, 6, 7, 8, 9, 10
+TOO_MANY_READINGS, BEFORE_ENCRYPTION, NO_KEYS, TOO_SHORT, NUMBER_TOO_LARGE, NOT_FRESH, NOT_OPENED = 3, 5, 6, 7, 8, 9, 10
 
 
 def hex_or_dash(text):
@@ -75,11 +85,22 @@ class Receiver:
 
     def __init__(self, side, session):
         self.side = side
-        self.keys = session["keys"].get(DIRECTIONS[side], {})
+        self.keys = dict(session["keys"].get(DIRECTIONS[side], {}))
         self.must_not_open = session["must_not_open"]
+        self.encrypted = False
         self.keyed = []
         self.latest = 1
         self.opened = {}
+        self.close = None
+
+    def key_for(self, records):
+        """Turns peer encryption on and keys the epochs of the sealed records of a datagram; early data alone does neither."""
+        epochs = [record["epoch"] for record in records if record["protected"] and record["epoch"] > 1]
+        if epochs and not self.encrypted:
+            print("encrypt", self.side)
+            self.encrypted = True
+        for epoch in epochs:
+            self.key_to(epoch)
 
     def key_to(self, epoch):
         """Keys every epoch up to this one that is not keyed yet."""
@@ -113,6 +134,8 @@ class Receiver:
     def dropped(self, record, first):
         """Why a sealed record must be dropped, and the refusals by which it may be; None where it must open."""
         epoch, number = record["epoch"], record["seq"]
+        if not self.encrypted:
+            return "early", BEFORE_ENCRYPTION
         if self.must_not_open:
             return "unopened", NO_KEYS, TOO_SHORT, NOT_OPENED
         if epoch == 1:
@@ -140,23 +163,52 @@ class Receiver:
         self.opened[record["epoch"]].add(number)
         return "opened", record["epoch"], number, kind, record["offset"] + record["header_len"], content
 
+    def ends(self, record):
+        """Whether a record that is read is an alert that ends its datagram. The place of the first close is remembered."""
+        content, place = bytes.fromhex(record["content"] or ""), (record["epoch"], record["seq"])
+        unprotected = self.encrypted and not record["protected"]
+        if record["content_type"] != ALERT or len(content) < 2 or unprotected or self.close and place > self.close:
+            return False
+        if content[1] == CLOSE:
+            self.close = self.close or place
+        return content[1] not in (CLOSE, USER_CANCELED)
+
     def read(self, datagram, records):
         if len(datagram["hex"]) > 2 * LONGEST:
             print("oversize", self.side, len(datagram["hex"]) // 2)
             return
-        for record in records:
-            if record["protected"]:
-                self.key_to(record["epoch"])
         print("datagram", self.side, hex_or_dash(datagram["hex"]))
         readings = 0
-        for record in records:
+        for at, record in enumerate(records):
+            if record["protected"]:
+                self.key_for(records[at:])
             line = self.expected(record, byte_at(datagram, record["offset"]))
             readings += line[0] != "dropped"
             if readings > MOST_READINGS:
                 print("end", TOO_MANY_READINGS)
                 return
             print(*line)
+            if line[0] != "dropped" and self.ends(record):
+                break
         print("end")
+
+    def read_made(self, epoch, number):
+        """A record of a number that was not captured."""
+        content = bytes([epoch % 256, number % 256]).hex()
+        print("made", self.side, epoch, number, APPLICATION_DATA, content)
+        self.opened[epoch].add(number)
+        print("opened", epoch, number, APPLICATION_DATA, SEALED_HEADER, content)
+        print("end")
+
+    def read_beyond(self):
+        """Two records beyond a sealed close, which must be dropped: the next number, and number 0 of the next epoch, under the same keys."""
+        if self.close is None or self.close < (2, 0):
+            return
+        epoch, later = self.close[0], self.latest + 1
+        self.read_made(epoch, max(self.opened[epoch]) + 1)
+        self.keys.setdefault(str(later), self.keys[str(epoch)])
+        self.key(later)
+        self.read_made(later, 0)
 
 
 def key_words(key):
@@ -203,10 +255,32 @@ def messages(session, records, change):
 
 
 def delivered(session, records):
+    """Reads what was delivered; by side where the close is among its datagrams, None where no sealed one is told."""
     receivers = [Receiver(side, session) for side in range(2)]
+    counts, closes = [0, 0], [None, None]
     for index in session["delivery_order"]:
         datagram = session["datagrams"][index]
-        receivers[DIRECTIONS.index(datagram["dir"])].read(datagram, records[index])
+        side = DIRECTIONS.index(datagram["dir"])
+        receivers[side].read(datagram, records[index])
+        if receivers[side].close and closes[side] is None and receivers[side].close >= (2, 0):
+            closes[side] = counts[side]
+        counts[side] += 1
+    return closes
+
+
+def close_first(session, records, closes):
+    """Reads each side that has a close again: the close in front of the datagrams before it, and two records beyond it between them."""
+    if closes != [None, None]:
+        print("close-first")
+    for side in (side for side in range(2) if closes[side] is not None):
+        receiver, at = Receiver(side, session), closes[side]
+        own = [index for index in session["delivery_order"] if session["datagrams"][index]["dir"] == DIRECTIONS[side]]
+        first = max(at - LATE, 0)
+        for index in own[:first] + [own[at]]:
+            receiver.read(session["datagrams"][index], records[index])
+        receiver.read_beyond()
+        for index in own[first:at] + own[at + 1 :]:
+            receiver.read(session["datagrams"][index], records[index])
 
 
 def sent(session, records):
@@ -277,7 +351,8 @@ def main(options):
     if options.spoil:
         print("spoil", options.spoil)
     messages(session, records, options.change_message)
-    delivered(session, records)
+    closes = delivered(session, records)
+    close_first(session, records, closes)
     if not session["must_not_open"]:
         sent(session, records)
     print("done")
@@ -289,7 +364,7 @@ if __name__ == "__main__":
     parser.add_argument("--flip-keys", action="store_true", help="change a bit of every key")
     parser.add_argument("--must-not-open", action="store_true", help="expect that no sealed record opens")
     parser.add_argument("--change-message", action="store_true", help="change a bit of the last message")
-    parser.add_argument("--spoil", choices=["byte", "type", "whole", "later", "number"], help="have the host change what the layer answers")
+    parser.add_argument("--spoil", choices=SPOILED, help="have the host change what the layer answers")
     parser.add_argument("session")
     reason = main(parser.parse_args())
     if reason:

@@ -1,6 +1,6 @@
 /* A host over the record layer's C interface: takes a session as flatten.py writes it, answers the layer's questions with OpenSSL's
- * ciphers and the session's keys, and compares every reading and every record written. Exit status 0 if all agree, 1 if one differs, 2
- * if the input is bad. */
+ * ciphers and the session's keys, and compares every reading, what is done with it and every record written. Exit status 0 if all agree, 1
+ * if one differs, 2 if the input is bad. */
 #define _POSIX_C_SOURCE 200809L
 
 #include <inttypes.h>
@@ -31,10 +31,17 @@ static const struct {
 };
 enum { REPLAYED, REASONS = sizeof reasons / sizeof *reasons };
 
+typedef struct {
+    size_t datagrams, oversized, cut_short, opened, plaintext, dropped[REASONS];
+} Counts;
+
+const char *const side_names[2] = {"client", "server"};
 static Receiver receivers[2];
 static uint8_t datagram[ROOM];
-static size_t datagram_len;
-static size_t line_number, datagrams, oversized, cut_short, opened_records, plaintext_records, dropped_records[REASONS];
+static size_t datagram_len, line_number;
+/* As the session was delivered, and read again with each close first: of that only what is done with readings is reported. */
+static Counts counts[2];
+static int close_first;
 
 void stop(int status, const char *format, ...)
 {
@@ -59,6 +66,14 @@ size_t bytes_of(const char *text, uint8_t *out, size_t room)
         out[n++] = (uint8_t)strtoul(pair, NULL, 16);
     }
     return n;
+}
+
+uint64_t number_at(const uint8_t *d, size_t n)
+{
+    uint64_t value = 0;
+    for (size_t i = 0; i < n; i++)
+        value = value << 8 | d[i];
+    return value;
 }
 
 /* ---- the layer */
@@ -98,22 +113,45 @@ static HuskReading next(Receiver *r, uint8_t *d, size_t n)
 
 /* ---- the session */
 
-static void check_content(const HuskReading *r, const uint8_t *d, uint64_t number, unsigned type, size_t start, const char *content)
+/* The record of a line that is to be read; whether the line is of one. */
+static int read_expected(const char *line, Expected *r)
 {
     static uint8_t bytes[ROOM];
-    size_t n = bytes_of(content, bytes, sizeof bytes);
-    if (r->number != number)
+    if (sscanf(line, "opened %u %" SCNu64 " %u %zu", &r->epoch, &r->number, &r->content_type, &r->start) == 4)
+        r->sealed = 1;
+    else if (sscanf(line, "plaintext %" SCNu64 " %u %zu", &r->number, &r->content_type, &r->start) != 3)
+        return 0;
+    r->length = bytes_of(strrchr(line, ' ') + 1, bytes, sizeof bytes);
+    r->content = bytes;
+    return 1;
+}
+
+static void check_content(const HuskReading *got, const Expected *want, const uint8_t *d)
+{
+    if (got->number != want->number)
         stop(1, "another number");
-    if (r->content_type != type)
+    if (got->content_type != want->content_type)
         stop(1, "another content type");
-    if (r->start != start || r->length != n || memcmp(d + start, bytes, n) != 0)
+    if (got->start != want->start || got->length != want->length || memcmp(d + want->start, want->content, want->length) != 0)
         stop(1, "another content");
 }
 
-static void put_together(const Receiver *r, const HuskReading *got, const uint8_t *d)
+/* The reading must be the record. The layer deals with it, and what is of the handshake is put together, also what is dropped there. */
+static void expect_record(Receiver *r, const HuskReading *got, const Expected *want, const uint8_t *d, size_t n)
 {
-    if (got->content_type == HUSK_HANDSHAKE)
-        messages_record((unsigned)(r - receivers), d + got->start, got->length);
+    unsigned side = (unsigned)(r - receivers);
+    if (want->sealed && (got->kind != HUSK_READING_OPENED || got->epoch != want->epoch))
+        stop(1, "no record of this epoch is opened");
+    if (!want->sealed && got->kind != HUSK_READING_PLAINTEXT)
+        stop(1, "no plaintext record is read");
+    check_content(got, want, d);
+    classes_deal(side, &r->layer, want, d, n);
+    if (want->content_type == HUSK_HANDSHAKE && !close_first)
+        messages_record(side, d + got->start, got->length);
+    if (want->sealed)
+        counts[close_first].opened++;
+    else
+        counts[close_first].plaintext++;
 }
 
 /* The record must be dropped by one of the refusals of the line, and is counted by its reason. */
@@ -132,7 +170,7 @@ static void expect_dropped(const HuskReading *got, const char *line)
         stop(1, "a record opens that must not (%s)", word);
     for (; sscanf(line + at, " %u%n", &refusal, &next) == 1; at += next)
         if (got->kind == HUSK_READING_DROPPED && got->refusal == refusal) {
-            dropped_records[why]++;
+            counts[close_first].dropped[why]++;
             return;
         }
     stop(1, "a record that must be dropped (%s) is answered by kind %u, refusal %u", word, got->kind, got->refusal);
@@ -143,36 +181,30 @@ static int is_end(const char *line)
     return strcmp(line, "end") == 0 || strncmp(line, "end ", 4) == 0;
 }
 
-static void expect(Receiver *r, uint8_t *d, size_t n, char *line)
+static void expect_end(const HuskReading *got, const char *line)
 {
-    char *content = strrchr(line, ' ');
-    uint64_t number;
-    unsigned epoch, type;
-    size_t start;
+    unsigned refusal = 0;
+    sscanf(line, "end %u", &refusal);
+    if (got->kind != HUSK_READING_END || got->refusal != refusal)
+        stop(1, "the datagram does not end by %u", refusal);
+    counts[close_first].cut_short += refusal != 0;
+}
+
+static void expect(Receiver *r, uint8_t *d, size_t n, const char *line)
+{
+    Expected want = {0};
     HuskReading got = next(r, d, n);
-    if (sscanf(line, "plaintext %" SCNu64 " %u %zu", &number, &type, &start) == 3) {
-        if (got.kind != HUSK_READING_PLAINTEXT)
-            stop(1, "no plaintext record is read");
-        check_content(&got, d, number, type, start, content + 1);
-        put_together(r, &got, d);
-        plaintext_records++;
-    } else if (sscanf(line, "opened %u %" SCNu64 " %u %zu", &epoch, &number, &type, &start) == 4) {
-        if (got.kind != HUSK_READING_OPENED || got.epoch != epoch)
-            stop(1, "no record of this epoch is opened");
-        check_content(&got, d, number, type, start, content + 1);
-        put_together(r, &got, d);
-        opened_records++;
-    } else if (strncmp(line, "dropped ", 8) == 0) {
-        expect_dropped(&got, line);
-    } else if (is_end(line)) {
-        unsigned refusal = 0;
-        sscanf(line, "end %u", &refusal);
-        if (got.kind != HUSK_READING_END || got.refusal != refusal)
-            stop(1, "the datagram does not end by %u", refusal);
-        cut_short += refusal != 0;
-    } else {
-        stop(2, "bad line");
+    if (read_expected(line, &want)) {
+        expect_record(r, &got, &want, d, n);
+        return;
     }
+    if (strncmp(line, "dropped ", 8) == 0)
+        expect_dropped(&got, line);
+    else if (is_end(line))
+        expect_end(&got, line);
+    else
+        stop(2, "bad line");
+    classes_none((unsigned)(r - receivers), &r->layer, d, n);
 }
 
 static void written(char *line)
@@ -216,55 +248,95 @@ static void key(const char *line)
     }
 }
 
-/* A line outside of a datagram; the receiver of the datagram that it begins, if any. */
-static Receiver *step(char *line)
+static void begin_receivers(void)
+{
+    for (int side = 0; side < 2; side++)
+        take(husk_receiving_init(&receivers[side].layer, HUSK_TAG + 1));
+}
+
+/* A line that may stand in front of any record; whether it is one. */
+static int set_up(const char *line)
 {
     unsigned side, epoch;
-    size_t length;
-    if (sscanf(line, "session %63s", name) == 1)
-        return NULL;
     if (strncmp(line, "key-", 4) == 0) {
         key(line);
-    } else if (strncmp(line, "write ", 6) == 0) {
+    } else if (sscanf(line, "encrypt %u", &side) == 1 && side < 2) {
+        take(husk_receiving_enable_encryption(&receivers[side].layer));
+        classes_encrypted(side);
+    } else if (sscanf(line, "remove %u %u", &side, &epoch) == 2 && side < 2) {
+        take(husk_receiving_remove(&receivers[side].layer, (uint16_t)epoch).refusal);
+    } else if (sscanf(line, "release %u", &side) == 1 && side < 2) {
+        take(husk_receiving_release_application_data(&receivers[side].layer));
+    } else {
+        return 0;
+    }
+    return 1;
+}
+
+/* The datagram of a line, captured or made of one record under the receiver's keys; the receiver, none for another line. */
+static Receiver *begin_datagram(const char *line)
+{
+    static uint8_t content[ROOM];
+    Expected r = {.sealed = 1, .content = content};
+    const char *last = strrchr(line, ' ');
+    unsigned side;
+    if (sscanf(line, "made %u %u %" SCNu64 " %u", &side, &r.epoch, &r.number, &r.content_type) == 4 && side < 2) {
+        r.length = bytes_of(last + 1, content, sizeof content);
+        datagram_len = seal_record(&receivers[side].keys[r.epoch % EPOCHS], &r, datagram, sizeof datagram);
+    } else if (sscanf(line, "datagram %u", &side) == 1 && side < 2) {
+        datagram_len = bytes_of(last + 1, datagram, sizeof datagram);
+    } else {
+        return NULL;
+    }
+    take(husk_receiving_begin(&receivers[side].layer, datagram_len));
+    counts[close_first].datagrams++;
+    return &receivers[side];
+}
+
+/* A line outside of a datagram that begins none. */
+static void step(char *line)
+{
+    unsigned side;
+    size_t length;
+    if (sscanf(line, "session %63s", name) == 1)
+        return;
+    if (strncmp(line, "write ", 6) == 0) {
         written(line);
     } else if (strncmp(line, "message ", 8) == 0) {
         sent(line);
     } else if (strncmp(line, "spoil ", 6) == 0) {
         messages_spoil(line + 6);
+        classes_spoil(line + 6);
+    } else if (strcmp(line, "close-first") == 0) {
+        close_first = 1;
+        begin_receivers();
+        classes_close_first();
     } else if (sscanf(line, "take %u", &side) == 1 && side < 2) {
         writer_take(side);
-    } else if (sscanf(line, "remove %u %u", &side, &epoch) == 2 && side < 2) {
-        take(husk_receiving_remove(&receivers[side].layer, (uint16_t)epoch).refusal);
-    } else if (sscanf(line, "release %u", &side) == 1 && side < 2) {
-        take(husk_receiving_release_application_data(&receivers[side].layer));
     } else if (sscanf(line, "oversize %u %zu", &side, &length) == 2 && side < 2) {
         if (husk_receiving_begin(&receivers[side].layer, length) != HUSK_DATAGRAM_TOO_LONG)
             stop(1, "a datagram over %d bytes is not refused", LONGEST);
-        oversized++;
-    } else if (sscanf(line, "datagram %u", &side) == 1 && side < 2) {
-        datagram_len = bytes_of(strrchr(line, ' ') + 1, datagram, sizeof datagram);
-        take(husk_receiving_begin(&receivers[side].layer, datagram_len));
-        datagrams++;
-        return &receivers[side];
+        counts[close_first].oversized++;
     } else {
         stop(2, "bad line");
     }
-    return NULL;
 }
 
 static void report(void)
 {
-    printf("%s: agrees: %zu datagrams, %zu records opened, %zu in plaintext", name, datagrams, opened_records, plaintext_records);
+    const Counts *c = &counts[0];
+    printf("%s: agrees: %zu datagrams, %zu records opened, %zu in plaintext", name, c->datagrams, c->opened, c->plaintext);
     for (int why = 0; why < REASONS; why++)
-        if (why == REPLAYED || dropped_records[why] > 0)
-            printf(", %zu %s", dropped_records[why], reasons[why].text);
-    if (cut_short > 0)
-        printf(", %zu datagrams ended by a seventeenth reading", cut_short);
-    if (oversized > 0)
-        printf(", %zu datagrams over %d bytes refused", oversized, LONGEST);
+        if (why == REPLAYED || c->dropped[why] > 0)
+            printf(", %zu %s", c->dropped[why], reasons[why].text);
+    if (c->cut_short > 0)
+        printf(", %zu datagrams ended by a seventeenth reading", c->cut_short);
+    if (c->oversized > 0)
+        printf(", %zu datagrams over %d bytes refused", c->oversized, LONGEST);
     writer_report();
     printf("\n");
     messages_report(name);
+    classes_report(name);
 }
 
 int main(void)
@@ -273,10 +345,8 @@ int main(void)
     size_t room = 0;
     Receiver *reading = NULL;
     int done = 0;
-    for (int side = 0; side < 2; side++) {
-        take(husk_receiving_init(&receivers[side].layer, HUSK_TAG + 1));
-        take(husk_receiving_enable_encryption(&receivers[side].layer));
-    }
+    begin_receivers();
+    classes_begin();
     writer_begin();
     messages_begin();
     while (getline(&line, &room, stdin) > 0) {
@@ -284,16 +354,18 @@ int main(void)
         line[strcspn(line, "\n")] = 0;
         if (strcmp(line, "done") == 0) {
             done = 1;
-        } else if (!reading) {
-            reading = step(line);
-        } else {
+        } else if (set_up(line)) {
+            continue;
+        } else if (reading) {
             expect(reading, datagram, datagram_len, line);
             if (is_end(line))
                 reading = NULL;
+        } else if (!(reading = begin_datagram(line))) {
+            step(line);
         }
     }
     free(line);
-    if (!done || datagrams == 0 || reading || !writer_done())
+    if (!done || counts[0].datagrams == 0 || reading || !writer_done())
         stop(2, "the session is cut off");
     messages_reorder();
     report();

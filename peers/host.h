@@ -1,4 +1,4 @@
-/* What the parts of the host share: the session's lines, the ciphers, the writer, the handshake messages. */
+/* What the parts of the host share: the session's lines, the ciphers, what is done with readings, the writer, the handshake messages. */
 #ifndef HOST_H
 #define HOST_H
 
@@ -16,8 +16,22 @@ enum { EPOCHS = 256, LONGEST = 16384, ROOM = 65536 };
 _Noreturn void stop(int status, const char *format, ...);
 /* The bytes of a hexadecimal text, none for `-`; how many. */
 size_t bytes_of(const char *text, uint8_t *out, size_t room);
+/* The number of n bytes, the highest first. */
+uint64_t number_at(const uint8_t *d, size_t n);
 /* Stops unless a call's answer is 0. */
 void take(uint8_t answer);
+
+/* Side 0 is the client, 1 the server; a receiver has the side of those whose records it reads. */
+extern const char *const side_names[2];
+
+/* A record that must be read, as the session has it: where its content is in the datagram, and the content. In plaintext the epoch is 0. */
+typedef struct {
+    int sealed;
+    unsigned epoch, content_type;
+    uint64_t number;
+    size_t start, length;
+    const uint8_t *content;
+} Expected;
 
 /* ---- the ciphers (ciphers.c) */
 
@@ -37,7 +51,26 @@ int open_part(const Keys *keys, const uint8_t *nonce, const uint8_t *header, siz
 /* Seals in place all but the last 16 bytes of a part, which take the tag. */
 void seal_part(const Keys *keys, const uint8_t *nonce, const uint8_t *header, size_t header_len, uint8_t *part, size_t length);
 
-/* ---- the writer (writer.c); side 0 is the client, 1 the server */
+/* A sealed record as the layer writes them, with two bytes of its number and a length; how many bytes. */
+size_t seal_record(const Keys *keys, const Expected *record, uint8_t *out, size_t room);
+
+/* ---- what is done with readings (classes.c) */
+
+void classes_begin(void);
+/* From now on the session is read again with each close first, by new receivers. */
+void classes_close_first(void);
+/* Peer encryption is on for the receiver of a side. */
+void classes_encrypted(unsigned side);
+/* A record was read as it must be: the layer deals with it, once, and the answer is judged. */
+void classes_deal(unsigned side, HuskReceiving *layer, const Expected *record, const uint8_t *d, size_t n);
+/* No record was read: there must be nothing to deal with. */
+void classes_none(unsigned side, HuskReceiving *layer, const uint8_t *d, size_t n);
+/* For a control: from now on the layer's answers are changed. */
+void classes_spoil(const char *what);
+/* Prints how many records were dealt with, by what became of them. */
+void classes_report(const char *name);
+
+/* ---- the writer (writer.c) */
 
 /* A captured record: the bytes that were sent, and what was opened of them. */
 typedef struct {

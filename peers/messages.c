@@ -47,7 +47,6 @@ typedef struct {
 
 typedef enum { AS_READ, DOUBLED, REVERSED, LATE, JOINED, CUT_ANEW, ORDERS } Order;
 
-static const char *const side_names[2] = {"client", "server"};
 static const char *const order_names[ORDERS] = {"as read", "doubled", "reversed", "every third late", "joined", "cut anew"};
 /* How often each kind of answer was given, by the order of the records; of refused ones those are counted that end the record. */
 static size_t answers[ORDERS][HUSK_PIECE_MESSAGE + 1];
@@ -70,14 +69,6 @@ static uint8_t *copy_of(const uint8_t *bytes, size_t n)
 }
 
 /* ---- the judge */
-
-static size_t number_at(const uint8_t *d, size_t n)
-{
-    size_t value = 0;
-    for (size_t i = 0; i < n; i++)
-        value = value << 8 | d[i];
-    return value;
-}
 
 /* The piece that the rest of a record begins with; whether it is wholly there. */
 static int read_piece(const uint8_t *rest, size_t n, Piece *p)
