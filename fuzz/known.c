@@ -318,6 +318,7 @@ static void known_classes(void)
     check_class(dealt(&s, &f, &t, 3, "\0\x15", 2), HUSK_CLASS_IGNORED, 0, 5, 1);
     check_class(dealt(&s, &f, &t, 8, "\1\0\x15", 3), HUSK_CLASS_CLOSE, 0, 5, 2);
     require(s.pending[6] == 1 && s.pending[7] == 3 && s.pending[8] == 8, "a known close");
+    require(husk_receiving_begin(&s, 20) == 0 && husk_receiving_key(&s, 4, iv) == 0, "a known beginning behind a close");
     check_class(dealt(&s, &f, &t, 9, "hi\x17", 3), HUSK_CLASS_BEYOND, 0, 5, 2);
     check_class(dealt(&s, &f, &t, 7, "hi\x17", 3), HUSK_CLASS_APPLICATION_DATA, 0, 5, 2);
     check_class(dealt(&s, &f, &t, 6, "hi\x63", 3), HUSK_CLASS_OTHER, 0, 5, 2);

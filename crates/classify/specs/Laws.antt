@@ -8,7 +8,7 @@ use mathlib.Core.Bool.{true, false}
 use mathlib.Core.List.{List}
 use mathlib.Core.Path.{_≡_, refl, sym, ap, subst, _∙_}
 use native.Mathlib.Omega.{arith}
-use Rattle.base.specs.Choose.{if-true, both-left, both-right, either-false}
+use Rattle.base.specs.Choose.{if-true, if-false, test-cases, both-true, both-false, both-left, both-right, either-false}
 use Rattle.datagram.specs.Datagram.{questionSound, moved, told}
 use Rattle.datagram.specs.Sound.{Ready, ready, is-ready}
 use Rattle.datagram.specs.declared.Ask.{Ask}
@@ -26,7 +26,8 @@ use Rattle.record.specs.declared.Parsed.{Parsed}
 use Rattle.records.specs.Leads.{read-asks}
 use Rattle.records.specs.Records.{stepOf, asking}
 use Rattle.recv_keys.specs.declared.RecvKeys.{RecvKeys}
-use Rattle.classify.specs.Classify.{kindOf, startOf, lengthOf, isInside, isSound, leftAt, finished}
+use Rattle.classify.specs.Classify.{kindOf, startOf, lengthOf, isInside, isSound, classified, leftAt, finished}
+use Rattle.classify.specs.declared.Class.the-variants as class
 
 -- ---- words in range, over n bytes
 
@@ -35,6 +36,11 @@ unfolding isSound isInside
 waits-inside n w t z =
     let i = both-right _ _ (sym (either-false z) ∙ both-left _ _ t) in
     omega (arith, leb-true (startOf w) n (both-left _ _ i), leb-true (lengthOf w) _ (both-right _ _ i))
+
+-- 12 before 15, whatever the length
+pub setting-first : (w : List ℕ) (s : Receiving) (d : List ℕ) → isSound (s .datagram .size) w ≡ false → classified w s d ≡ class.Setting
+unfolding classified
+setting-first w s d e = if-false _ _ (test-cases (sound s) (λ t. both-true t ∙ e) (λ t. both-false _ t))
 
 -- ---- the rest of a datagram
 

@@ -6,7 +6,7 @@ use Prim.Native.Nat.{ℕ}
 use lib.ListN.{set}
 use Rattle.base.specs.Choose.{choose, both, either}
 use Rattle.datagram.specs.declared.Reading.the-variants as says
-use Rattle.classify.specs.Classify.{plaintext-kind, unopened-kind, opened-kind, closed-at, close-epoch-at, close-number-at, fresh, waiting, isAfter, isBeyond, isGuarded, alertAs, byType, classOf}
+use Rattle.classify.specs.Classify.{plaintext-kind, unopened-kind, opened-kind, isInside, isSound, closed-at, close-epoch-at, close-number-at, fresh, waiting, isAfter, isBeyond, isGuarded, alertAs, byType, classOf}
 use Rattle.classify.specs.declared.Class.the-variants as class
 
 -- a close remembered at epoch 3, number 7
@@ -91,3 +91,10 @@ unopened-beyond = refl
 pub unopened-kept : classOf (closed-before unopened-kind 0 2 300) false [] ≡ class.Unopened
 unfolding classOf isBeyond isAfter choose both
 unopened-kept = refl
+
+-- 12: a reading of no kind, one whose content runs past the datagram, a flag above 1; with none waiting its place and length are not looked at
+pub ranges : (isSound 20 (waiting 1 26 3 7 0 0 fresh) ≡ false) × (isSound 20 (waiting 2 26 3 7 0 0 fresh) ≡ false) × (isSound 20 (waiting 6 26 3 7 0 0 fresh) ≡ false)
+    × (isSound 20 (waiting opened-kind 26 3 7 19 2 fresh) ≡ false) × (isSound 20 (waiting opened-kind 26 3 7 19 1 fresh) ≡ true)
+    × (isSound 20 (set fresh closed-at 2) ≡ false) × (isSound 20 (waiting 0 26 3 7 21 1 fresh) ≡ true)
+unfolding isSound isInside both either
+ranges = (refl, refl, refl, refl, refl, refl, refl)

@@ -153,6 +153,11 @@ module _ (r : HuskClass) (a : HuskAcked) (y x g f m n d c : List ℕ) (s : c ≡
       (λ e. subst (Dealt r w w y x g f m n d) (sym (if-true _ _ refl ∙ if-false _ _ e))
       (p, sym (if-false _ _ refl), refl, q, out-of-range a g f m n (contentOf x d) content e .1 ∙ sym (if-false _ _ refl), u .2))
 
+-- an ACK alone looks at the flight: over one out of its range any other reading is dealt with
+pub others-heeded : (k : Class) (ok : Bool) → actsOn k ≡ false → heeded k ok ≡ k
+unfolding heeded
+others-heeded k ok a = if-false _ _ a
+
 pub acted : (r : HuskClass) (w y x g f m n d : List ℕ) (ok : Bool) {k : Class} → k ≡ class.Ack → Dealt r w w y x g f m n d (heeded class.Ack ok)
     → Dealt r w w y x g f m n d (heeded k ok)
 acted r w y x g f m n d ok e h = subst (λ (z : Class). Dealt r w w y x g f m n d (heeded z ok)) (sym e) h

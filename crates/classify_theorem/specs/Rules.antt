@@ -7,10 +7,10 @@ use mathlib.Core.Option.{Option, none, some}
 use mathlib.Core.Path.{_≡_, refl, sym, ap, subst, _∙_}
 use Prim.Native.Nat.{ℕ, _≤_, _<_}
 use native.Mathlib.Omega.{arith}
-use borrow.Author.Tests.{ltb-true, ltb-false, eqb-true, eqb-false, lt-ltb, le-ltb, eq-eqb}
+use borrow.Author.Tests.{ltb-true, ltb-false, eqb-true, eqb-false, lt-ltb, le-ltb, eq-eqb, ne-eqb}
 use lib.Dec.{ltb, eqb}
 use lib.ListN.{length, getD}
-use Rattle.base.specs.Choose.{choose, by-test, if-true, if-false, test-cases, both-true, both-left, both-right, either-true, either-false}
+use Rattle.base.specs.Choose.{choose, by-test, if-true, if-false, test-cases, both-true, both-false, both-left, both-right, either-true, either-false}
 use Rattle.datagram.specs.declared.Reading.the-variants as says
 use Rattle.datagram.specs.declared.Reading.{Reading}
 use Rattle.history_theorem.specs.Claim.{Due, SaysOpened, asHanded, Received}
@@ -323,6 +323,106 @@ module _ (close : Option Place) (c : List ℕ) where
   only-alerts on r x e =
       by-test (λ (v : Verdict). toldOf v ≡ some x → AlertRead on r × Tells x) {t = isPast close (placeOf r)} {x = beyond} {y = kindOwed close on r c} (λ t. none-told)
       (λ t. kind-tells on r x) (ap toldOf e)
+
+  -- and each of these is told
+  alert-told : (x : ℕ) → Tells x → alertOwed close c ≡ tells x
+  unfolding alertOwed
+  alert-told x h =
+      let q : x ≡ getD c 1 0 = h .second in
+      if-false _ _ (le-ltb _ _ (h .long)) ∙ if-false _ _ (ne-eqb _ _ (λ e. h .no-close (q ∙ e)))
+      ∙ if-false _ _ (ne-eqb _ _ (λ e. h .no-cancel (q ∙ e))) ∙ ap tells (sym q)
+
+  no-ack : (t : ℕ) → t ≡ alertType → eqb t ackType ≡ false
+  no-ack t e = ne-eqb t ackType (λ z. omega (arith, e, z))
+
+  an-alert : (t : ℕ) (v : Verdict) → t ≡ alertType → alertOwed close c ≡ v → typeOwed close t c ≡ v
+  unfolding typeOwed
+  an-alert t v e q = if-true _ _ (eq-eqb _ _ e) ∙ q
+
+  kept : (on : Bool) (t : ℕ) → on ≡ false → isDropped on t ≡ false
+  unfolding isDropped
+  kept on t e = both-false _ e
+
+  -- an alert that is not past the close is owed what its content says
+  alert-owed : (on : Bool) (r : Reading) (v : Verdict) → AlertRead on r → (Past close (placeOf r) → ⊥) → alertOwed close c ≡ v → readingOwed close on r c ≡ v
+  unfolding readingOwed sealedOwed plainOwed
+  alert-owed on (says.Opened k n t s l) v a h q = if-false _ _ (not-past close _ h) ∙ if-false _ _ (no-ack t a) ∙ an-alert t v a q
+  alert-owed on (says.Plaintext t n s l) v a h q =
+      if-false _ _ (not-past close _ h) ∙ if-false _ _ (kept on t (a .1)) ∙ if-false _ _ (no-ack t (a .0)) ∙ an-alert t v (a .0) q
+  alert-owed on (says.Unopened b n s l) v a h q = absurd a
+  alert-owed on says.Setting v a h q = absurd a
+  alert-owed on says.Reply v a h q = absurd a
+  alert-owed on says.End v a h q = absurd a
+  alert-owed on says.Incomplete v a h q = absurd a
+  alert-owed on says.TooMany v a h q = absurd a
+  alert-owed on (says.Dropped x) v a h q = absurd a
+  alert-owed on (says.Mask k s) v a h q = absurd a
+  alert-owed on (says.Opening k n s g l) v a h q = absurd a
+
+  pub alerts-told : (on : Bool) (r : Reading) (x : ℕ) → AlertRead on r → Tells x → (Past close (placeOf r) → ⊥) → readingOwed close on r c ≡ tells x
+  alerts-told on r x a t h = alert-owed on r (tells x) a h (alert-told x t)
+
+  -- "the first alert 0": two bytes or more, the second 0
+  alert-closes : 2 ≤ length c → getD c 1 0 ≡ closeNotify → alertOwed close c ≡ firstOnly close
+  unfolding alertOwed
+  alert-closes l z = if-false _ _ (le-ltb _ _ l) ∙ if-true _ _ (eq-eqb _ _ z)
+
+  pub first-closes : (on : Bool) (r : Reading) → close ≡ none → AlertRead on r → 2 ≤ length c → getD c 1 0 ≡ closeNotify → readingOwed close on r c ≡ closes
+  first-closes on r e a l z =
+      alert-owed on r closes a (λ p. subst (λ (o : Option Place). Past o (placeOf r)) e p) (alert-closes l z ∙ ap firstOnly e)
+
+  -- and nothing else closes
+  pub record ClosesBy : Type 0 where
+    pub first : close ≡ none
+    pub long : 2 ≤ length c
+    pub second : getD c 1 0 ≡ closeNotify
+
+  abbrev Closing : Type 0 → Verdict → Type 0
+  Closing T v = isCloses v ≡ true → T
+
+  not-closing : {A : Type 0} → false ≡ true → A
+  not-closing e = absurd (false≢true e)
+
+  alert-closing : Closing ClosesBy (alertOwed close c)
+  unfolding alertOwed
+  alert-closing =
+      by-test (Closing ClosesBy) (λ t. not-closing)
+      (λ t. by-test (Closing ClosesBy) (λ u. by-first close refl (ltb-false _ _ t) (eqb-true _ _ u))
+      (λ u. by-test (Closing ClosesBy) (λ v. not-closing) (λ v. not-closing)))
+    where
+      by-first : (o : Option Place) → close ≡ o → 2 ≤ length c → getD c 1 0 ≡ closeNotify → Closing ClosesBy (firstOnly o)
+      by-first none e l z f = record { first = e; long = l; second = z }
+      by-first (some p) e l z f = not-closing f
+
+  type-closing : (t : ℕ) → Closing ((t ≡ alertType) × ClosesBy) (typeOwed close t c)
+  unfolding typeOwed
+  type-closing t =
+      let P : Verdict → Type 0 = Closing ((t ≡ alertType) × ClosesBy) in
+      by-test P (λ a e. (eqb-true _ _ a, alert-closing e))
+      (λ a. by-test P (λ b. not-closing) (λ b. by-test P (λ d. not-closing) (λ d. by-test P (λ f. not-closing) (λ f. not-closing))))
+
+  kind-closing : (on : Bool) (r : Reading) → Closing (AlertRead on r × ClosesBy) (kindOwed close on r c)
+  unfolding plainOwed sealedOwed
+  kind-closing on (says.Opened k n t s l) = by-test (Closing ((t ≡ alertType) × ClosesBy)) (λ a. not-closing) (λ a. type-closing t)
+  kind-closing on (says.Plaintext t n s l) =
+      let P : Verdict → Type 0 = Closing (((t ≡ alertType) × (on ≡ false)) × ClosesBy) in
+      by-test P (λ a. not-closing)
+      (λ a. by-test P (λ b. not-closing) (λ b e. let q = type-closing t e in ((q .0, before-on on t (q .0) a), q .1)))
+  kind-closing on (says.Unopened b n s l) = not-closing
+  kind-closing on says.Setting = not-closing
+  kind-closing on says.Reply = not-closing
+  kind-closing on says.End = not-closing
+  kind-closing on says.Incomplete = not-closing
+  kind-closing on says.TooMany = not-closing
+  kind-closing on (says.Dropped r) = not-closing
+  kind-closing on (says.Mask k s) = not-closing
+  kind-closing on (says.Opening k n s h l) = not-closing
+
+  pub only-closes : (on : Bool) (r : Reading) → readingOwed close on r c ≡ closes → AlertRead on r × ClosesBy
+  unfolding readingOwed
+  only-closes on r e =
+      by-test (Closing (AlertRead on r × ClosesBy)) {t = isPast close (placeOf r)} {x = beyond} {y = kindOwed close on r c} (λ t. not-closing)
+      (λ t. kind-closing on r) (ap isCloses e)
 
 -- "the first alert 0 remembers its place": a close once remembered is not moved
 module _ (p : Place) (c : List ℕ) where

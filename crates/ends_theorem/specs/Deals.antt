@@ -52,6 +52,12 @@ marksOwed r l = marksBy (r .verdict) (r .content) l
 abbrev pub owes : End → Reply
 owes e = readingOwed (e .dealings .account) (e .into .into .account .encryption)
 
+-- nothing else of the receiving side moves: epochs, IVs, windows, flags, the least length of a protected part, and the datagram's length and bytes
+pub record Stays (e x : End) : Type 0 where
+  pub keys : x .into .into .state .keys ≡ e .into .into .state .keys
+  pub size : x .into .into .state .datagram .size ≡ e .into .into .state .datagram .size
+  pub bytes : x .into .into .datagram ≡ e .into .into .datagram
+
 -- of the next call, whenever it comes: every beginning of a list of calls is one
 pub record Deals (f e : End) : Type 0 where
   -- by the contract
@@ -62,5 +68,6 @@ pub record Deals (f e : End) : Type 0 where
   -- by what is owed
   pub rest : acts f e dealing .into .into .account ≡ restOwed (owes e .verdict) (e .into .into)
   pub ledger : acts f e dealing .ledger ≡ marksOwed (owes e) (e .ledger)
+  pub stays : Stays e (acts f e dealing)
   -- no question waits beside a reading
   pub idle : (x : Pending) → e .dealings .account .pending ≡ some x → e .into .into .account .waits ≡ nothing

@@ -11,7 +11,10 @@ use Rattle.history_theorem.specs.Account as history
 use Rattle.history_theorem.specs.Account.{Shown, nothing}
 use Rattle.history_theorem.specs.Receiver.{leavesRest}
 use Rattle.history_theorem.specs.Sound.{Sound}
-use Rattle.classify.specs.Classify.{stateAfter, actsOn}
+use Rattle.classify.specs.Classify.{stateAfter, actsOn, leftAt}
+use Rattle.datagram.specs.declared.Datagram.{Datagram}
+use Rattle.datagram.specs.declared.Question.{Question}
+use Rattle.datagram.specs.declared.Question.the-variants as question
 use Rattle.classify.specs.declared.Class.{Class}
 use Rattle.classify.specs.declared.Class.the-variants as class
 use Rattle.classify_theorem.specs.Account.{Pending, Verdict, turned, noneWaits, beyond, unprotected, ignored, marks, closes, tells, handshake, applicationData, other, unopened, Reply, owedBy}
@@ -22,7 +25,7 @@ use Rattle.classify_theorem.specs.Story.{Story}
 use Rattle.ends_theorem.specs.Every.{sends-stores}
 use Rattle.ends_theorem.specs.Ledger.{sentBy}
 use Rattle.ends_theorem.specs.World.{End, follows, classOf, contentIn}
-use Rattle.ends_theorem.specs.Deals.{restOwed, marksOwed, owes, Deals}
+use Rattle.ends_theorem.specs.Deals.{restOwed, marksOwed, owes, Stays, Deals}
 
 state-by : (f e : End) (k : Class) (c : List ℕ) → follows f e k c .into .into .state ≡ stateAfter k (e .into .into .state)
 unfolding choose
@@ -39,6 +42,27 @@ state-by f e class.ApplicationData c = refl
 state-by f e class.Other c = refl
 state-by f e class.Unopened c = refl
 state-by f e (class.Alert x) c = refl
+
+left-size : (q : Question) (b : Datagram) → leftAt q b .size ≡ b .size
+left-size question.Nothing b = refl
+left-size (question.Mask a) b = refl
+left-size (question.Opening a n) b = refl
+
+stays-by : (f e : End) (k : Class) (c : List ℕ) → Stays e (follows f e k c)
+stays-by f e (class.Alert x) c =
+    record { keys = refl; size = left-size (e .into .into .state .datagram .question) (e .into .into .state .datagram); bytes = refl }
+stays-by f e class.Setting c = record { keys = refl; size = refl; bytes = refl }
+stays-by f e class.Reply c = record { keys = refl; size = refl; bytes = refl }
+stays-by f e class.Nothing c = record { keys = refl; size = refl; bytes = refl }
+stays-by f e class.Beyond c = record { keys = refl; size = refl; bytes = refl }
+stays-by f e class.Unprotected c = record { keys = refl; size = refl; bytes = refl }
+stays-by f e class.Ignored c = record { keys = refl; size = refl; bytes = refl }
+stays-by f e class.Ack c = record { keys = refl; size = refl; bytes = refl }
+stays-by f e class.Close c = record { keys = refl; size = refl; bytes = refl }
+stays-by f e class.Handshake c = record { keys = refl; size = refl; bytes = refl }
+stays-by f e class.ApplicationData c = record { keys = refl; size = refl; bytes = refl }
+stays-by f e class.Other c = record { keys = refl; size = refl; bytes = refl }
+stays-by f e class.Unopened c = record { keys = refl; size = refl; bytes = refl }
 
 flight-by : (f e : End) (k : Class) (c : List ℕ)
     → follows f e k c .out .stores .flight ≡ choose (actsOn k) (acked (e .out .stores .flight) c .flight) (e .out .stores .flight)
@@ -137,6 +161,7 @@ module _ (f e : End) (i : Sound (e .into .into)) (s : Story (e .dealings) (e .in
     words = refl;
     state = state-by f e (classOf e) (contentIn e);
     flight = flight-by f e (classOf e) (contentIn e);
+    stays = let z = stays-by f e (classOf e) (contentIn e) in record { keys = z .keys; size = z .size; bytes = z .bytes };
     rest = rest-is (e .dealings .account .pending) refl;
     ledger = ledger-by f e (classOf e) (contentIn e) ∙ ap (λ (r : Reply). marksOwed r (e .ledger)) is-owed;
     idle = λ x p. asks-nothing (e .dealings) (e .into .into) s x p;

@@ -5,3 +5,4 @@ pub mod Laws
 pub mod Within
 pub mod Never
 pub mod Rows
+pub mod Least
