@@ -8,7 +8,7 @@ use mathlib.Core.Bool.{true, false}
 use mathlib.Core.List.{List}
 use mathlib.Core.Path.{_≡_, refl, sym, ap, subst, _∙_}
 use native.Mathlib.Omega.{arith}
-use Rattle.base.specs.Choose.{if-true, if-false, test-cases, both-true, both-false, both-left, both-right, either-false}
+use Rattle.base.specs.Choose.{both, if-true, if-false, both-left, both-right, either-false}
 use Rattle.datagram.specs.Datagram.{questionSound, moved, told}
 use Rattle.datagram.specs.Sound.{Ready, ready, is-ready}
 use Rattle.datagram.specs.declared.Ask.{Ask}
@@ -38,9 +38,9 @@ waits-inside n w t z =
     omega (arith, leb-true (startOf w) n (both-left _ _ i), leb-true (lengthOf w) _ (both-right _ _ i))
 
 -- 12 before 15, whatever the length
-pub setting-first : (w : List ℕ) (s : Receiving) (d : List ℕ) → isSound (s .datagram .size) w ≡ false → classified w s d ≡ class.Setting
+pub setting-first : (w : List ℕ) (s : Receiving) (d : List ℕ) → both (sound s) (isSound (s .datagram .size) w) ≡ false → classified w s d ≡ class.Setting
 unfolding classified
-setting-first w s d e = if-false _ _ (test-cases (sound s) (λ t. both-true t ∙ e) (λ t. both-false _ t))
+setting-first w s d e = if-false _ _ e
 
 -- ---- the rest of a datagram
 

@@ -5,7 +5,7 @@ use mathlib.Core.List.{List, List·Memᴰ as Mem}
 use mathlib.Core.Logic.{_⊎_, inl, inr, ⊎-elim}
 use mathlib.Core.Option.{Option, none, some}
 use mathlib.Core.Path.{_≡_, refl, sym, ap, subst, _∙_}
-use Prim.Native.Nat.{ℕ, _≤_, _<_}
+use Prim.Native.Nat.{ℕ, _+_, _≤_, _<_}
 use native.Mathlib.Omega.{arith}
 use borrow.Author.Tests.{ltb-true, ltb-false, eqb-true, eqb-false, lt-ltb, le-ltb, eq-eqb, ne-eqb}
 use lib.Dec.{ltb, eqb}
@@ -139,34 +139,20 @@ isMarks applicationData = false
 isMarks other = false
 isMarks unopened = false
 
-abbrev isCloses : Verdict → Bool
-isCloses closes = true
-isCloses (turned n) = false
-isCloses noneWaits = false
-isCloses beyond = false
-isCloses unprotected = false
-isCloses ignored = false
-isCloses marks = false
-isCloses (tells x) = false
-isCloses handshake = false
-isCloses applicationData = false
-isCloses other = false
-isCloses unopened = false
-
--- the description that is told
-abbrev toldOf : Verdict → Option ℕ
-toldOf (tells x) = some x
-toldOf closes = none
-toldOf (turned n) = none
-toldOf noneWaits = none
-toldOf beyond = none
-toldOf unprotected = none
-toldOf ignored = none
-toldOf marks = none
-toldOf handshake = none
-toldOf applicationData = none
-toldOf other = none
-toldOf unopened = none
+-- what only an alert is owed: a close, and each description that is told
+abbrev alertCode : Verdict → ℕ
+alertCode closes = 1
+alertCode (tells x) = 2 + x
+alertCode (turned n) = 0
+alertCode noneWaits = 0
+alertCode beyond = 0
+alertCode unprotected = 0
+alertCode ignored = 0
+alertCode marks = 0
+alertCode handshake = 0
+alertCode applicationData = 0
+alertCode other = 0
+alertCode unopened = 0
 
 -- a verdict that another test tells apart proves anything
 apart : {A : Type 0} {x : Bool} → x ≡ true → x ≡ false → A
@@ -254,31 +240,41 @@ module _ (close : Option Place) (c : List ℕ) where
     pub no-cancel : x ≡ userCanceled → ⊥
 
   abbrev Told : ℕ → Verdict → Type 0
-  Told x v = toldOf v ≡ some x → Tells x
-
-  none-told : {A : Type 0} {x : ℕ} → none ≡ some x → A
-  none-told e = some≢none (sym e)
+  Told x v = alertCode v ≡ 2 + x → Tells x
 
   alert-tells : (x : ℕ) → Told x (alertOwed close c)
   unfolding alertOwed
   alert-tells x =
-      by-test (Told x) (λ t. none-told)
+      by-test (Told x) (λ t e. absurd (omega arith))
       (λ t. by-test (Told x) (λ u. first close)
-      (λ u. by-test (Told x) (λ v. none-told)
+      (λ u. by-test (Told x) (λ v e. absurd (omega arith))
       (λ v e.
-      let q : x ≡ getD c 1 0 = sym (some-inj e) in
+      let q : x ≡ getD c 1 0 = omega (arith, e) in
       record { long = ltb-false _ _ t; second = q; no-close = λ z. eqb-false _ _ u (sym q ∙ z); no-cancel = λ z. eqb-false _ _ v (sym q ∙ z) })))
     where
       first : (o : Option Place) → Told x (firstOnly o)
-      first none = none-told
-      first (some p) = none-told
+      first none e = absurd (omega arith)
+      first (some p) e = absurd (omega arith)
 
-  type-tells : (x t : ℕ) → toldOf (typeOwed close t c) ≡ some x → (t ≡ alertType) × Tells x
-  unfolding typeOwed
-  type-tells x t =
-      let P : Verdict → Type 0 = λ v. toldOf v ≡ some x → (t ≡ alertType) × Tells x in
-      by-test P (λ a e. (eqb-true _ _ a, alert-tells x e))
-      (λ a. by-test P (λ b. none-told) (λ b. by-test P (λ d. none-told) (λ d. by-test P (λ f. none-told) (λ f. none-told))))
+  -- "the first alert 0": two bytes or more, the second 0, and no close remembered
+  pub record ClosesBy : Type 0 where
+    pub first : close ≡ none
+    pub long : 2 ≤ length c
+    pub second : getD c 1 0 ≡ closeNotify
+
+  abbrev Closing : Verdict → Type 0
+  Closing v = alertCode v ≡ 1 → ClosesBy
+
+  alert-closing : Closing (alertOwed close c)
+  unfolding alertOwed
+  alert-closing =
+      by-test Closing (λ t e. absurd (omega arith))
+      (λ t. by-test Closing (λ u. by-first close refl (ltb-false _ _ t) (eqb-true _ _ u))
+      (λ u. by-test Closing (λ v e. absurd (omega arith)) (λ v e. absurd (omega arith))))
+    where
+      by-first : (o : Option Place) → close ≡ o → 2 ≤ length c → getD c 1 0 ≡ closeNotify → Closing (firstOnly o)
+      by-first none e l z f = record { first = e; long = l; second = z }
+      by-first (some p) e l z f = absurd (omega arith)
 
   -- of a sealed record, or in plaintext before encryption
   abbrev pub AlertRead : Bool → Reading → Type 0
@@ -300,29 +296,53 @@ module _ (close : Option Place) (c : List ℕ) where
   before-on true t e f = apart (both-true refl ∙ either-true _ (eq-eqb _ _ e)) f
   before-on false t e f = refl
 
-  kind-tells : (on : Bool) (r : Reading) (x : ℕ) → toldOf (kindOwed close on r c) ≡ some x → AlertRead on r × Tells x
+  -- of such a verdict: it is an alert's, and what the alert's content is owed
+  abbrev ByAlert : Type 0 → Verdict → Type 0
+  ByAlert T v = 1 ≤ alertCode v → T × (v ≡ alertOwed close c)
+
+  type-by-alert : (t : ℕ) → ByAlert (t ≡ alertType) (typeOwed close t c)
+  unfolding typeOwed
+  type-by-alert t =
+      let P : Verdict → Type 0 = ByAlert (t ≡ alertType) in
+      by-test P (λ a e. (eqb-true _ _ a, refl))
+      (λ a. by-test P (λ b e. absurd (omega arith))
+      (λ b. by-test P (λ d e. absurd (omega arith)) (λ d. by-test P (λ f e. absurd (omega arith)) (λ f e. absurd (omega arith)))))
+
+  kind-by-alert : (on : Bool) (r : Reading) → ByAlert (AlertRead on r) (kindOwed close on r c)
   unfolding plainOwed sealedOwed
-  kind-tells on (says.Opened k n t s l) x =
-      by-test (λ (v : Verdict). toldOf v ≡ some x → (t ≡ alertType) × Tells x) (λ a. none-told) (λ a. type-tells x t)
-  kind-tells on (says.Plaintext t n s l) x =
-      let P : Verdict → Type 0 = λ v. toldOf v ≡ some x → ((t ≡ alertType) × (on ≡ false)) × Tells x in
-      by-test P (λ a. none-told)
-      (λ a. by-test P (λ b. none-told) (λ b e. let q = type-tells x t e in ((q .0, before-on on t (q .0) a), q .1)))
-  kind-tells on (says.Unopened b n s l) x = none-told
-  kind-tells on says.Setting x = none-told
-  kind-tells on says.Reply x = none-told
-  kind-tells on says.End x = none-told
-  kind-tells on says.Incomplete x = none-told
-  kind-tells on says.TooMany x = none-told
-  kind-tells on (says.Dropped r) x = none-told
-  kind-tells on (says.Mask k s) x = none-told
-  kind-tells on (says.Opening k n s h l) x = none-told
+  kind-by-alert on (says.Opened k n t s l) = by-test (ByAlert (t ≡ alertType)) (λ a e. absurd (omega arith)) (λ a. type-by-alert t)
+  kind-by-alert on (says.Plaintext t n s l) =
+      let P : Verdict → Type 0 = ByAlert ((t ≡ alertType) × (on ≡ false)) in
+      by-test P (λ a e. absurd (omega arith))
+      (λ a. by-test P (λ b e. absurd (omega arith)) (λ b e. let q = type-by-alert t e in ((q .0, before-on on t (q .0) a), q .1)))
+  kind-by-alert on (says.Unopened b n s l) = λ e. absurd (omega arith)
+  kind-by-alert on says.Setting = λ e. absurd (omega arith)
+  kind-by-alert on says.Reply = λ e. absurd (omega arith)
+  kind-by-alert on says.End = λ e. absurd (omega arith)
+  kind-by-alert on says.Incomplete = λ e. absurd (omega arith)
+  kind-by-alert on says.TooMany = λ e. absurd (omega arith)
+  kind-by-alert on (says.Dropped r) = λ e. absurd (omega arith)
+  kind-by-alert on (says.Mask k s) = λ e. absurd (omega arith)
+  kind-by-alert on (says.Opening k n s h l) = λ e. absurd (omega arith)
+
+  by-alert : (on : Bool) (r : Reading) → ByAlert (AlertRead on r) (readingOwed close on r c)
+  unfolding readingOwed
+  by-alert on r =
+      by-test (ByAlert (AlertRead on r)) {t = isPast close (placeOf r)} {x = beyond} {y = kindOwed close on r c} (λ t e. absurd (omega arith))
+      (λ t. kind-by-alert on r)
 
   pub only-alerts : (on : Bool) (r : Reading) (x : ℕ) → readingOwed close on r c ≡ tells x → AlertRead on r × Tells x
-  unfolding readingOwed
   only-alerts on r x e =
-      by-test (λ (v : Verdict). toldOf v ≡ some x → AlertRead on r × Tells x) {t = isPast close (placeOf r)} {x = beyond} {y = kindOwed close on r c} (λ t. none-told)
-      (λ t. kind-tells on r x) (ap toldOf e)
+      let k = ap alertCode e in
+      let q = by-alert on r (omega (arith, k)) in
+      (q .0, alert-tells x (ap alertCode (sym (q .1) ∙ e)))
+
+  -- and nothing else closes
+  pub only-closes : (on : Bool) (r : Reading) → readingOwed close on r c ≡ closes → AlertRead on r × ClosesBy
+  only-closes on r e =
+      let k = ap alertCode e in
+      let q = by-alert on r (omega (arith, k)) in
+      (q .0, alert-closing (ap alertCode (sym (q .1) ∙ e)))
 
   -- and each of these is told
   alert-told : (x : ℕ) → Tells x → alertOwed close c ≡ tells x
@@ -362,7 +382,7 @@ module _ (close : Option Place) (c : List ℕ) where
   pub alerts-told : (on : Bool) (r : Reading) (x : ℕ) → AlertRead on r → Tells x → (Past close (placeOf r) → ⊥) → readingOwed close on r c ≡ tells x
   alerts-told on r x a t h = alert-owed on r (tells x) a h (alert-told x t)
 
-  -- "the first alert 0": two bytes or more, the second 0
+  -- and each first alert 0 closes
   alert-closes : 2 ≤ length c → getD c 1 0 ≡ closeNotify → alertOwed close c ≡ firstOnly close
   unfolding alertOwed
   alert-closes l z = if-false _ _ (le-ltb _ _ l) ∙ if-true _ _ (eq-eqb _ _ z)
@@ -371,89 +391,6 @@ module _ (close : Option Place) (c : List ℕ) where
   first-closes on r e a l z =
       alert-owed on r closes a (λ p. subst (λ (o : Option Place). Past o (placeOf r)) e p) (alert-closes l z ∙ ap firstOnly e)
 
-  -- and nothing else closes
-  pub record ClosesBy : Type 0 where
-    pub first : close ≡ none
-    pub long : 2 ≤ length c
-    pub second : getD c 1 0 ≡ closeNotify
-
-  abbrev Closing : Type 0 → Verdict → Type 0
-  Closing T v = isCloses v ≡ true → T
-
-  not-closing : {A : Type 0} → false ≡ true → A
-  not-closing e = absurd (false≢true e)
-
-  alert-closing : Closing ClosesBy (alertOwed close c)
-  unfolding alertOwed
-  alert-closing =
-      by-test (Closing ClosesBy) (λ t. not-closing)
-      (λ t. by-test (Closing ClosesBy) (λ u. by-first close refl (ltb-false _ _ t) (eqb-true _ _ u))
-      (λ u. by-test (Closing ClosesBy) (λ v. not-closing) (λ v. not-closing)))
-    where
-      by-first : (o : Option Place) → close ≡ o → 2 ≤ length c → getD c 1 0 ≡ closeNotify → Closing ClosesBy (firstOnly o)
-      by-first none e l z f = record { first = e; long = l; second = z }
-      by-first (some p) e l z f = not-closing f
-
-  type-closing : (t : ℕ) → Closing ((t ≡ alertType) × ClosesBy) (typeOwed close t c)
-  unfolding typeOwed
-  type-closing t =
-      let P : Verdict → Type 0 = Closing ((t ≡ alertType) × ClosesBy) in
-      by-test P (λ a e. (eqb-true _ _ a, alert-closing e))
-      (λ a. by-test P (λ b. not-closing) (λ b. by-test P (λ d. not-closing) (λ d. by-test P (λ f. not-closing) (λ f. not-closing))))
-
-  kind-closing : (on : Bool) (r : Reading) → Closing (AlertRead on r × ClosesBy) (kindOwed close on r c)
-  unfolding plainOwed sealedOwed
-  kind-closing on (says.Opened k n t s l) = by-test (Closing ((t ≡ alertType) × ClosesBy)) (λ a. not-closing) (λ a. type-closing t)
-  kind-closing on (says.Plaintext t n s l) =
-      let P : Verdict → Type 0 = Closing (((t ≡ alertType) × (on ≡ false)) × ClosesBy) in
-      by-test P (λ a. not-closing)
-      (λ a. by-test P (λ b. not-closing) (λ b e. let q = type-closing t e in ((q .0, before-on on t (q .0) a), q .1)))
-  kind-closing on (says.Unopened b n s l) = not-closing
-  kind-closing on says.Setting = not-closing
-  kind-closing on says.Reply = not-closing
-  kind-closing on says.End = not-closing
-  kind-closing on says.Incomplete = not-closing
-  kind-closing on says.TooMany = not-closing
-  kind-closing on (says.Dropped r) = not-closing
-  kind-closing on (says.Mask k s) = not-closing
-  kind-closing on (says.Opening k n s h l) = not-closing
-
-  pub only-closes : (on : Bool) (r : Reading) → readingOwed close on r c ≡ closes → AlertRead on r × ClosesBy
-  unfolding readingOwed
-  only-closes on r e =
-      by-test (Closing (AlertRead on r × ClosesBy)) {t = isPast close (placeOf r)} {x = beyond} {y = kindOwed close on r c} (λ t. not-closing)
-      (λ t. kind-closing on r) (ap isCloses e)
-
 -- "the first alert 0 remembers its place": a close once remembered is not moved
-module _ (p : Place) (c : List ℕ) where
-  abbrev no-close : Verdict → Type 0
-  no-close v = isCloses v ≡ false
-
-  alert-close : no-close (alertOwed (some p) c)
-  unfolding alertOwed
-  alert-close = by-test no-close (λ t. refl) (λ t. by-test no-close (λ u. refl) (λ u. by-test no-close (λ v. refl) (λ v. refl)))
-
-  type-close : (t : ℕ) → no-close (typeOwed (some p) t c)
-  unfolding typeOwed
-  type-close t =
-      by-test no-close (λ a. alert-close)
-      (λ a. by-test no-close (λ b. refl) (λ b. by-test no-close (λ e. refl) (λ e. by-test no-close (λ f. refl) (λ f. refl))))
-
-  kind-close : (on : Bool) (r : Reading) → no-close (kindOwed (some p) on r c)
-  unfolding plainOwed sealedOwed
-  kind-close on (says.Opened k n t s l) = by-test no-close (λ a. refl) (λ a. type-close t)
-  kind-close on (says.Plaintext t n s l) = by-test no-close (λ a. refl) (λ a. by-test no-close (λ b. refl) (λ b. type-close t))
-  kind-close on (says.Unopened b n s l) = refl
-  kind-close on says.Setting = refl
-  kind-close on says.Reply = refl
-  kind-close on says.End = refl
-  kind-close on says.Incomplete = refl
-  kind-close on says.TooMany = refl
-  kind-close on (says.Dropped r) = refl
-  kind-close on (says.Mask k s) = refl
-  kind-close on (says.Opening k n s h l) = refl
-
-  pub one-close : (on : Bool) (r : Reading) → readingOwed (some p) on r c ≡ closes → ⊥
-  unfolding readingOwed
-  one-close on r e =
-      false≢true (sym (by-test no-close {t = isPast (some p) (placeOf r)} {x = beyond} {y = kindOwed (some p) on r c} (λ z. refl) (λ z. kind-close on r)) ∙ ap isCloses e)
+pub one-close : (p : Place) (c : List ℕ) (on : Bool) (r : Reading) → readingOwed (some p) on r c ≡ closes → ⊥
+one-close p c on r e = some≢none (only-closes (some p) c on r e .1 .first)

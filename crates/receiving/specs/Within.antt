@@ -9,6 +9,7 @@ use native.Mathlib.Omega.{arith}
 use Rattle.base.specs.Choose.{by-test}
 use Rattle.base.specs.Parts.{part, length-part}
 use Rattle.datagram.specs.Datagram.{questionSound, counted}
+use Rattle.datagram.specs.Keeps.{end-fits}
 use Rattle.datagram.specs.Sound.{Held, held, held-opening, Ready, ready}
 use Rattle.datagram.specs.declared.Ask.{Ask}
 use Rattle.datagram.specs.declared.Datagram.{Datagram}
@@ -89,7 +90,7 @@ module _ (k : RecvKeys) (b : Datagram) (n : ℕ) (fits : b .at + n ≤ b .size) 
 module _ (k : RecvKeys) (b : Datagram) (r : Ready k b) (a : Ask) (h : Held k a (b .size - b .at)) where
   opening-lies : (e : RecvEpochEntry) (n : ℕ) → Lies (b .size) (openingAsked e b a n)
   unfolding openingAsked
-  opening-lies e n = omega (arith, h .head, h .fits, r .at)
+  opening-lies e n = end-fits k b a r h
 
   again-lies : (n : ℕ) (f : Found) → Lies (b .size) (askedAgain f k b a n)
   unfolding askedAgain
@@ -103,7 +104,7 @@ asking-lies k b d question.Nothing r l t =
     let rest = drop (b .at) d in
     step-lies k b (length rest) (omega (arith, length-drop (b .at) d, r .at)) (parsed rest) (inside rest)
 asking-lies k b d (question.Mask a) r l t =
-    let h = held k a (b .size - b .at) t in omega (arith, h .head, h .tag, h .fits, r .at)
+    let h = held k a (b .size - b .at) t in omega (arith, h .tag, end-fits k b a r h)
 asking-lies k b d (question.Opening a n) r l t = again-lies k b r a (held-opening k a n _ t .1) n _
 
 -- of the datagram's own length, and so of the one lent
@@ -169,7 +170,7 @@ module _ (k : RecvKeys) (b : Datagram) (r : Ready k b) (a : Ask) (h : Held k a (
   unfolding typed
   typed-lies n inner.Nothing short = tt
   typed-lies n (inner.Found t l) short =
-      counted-lies (b .size) b _ _ (omega (arith, short t l refl, h .head, h .fits, r .at))
+      counted-lies (b .size) b _ _ (omega (arith, short t l refl, end-fits k b a r h))
 
   abbrev Marks : Marked → Type 0
   Marks m = Lies (b .size) (m .step)
@@ -181,8 +182,9 @@ module _ (k : RecvKeys) (b : Datagram) (r : Ready k b) (a : Ask) (h : Held k a (
   opened-lies n (reply.Yes len) (found.At i) =
       by-test Marks
       (λ t. typed-lies n _ (λ u l e.
-      let x = part (b .at + a .«header_len») len d in
-      omega (arith, inner-short x u l e, length-part (b .at + a .«header_len») len d (omega (arith, eqb-true len (a .length - tagSize) t, h .head, h .fits, r .at, long)), eqb-true len (a .length - tagSize) t)))
+      let start = b .at + a .«header_len» in
+      let less = eqb-true len (a .length - tagSize) t in
+      omega (arith, less, inner-short (part start len d) u l e, length-part start len d (omega (arith, less, long, end-fits k b a r h)))))
       (λ t. tt)
 
 openings-lie : (k : RecvKeys) (b : Datagram) (o : Opening) (d : List ℕ) (q : Question) → Ready k b → length d ≡ b .size
