@@ -5,10 +5,11 @@
  * same where it is asked for, around painting and at the call. */
 #include <stdio.h>
 #include <stdlib.h>
+#include <string.h>
 
 #include "huskelapse.h"
 
-enum { SHALLOW = 65536, DEEP = 1 << 20, WORD = sizeof(uint64_t), CALLS = 32 };
+enum { SHALLOW = 65536, DEEP = 1 << 20, WORD = sizeof(uint64_t), CALLS = 32, OPENED = 9 };
 
 static const uint64_t paint = 0xA5C35A3C96E1781E;
 
@@ -76,7 +77,7 @@ MEASURED(5, uint8_t, husk_receiving_begin_words, (uint64_t *w, uint64_t *x, size
 MEASURED(6, HuskReading, husk_receiving_read_words, (uint64_t *w, uint64_t *x, uint8_t *d, size_t n), (w, x, d, n))
 MEASURED(7, HuskReading, husk_receiving_begin_read_words, (uint64_t *w, uint64_t *x, uint8_t *d, size_t n), (w, x, d, n))
 MEASURED(8, HuskReading, husk_receiving_mask, (HuskReceiving *s, uint8_t m0, uint8_t m1, uint8_t *d, size_t n), (s, m0, m1, d, n))
-MEASURED(9, HuskReading, husk_receiving_opened_words,
+MEASURED(OPENED, HuskReading, husk_receiving_opened_words,
     (uint64_t *w, uint64_t *x, uint8_t opened, size_t len, const uint8_t *d, size_t n), (w, x, opened, len, d, n))
 MEASURED(31, HuskClass, husk_receiving_classify_words,
     (uint64_t *w, uint64_t *x, uint64_t *f, uint64_t *m, const uint8_t *d, size_t n), (w, x, f, m, d, n))
@@ -124,27 +125,61 @@ MEASURED_SILENT(28, husk_assembly_init, (HuskAssembly *s), (s))
 MEASURED(29, uint8_t, husk_assembly_begin, (HuskAssembly *s, size_t n), (s, n))
 MEASURED(30, HuskPiece, husk_assembly_take, (HuskAssembly *s, const uint8_t *c, size_t cn, uint8_t *b, size_t bn), (s, c, cn, b, bn))
 
-/* The record with the longest padding: a datagram of 16,384 bytes, its header of two bytes, the rest zeros when opened. Twice, since the
- * first may write all that is painted. */
-static void longest_padding(void)
+/* ---- padding: records that fill a datagram, with a header of two bytes */
+
+enum { DATAGRAM = 16384, HEADER = 2, HEADER_OF_3 = 0x23, LONGEST = DATAGRAM - HEADER - 1 - HUSK_TAG };
+
+/* A receive side that reads records of epoch 3. */
+static void reading(HuskReceiving *s)
+{
+    static const uint8_t iv[12];
+    husk_receiving_init(s, HUSK_TAG);
+    husk_receiving_key(s, 3, iv);
+    husk_receiving_enable_encryption(s);
+    husk_receiving_release_application_data(s);
+}
+
+/* How far down the opening writes of a record with so much content, its type, and zeros up to the end; of type 0, all are zeros. */
+static size_t opened(HuskReceiving *s, uint8_t number, size_t content, uint8_t type)
+{
+    static uint8_t d[DATAGRAM];
+    memset(d, 0, sizeof d);
+    d[0] = HEADER_OF_3;
+    d[1] = number;
+    memset(d + HEADER, 0x55, content);
+    d[HEADER + content] = type;
+    husk_receiving_begin_read(s, d, sizeof d);
+    HuskReading r = husk_receiving_mask(s, 0, 0, d, sizeof d);
+    measured[OPENED].deepest = 0;
+    r = husk_receiving_opened(s, 1, r.length - HUSK_TAG, d, sizeof d);
+    if (r.kind != (type == 0 ? HUSK_READING_DROPPED : HUSK_READING_OPENED) || r.length != content) {
+        fprintf(stderr, "bench/run: a record of type %d with %zu bytes of content is not read as it was written\n", type, content);
+        exit(1);
+    }
+    return measured[OPENED].deepest;
+}
+
+static void tell_padding(void)
 {
     static HuskReceiving s;
-    static uint8_t d[16384] = {0x23}, iv[12];
-    husk_receiving_init(&s, 16);
-    husk_receiving_key(&s, 3, iv);
-    husk_receiving_enable_encryption(&s);
-    husk_receiving_release_application_data(&s);
-    for (uint8_t i = 0; i < 2; i++) {
-        d[1] = i;
-        husk_receiving_begin_read(&s, d, sizeof d);
-        HuskReading r = husk_receiving_mask(&s, 0, 0, d, sizeof d);
-        r = husk_receiving_opened(&s, 1, r.length - HUSK_TAG, d, sizeof d);
-        if (r.kind != HUSK_READING_DROPPED) {
-            fprintf(stderr, "bench/run: a record of zeros is not dropped\n");
-            exit(2);
-        }
+    size_t none, longest, zeros;
+    uint8_t number = 0;
+    reading(&s);
+    /* Twice, since the first may write all that is painted. */
+    for (int i = 0; i < 2; i++) {
+        none = opened(&s, number++, LONGEST, HUSK_APPLICATION_DATA);
+        longest = opened(&s, number++, 0, HUSK_APPLICATION_DATA);
+        zeros = opened(&s, number++, 0, 0);
+    }
+    fprintf(stderr, "a record of %d bytes, opened: %zu bytes without padding, %zu with %d zeros, %zu with zeros alone\n", DATAGRAM, none,
+        longest, LONGEST, zeros);
+    if (longest != none || zeros > none) {
+        fprintf(stderr, "bench/run: the stack grows with the padding\n");
+        exit(1);
     }
 }
+
+/* ---- all calls */
 
 static void tell(void)
 {
@@ -156,6 +191,6 @@ static void tell(void)
 
 __attribute__((constructor)) static void before_main(void)
 {
-    longest_padding();
+    tell_padding();
     atexit(tell);
 }

@@ -108,11 +108,17 @@ HuskReading __wrap_husk_receiving_mask(HuskReceiving *s, uint8_t m0, uint8_t m1,
 
 HuskReading __wrap_husk_receiving_opened_words(uint64_t *w, uint64_t *x, uint8_t opened, size_t length, const uint8_t *d, size_t n)
 {
+    uint64_t y[6];
+    memcpy(y, x, sizeof y);
     HuskReading r = __real_husk_receiving_opened_words(w, x, opened, length, d, n);
     if (r.kind == HUSK_READING_DROPPED && planted(7))
         r.refusal = 9;
     if (r.kind == HUSK_READING_OPENED && r.content_type > 26 && !is_known(n) && planted(70))
         x[1] = HUSK_APPLICATION_DATA;
+    if (r.kind == HUSK_READING_OPENED && r.length + 3 <= length && !is_known(n) && planted(95))
+        r.length++, x[5]++; /* content with its type, of a padded record */
+    if (r.kind == HUSK_READING_OPENED && r.length + 9 <= length && !is_known(n) && planted(96)) /* no type behind a word of zeros */
+        r = (HuskReading){.kind = HUSK_READING_DROPPED, .refusal = HUSK_NO_CONTENT_TYPE}, memcpy(x, y, sizeof y), x[0] = 0;
     return r;
 }
 

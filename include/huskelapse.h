@@ -34,9 +34,9 @@ extern "C" {
 #endif
 
 #define HUSK_VERSION_MAJOR 0
-#define HUSK_VERSION_MINOR 8
+#define HUSK_VERSION_MINOR 9
 #define HUSK_VERSION_PATCH 0
-#define HUSK_VERSION "0.8.0"
+#define HUSK_VERSION "0.9.0"
 
 /* ---- refusals */
 

@@ -180,6 +180,7 @@ impl driver::Tally for Tally {
 fn compare(side: &dyn Answers, count: u64, seed: u64) -> io::Result<bool> {
     let mut fixed = limits::all();
     fixed.extend(limits::longest());
+    fixed.extend(limits::padded());
     let at_limits = fixed.len() as u64;
     let total = at_limits + count;
     // Each history has its own random numbers.

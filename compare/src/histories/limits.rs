@@ -672,3 +672,35 @@ pub fn longest() -> Vec<History> {
         ]),
     ]
 }
+
+/// A record that opens to a content, its type and zeros; or to zeros alone, where there is no type.
+fn padded_by(zeros: usize, content_type: Option<u8>) -> Vec<u8> {
+    let mut text: Vec<u8> = content_type.into_iter().flat_map(|t| [5, 0, t]).collect();
+    text.resize(text.len() + zeros, 0);
+    text
+}
+
+/// Padding: of each length about one, two and eight words, to the size of a usual datagram, and in a datagram of 14,900 bytes, about the longest
+/// that a script has room for with what it opens to. Of the shorter ones the number is used with and without a type.
+pub fn padded() -> Vec<History> {
+    let lengths = || (0..26).chain([62, 63, 64, 65, 66, 1_441]);
+    let each = |content_type| {
+        let twice = |(n, zeros)| {
+            let text = padded_by(zeros, content_type);
+            let record = packet(|p| seal(p, 3, n as u64, Some(&text)));
+            [record, verdicts(3, &[n as u64])]
+        };
+        expecting(&[3], 0, &[lengths().enumerate().flat_map(twice).collect()])
+    };
+    let most = 14_900 - 2 - 16;
+    let longest = |content_type: u8| {
+        let mut text = vec![0; most];
+        text[0] = content_type;
+        expecting(
+            &[3],
+            0,
+            &[vec![packet(|p| seal_short(p, 3, 0, Some(&text)))]],
+        )
+    };
+    vec![each(Some(23)), each(None), longest(23), longest(0)]
+}

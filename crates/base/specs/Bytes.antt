@@ -74,6 +74,14 @@ pow-pos : (k : ℕ) → 0 < 256 ^ k
 pow-pos zero = omega arith
 pow-pos (suc k) = rw (pow-suc 256 k) (omega (arith, pow-pos k))
 
+-- k bytes that make 0 are zeros: the first of them, and so the others
+pub beAt-zero : (k : ℕ) (d : List ℕ) (i : ℕ) → beAt (suc k) d i ≡ 0 → (getD d i 0 ≡ 0) × (beAt k d (i + 1) ≡ 0)
+beAt-zero k d i e = (first (getD d i 0) (omega arith), omega arith)
+  where
+    first : (b : ℕ) → b * 256 ^ k ≡ 0 → b ≡ 0
+    first zero z = refl
+    first (suc b) z = absurd (omega (arith, pow-pos k))
+
 -- the k bytes of n read back are n, but for what k bytes cannot hold
 pub beAt-be : (k n : ℕ) (r : List ℕ) → beAt k (be k n ++ r) 0 ≡ n % 256 ^ k
 beAt-be zero n r = omega arith

@@ -1,8 +1,8 @@
--- What an opened record holds (RFC 8446, section 5.2, DTLSInnerPlaintext; 01: "trailing zeros are removed; the last byte left is the
--- content type; what precedes it" the content), and its laws. Assumes nothing.
+-- What an opened record holds (RFC 9147, section 4, DTLSInnerPlaintext; its padding: RFC 8446, section 5.4; 01: "trailing zeros are removed;
+-- the last byte left is the content type; what precedes it" the content), and its laws. Assumes nothing.
 use mathlib.Core.List.{List, [], _∷_, _++_, reverse, reverse-append, reverse-reverse, append-assoc, append-nil, reverseAux-eq}
 use mathlib.Core.Path.{_≡_, refl, sym, ap, subst, _∙_}
-use Prim.Native.Nat.{ℕ, zero, suc, _-_, _≤_, _<_}
+use Prim.Native.Nat.{ℕ, zero, suc, _≤_, _<_}
 use native.Mathlib.Omega.{arith}
 use lib.ListN.{length, take, getD, replicate, length-reverse}
 use lib.Seq.{take-suc, length-take-le}
@@ -94,36 +94,31 @@ pub inner-nothing : (d : List ℕ) → innerOf d ≡ inner.Nothing → d ≡ zer
 unfolding innerOf
 inner-nothing d e = sym (reverse-reverse d) ∙ zeros-end (reverse d) e ∙ ap zeros (length-reverse d)
 
--- ---- one byte less
+-- ---- the first n bytes and one more: a zero changes nothing, another byte is the type
 
-pub take-last : (d : List ℕ) (n : ℕ) → (n ≡ 0 → ⊥) → n ≤ length d → take n d ≡ take (n - 1) d ++ (getD d (n - 1) 0 ∷ [])
-take-last d n ne h =
-    let e : n ≡ suc (n - 1) = omega arith in
-    ap (λ (k : ℕ). take k d) e ∙ take-suc d (n - 1) 0 (omega arith)
+module _ (d : List ℕ) (n : ℕ) (h : n < length d) where
+  pub zero-more : getD d n 0 ≡ 0 → innerOf (take (suc n) d) ≡ innerOf (take n d)
+  zero-more z = ap innerOf (take-suc d n 0 h) ∙ ap (λ (b : ℕ). innerOf (take n d ++ (b ∷ []))) z ∙ inner-zero (take n d)
 
-pub inner-none : (d : List ℕ) (n : ℕ) → n ≡ 0 → inner.Nothing ≡ innerOf (take n d)
+  pub type-more : (getD d n 0 ≡ 0 → ⊥) → innerOf (take (suc n) d) ≡ inner.Found (getD d n 0) n
+  type-more typed =
+      ap innerOf (take-suc d n 0 h) ∙ inner-type (take n d) (getD d n 0) typed
+      ∙ ap (inner.Found (getD d n 0)) (length-take-le n d (omega arith))
+
+-- ---- zeros cut off one by one: n bytes are left, the last of them behind `last` others
+
+module _ (d : List ℕ) (n last : ℕ) (e : innerOf (take n d) ≡ innerOf d) (h : n ≤ length d) (before : n ≡ suc last) where
+  abbrev whole : innerOf (take (suc last) d) ≡ innerOf d
+  whole = ap (λ (k : ℕ). innerOf (take k d)) (sym before) ∙ e
+
+  pub cut-zero : getD d last 0 ≡ 0 → innerOf (take last d) ≡ innerOf d
+  cut-zero z = sym (zero-more d last (omega arith) z) ∙ whole
+
+  pub cut-last : (size : ℕ) → n ≡ suc size → (getD d last 0 ≡ 0 → ⊥) → inner.Found (getD d last 0) size ≡ innerOf d
+  cut-last size all typed =
+      let same : size ≡ last = omega arith in
+      ap (inner.Found (getD d last 0)) same ∙ sym (type-more d last (omega arith) typed) ∙ whole
+
+pub cut-none : (d : List ℕ) (n : ℕ) → innerOf (take n d) ≡ innerOf d → n ≡ 0 → inner.Nothing ≡ innerOf d
 unfolding innerOf
-inner-none d n e = ap (λ (k : ℕ). innerOf (take k d)) (sym e)
-
-pub inner-less : (d : List ℕ) (n : ℕ) → (n ≡ 0 → ⊥) → n ≤ length d → getD d (n - 1) 0 ≡ 0 → innerOf (take (n - 1) d) ≡ innerOf (take n d)
-inner-less d n ne h z =
-    sym (ap innerOf (take-last d n ne h) ∙ ap (λ (b : ℕ). innerOf (take (n - 1) d ++ (b ∷ []))) z ∙ inner-zero (take (n - 1) d))
-
-pub inner-last : (d : List ℕ) (n : ℕ) → (n ≡ 0 → ⊥) → n ≤ length d → (getD d (n - 1) 0 ≡ 0 → ⊥)
-    → inner.Found (getD d (n - 1) 0) (n - 1) ≡ innerOf (take n d)
-inner-last d n ne h typed =
-    sym
-    (ap innerOf (take-last d n ne h) ∙ inner-type (take (n - 1) d) (getD d (n - 1) 0) typed
-    ∙ ap (inner.Found (getD d (n - 1) 0)) (length-take-le (n - 1) d (omega arith)))
-
--- ---- zeros cut off one by one: n bytes are left
-
-module _ (d : List ℕ) (n : ℕ) (e : innerOf (take n d) ≡ innerOf d) where
-  pub cut-none : n ≤ 0 → inner.Nothing ≡ innerOf d
-  cut-none h = inner-none d n (omega arith) ∙ e
-
-  pub cut-zero : 0 < n → n ≤ length d → getD d (n - 1) 0 ≡ 0 → innerOf (take (n - 1) d) ≡ innerOf d
-  cut-zero some h z = inner-less d n (λ (w : n ≡ 0). omega arith) h z ∙ e
-
-  pub cut-last : 0 < n → n ≤ length d → (getD d (n - 1) 0 ≡ 0 → ⊥) → inner.Found (getD d (n - 1) 0) (n - 1) ≡ innerOf d
-  cut-last some h t = inner-last d n (λ (w : n ≡ 0). omega arith) h t ∙ e
+cut-none d n e z = ap (λ (k : ℕ). innerOf (take k d)) (sym z) ∙ e

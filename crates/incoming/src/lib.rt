@@ -1,8 +1,9 @@
 // Reading an opened record, after incoming.rs.
 ghost use mathlib.Core.Path.{_≡_};
 ghost use Prim.Native.Nat.{_≤_};
-ghost use lib.ListN.{length, take};
+ghost use lib.ListN.{length};
 ghost use Rattle.incoming.specs.Inner.{innerOf};
+ghost use Rattle.incoming.specs.Padding.{leftOf};
 
 // What an opened record holds: its content type and the length of the content in front of it, or zeros alone.
 pub enum Inner {
@@ -10,34 +11,27 @@ pub enum Inner {
     Nothing,
 }
 
-// The same of the first n bytes, as a recursion on their number: a stack frame for each zero.
-fn strip(decrypted: &[u8], n: usize) -> Inner
-    requires { ⌜ n ≤ length (now decrypted) ⌝ }
-    ensures { λ r. ⌜ r ≡ innerOf (take n (now (decrypted .entry))) ⌝ }
+// Bytes of padding that are passed together.
+const WORD_LEN: usize = 8;
+
+// How many of the first bytes are left when words of zeros are taken off their end.
+fn without_zero_words(d: &[u8], first: usize) -> usize
+    requires { ⌜ first ≤ length (now d) ⌝ }
+    ensures { λ r. ⌜ r ≡ leftOf (now (d .entry)) first ⌝ }
 {
-    if n == 0 {
-        return Inner::Nothing;
+    let mut n = first;
+    while WORD_LEN <= n {
+        let start = n - WORD_LEN;
+        if base::be64(d, start) != 0 {
+            return n;
+        }
+        n = start;
     }
-    let last = n - 1;
-    let byte = decrypted[last];
-    if byte == 0 {
-        return strip(decrypted, last);
-    }
-    Inner::Found {
-        content_type: byte,
-        length: last,
-    }
+    n
 }
 
 // Trailing zeros removed, the last byte left is the content type, and what precedes it the content.
 pub fn recover_inner_content_type(decrypted: &[u8]) -> Inner
-    ensures { λ r. ⌜ r ≡ innerOf (now (decrypted .entry)) ⌝ }
-{
-    strip(decrypted, decrypted.len())
-}
-
-// The same in a loop, whose stack does not grow with the padding.
-pub fn find_inner_content_type(decrypted: &[u8]) -> Inner
     ensures { λ r. ⌜ r ≡ innerOf (now (decrypted .entry)) ⌝ }
 {
     let mut n = decrypted.len();
@@ -50,7 +44,7 @@ pub fn find_inner_content_type(decrypted: &[u8]) -> Inner
                 length: last,
             };
         }
-        n = last;
+        n = without_zero_words(decrypted, last);
     }
     Inner::Nothing
 }

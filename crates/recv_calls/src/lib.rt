@@ -541,7 +541,7 @@ fn open_yes(w: &mut [u64; WORDS], i: usize, length: usize, d: &[u8]) -> HuskRead
         let start = w[CURSOR] as usize + a.header_len;
         let number = w[ASK_NUMBER];
         recv_words::mark(w, i, number);
-        let inner = incoming::find_inner_content_type(base::fragment(d, start, length));
+        let inner = incoming::recover_inner_content_type(base::fragment(d, start, length));
         return type_step(w, inner);
     }
     told(0, 15)

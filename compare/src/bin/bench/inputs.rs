@@ -29,6 +29,18 @@ pub fn number(record: &mut [u8], i: u32) {
     record[2] = i as u8;
 }
 
+/// An application record of n bytes with the longest padding that they can hold: a header of two bytes, no content.
+pub fn padded(n: usize) -> Vec<u8> {
+    let mut record = vec![0x23, 0, 23];
+    record.resize(n, 0);
+    record
+}
+
+/// The number of such a record.
+pub fn short_number(record: &mut [u8], i: u32) {
+    record[1] = i as u8;
+}
+
 /// The content of an ACK of these numbers in epoch 2.
 pub fn ack(numbers: impl Iterator<Item = u64>) -> Vec<u8> {
     let mut content = vec![0, 0];

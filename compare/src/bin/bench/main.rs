@@ -45,10 +45,24 @@ fn record_of(n: usize, what: &str, rust: OfSize, rattle: OfSize) -> Row {
     row(name, 100_000, move |k| rust(n, k), move |k| rattle(n, k))
 }
 
+/// Bytes of a datagram whose one record is padding, and how often it is read in a run.
+const PADDED: [(usize, u32); 2] = [(1_500, 100_000), (16_384, 10_000)];
+
+fn padded_to(n: usize, count: u32) -> Row {
+    let name = format!("read one padded to {n}");
+    row(
+        name,
+        count,
+        move |k| rust::read_padded(n, k),
+        move |k| rattle::read_padded(n, k),
+    )
+}
+
 fn rows() -> Vec<Row> {
     let sizes = [16, 200, 1200];
     let read = sizes.map(|n| record_of(n, "read a record", rust::read, rattle::read));
     let deal = sizes.map(|n| record_of(n, "and deal with it", rust::deal, rattle::deal));
+    let padded = PADDED.map(|(n, count)| padded_to(n, count));
     let send = sizes.map(|n| record_of(n, "send a record", rust::send, rattle::send));
     let in_place =
         sizes.map(|n| record_of(n, "send, taken in place", rust::send, rattle::send_in_place));
@@ -70,7 +84,8 @@ fn rows() -> Vec<Row> {
         rust::act_on_ack,
         rattle::act_on_ack,
     );
-    let mut rows = Vec::from_iter(read.into_iter().chain(deal).chain(send).chain(in_place));
+    let mut rows = Vec::from_iter(read.into_iter().chain(deal).chain(padded));
+    rows.extend(send.into_iter().chain(in_place));
     rows.extend([message, resend, ack]);
     rows
 }

@@ -124,9 +124,9 @@ impl Host {
     }
 }
 
-pub fn read(n: usize, count: u32) -> f64 {
+/// Reads a record with a content of n bytes, each time under the next number.
+fn read_each(mut record: Vec<u8>, n: usize, count: u32, number: impl Fn(&mut [u8], u32)) -> f64 {
     let mut s = receiving();
-    let mut record = sealed(n);
     time(count, |i| {
         number(&mut record, i);
         let d = black_box(&mut record);
@@ -137,6 +137,14 @@ pub fn read(n: usize, count: u32) -> f64 {
         assert!(r.kind == 5 && r.length == n && r.number == i as u64);
         black_box(&record[r.start..r.start + r.length]);
     })
+}
+
+pub fn read(n: usize, count: u32) -> f64 {
+    read_each(sealed(n), n, count, number)
+}
+
+pub fn read_padded(n: usize, count: u32) -> f64 {
+    read_each(padded(n), 0, count, short_number)
 }
 
 pub fn deal(n: usize, count: u32) -> f64 {

@@ -85,14 +85,22 @@ fn use_one(engine: &mut Engine, record: Record, n: usize, i: u32) {
     RecordHandler::push_buffer(engine, incoming::probe::into_buffer(record));
 }
 
-pub fn read(n: usize, count: u32) -> f64 {
+/// Reads a record with a content of n bytes, each time under the next number.
+fn read_each(mut record: Vec<u8>, n: usize, count: u32, number: impl Fn(&mut [u8], u32)) -> f64 {
     let mut engine = engine();
-    let mut record = sealed(n);
     time(count, |i| {
         number(&mut record, i);
         let one = read_one(&mut engine, black_box(&record));
         use_one(&mut engine, one, n, i);
     })
+}
+
+pub fn read(n: usize, count: u32) -> f64 {
+    read_each(sealed(n), n, count, number)
+}
+
+pub fn read_padded(n: usize, count: u32) -> f64 {
+    read_each(padded(n), 0, count, short_number)
 }
 
 pub fn deal(n: usize, count: u32) -> f64 {

@@ -27,14 +27,14 @@ mark-requires c κs = search needs
 fragment-requires : tie.Need-fragment-requires
 fragment-requires c κs = search needs
 
-find-inner-content-type-requires : tie.Need-find-inner-content-type-requires
-find-inner-content-type-requires c κs = search needs
+recover-inner-content-type-requires : tie.Need-recover-inner-content-type-requires
+recover-inner-content-type-requires c κs = search needs
 
 type-step-requires : tie.Need-type-step-requires
 type-step-requires c κs = (c .before .before .before .mark .ensures .flat ∙ c .before .before .before .before .before .before .before .before .before .before .before .before .before .pre .0 .flat, marks-fit (c .before .before .before .mark .ensures) (open-fits (c .before .before .before .before .before .before .before .before .before .before .before .before .before .pre .0)))
 
 returns : tie.Need-returns
-returns c = yes-opens _ _ _ _ _ _ _ _ (rw (c .before .before .before .before .before .before .before .before .before .before .before .ask-of .ensures) at (c .before .before .before .before .before .before .before .before .before .if1 .taken)) (c .before .before .before .before .mark .ensures) (rw (c .before .before .before .fragment .ensures, c .before .before .before .before .before .before .before .before .before .before .before .ask-of .ensures) at (c .before .before .find-inner-content-type .ensures)) (c .type-step .ensures)
+returns c = yes-opens _ _ _ _ _ _ _ _ (rw (c .before .before .before .before .before .before .before .before .before .before .before .ask-of .ensures) at (c .before .before .before .before .before .before .before .before .before .if1 .taken)) (c .before .before .before .before .mark .ensures) (rw (c .before .before .before .fragment .ensures, c .before .before .before .before .before .before .before .before .before .before .before .ask-of .ensures) at (c .before .before .recover-inner-content-type .ensures)) (c .type-step .ensures)
 
 told-requires : tie.Need-told-requires
 told-requires c κs = search needs
@@ -53,7 +53,7 @@ open-yes-spec =
     element-copy-out-number
     mark-requires
     fragment-requires
-    find-inner-content-type-requires
+    recover-inner-content-type-requires
     type-step-requires
     returns
     told-requires
