@@ -127,7 +127,8 @@ MEASURED(30, HuskPiece, husk_assembly_take, (HuskAssembly *s, const uint8_t *c, 
 
 /* ---- padding: records that fill a datagram, with a header of two bytes */
 
-enum { DATAGRAM = 16384, HEADER = 2, HEADER_OF_3 = 0x23, LONGEST = DATAGRAM - HEADER - 1 - HUSK_TAG };
+/* FIRST_BYTE: epoch 3, a number of 8 bits, no length. */
+enum { DATAGRAM = 16384, HEADER = 2, FIRST_BYTE = 0x23, LONGEST = DATAGRAM - HEADER - 1 - HUSK_TAG };
 
 /* A receive side that reads records of epoch 3. */
 static void reading(HuskReceiving *s)
@@ -144,7 +145,7 @@ static size_t opened(HuskReceiving *s, uint8_t number, size_t content, uint8_t t
 {
     static uint8_t d[DATAGRAM];
     memset(d, 0, sizeof d);
-    d[0] = HEADER_OF_3;
+    d[0] = FIRST_BYTE;
     d[1] = number;
     memset(d + HEADER, 0x55, content);
     d[HEADER + content] = type;

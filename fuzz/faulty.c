@@ -389,7 +389,10 @@ uint8_t __wrap_husk_assembly_begin(HuskAssembly *s, size_t n)
 
 static uint64_t number_of(const uint8_t *p, int n)
 {
-    return n == 0 ? 0 : number_of(p, n - 1) * 256 + p[n - 1];
+    uint64_t v = 0;
+    for (int i = 0; i < n; i++)
+        v = v * 256 + p[i];
+    return v;
 }
 
 /* Faults in what is written, for a piece that is held as the last of those in the words w. */

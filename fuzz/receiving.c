@@ -354,16 +354,17 @@ static void put_plaintext(void)
 }
 
 /* An opened record's content ends in front of its type, the last byte that is no zero; dropped by 11 exactly where there is none. */
-static void check_opened(const HuskReading *r, const HuskReading *asked, size_t length, const uint8_t *d)
+static void check_opened(const HuskReading *r, size_t length, const uint8_t *d)
 {
-    int found = r->kind == HUSK_READING_OPENED, nothing = r->refusal == HUSK_NO_CONTENT_TYPE && made && asked->kind == HUSK_READING_OPENING;
-    if (!found && !nothing)
+    int found = r->kind == HUSK_READING_OPENED;
+    if (!found && r->refusal != HUSK_NO_CONTENT_TYPE)
         return;
-    const uint8_t *p = d + (found ? r->start : asked->start + asked->header_len);
-    while (length > 0 && p[length - 1] == 0)
+    size_t start = (size_t)(before.word[W_CURSOR] + before.word[W_HEADER]);
+    while (length > 0 && d[start + length - 1] == 0)
         length--;
     require(found == (length > 0), "a type is found in zeros, or none in other bytes");
-    require(!found || (r->content_type == p[length - 1] && r->length == length - 1), "a content that does not end at its type");
+    require(!found || (r->start == start && r->content_type == d[start + length - 1] && r->length == length - 1),
+        "a content that does not end at its type");
 }
 
 static void call_opened(void)
@@ -371,7 +372,7 @@ static void call_opened(void)
     size_t n = length_lent(), length = (size_t)any();
     uint8_t yes = one_in(32) ? (uint8_t)any() : (uint8_t)!one_in(4);
     const uint8_t *d = fixed_lent(n);
-    HuskReading asked = last, r;
+    HuskReading r;
     if (last.kind == HUSK_READING_OPENING) {
         put_plaintext();
         length = one_in(16) ? (size_t)edge_word(last.length) : last.length - HUSK_TAG;
@@ -380,7 +381,7 @@ static void call_opened(void)
     replies++;
     r = husk_receiving_opened_words(s->word, pending->word, yes, length, d, n);
     reading_answer(RECEIVING_OPENED, r, n, yes > 1);
-    check_opened(&r, &asked, length, d);
+    check_opened(&r, length, d);
 }
 
 static uint16_t some_epoch(void)

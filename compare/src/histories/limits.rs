@@ -680,10 +680,10 @@ fn padded_by(zeros: usize, content_type: Option<u8>) -> Vec<u8> {
     text
 }
 
-/// Padding: of each length about one, two and eight words, to the size of a usual datagram, and in a datagram of 14,900 bytes, about the longest
-/// that a script has room for with what it opens to. Of the shorter ones the number is used with and without a type.
+/// Padding: of 0 to 25 and 62 to 66 zeros, to a datagram of 1,500 bytes, and the longest in one of 16,384. Behind each but the longest comes
+/// a second record of its number, which must be dropped, with a type and without.
 pub fn padded() -> Vec<History> {
-    let lengths = || (0..26).chain([62, 63, 64, 65, 66, 1_441]);
+    let lengths = || (0..26).chain([62, 63, 64, 65, 66, 1_476]);
     let each = |content_type| {
         let twice = |(n, zeros)| {
             let text = padded_by(zeros, content_type);
@@ -692,15 +692,14 @@ pub fn padded() -> Vec<History> {
         };
         expecting(&[3], 0, &[lengths().enumerate().flat_map(twice).collect()])
     };
-    let most = 14_900 - 2 - 16;
+    // What follows the bytes of the reply stays as it lies: zeros.
     let longest = |content_type: u8| {
-        let mut text = vec![0; most];
-        text[0] = content_type;
-        expecting(
-            &[3],
-            0,
-            &[vec![packet(|p| seal_short(p, 3, 0, Some(&text)))]],
-        )
+        let mask = [0x5A, 0xFF];
+        let record = packet(|p| {
+            p.sealed(3, false, false, 0, mask, &[0; 16_384 - 2]);
+            p.reply(mask, Some(vec![content_type]));
+        });
+        expecting(&[3], 0, &[vec![record]])
     };
     vec![each(Some(23)), each(None), longest(23), longest(0)]
 }

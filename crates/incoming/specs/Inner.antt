@@ -100,7 +100,7 @@ module _ (d : List ℕ) (n : ℕ) (h : n < length d) where
   pub zero-more : getD d n 0 ≡ 0 → innerOf (take (suc n) d) ≡ innerOf (take n d)
   zero-more z = ap innerOf (take-suc d n 0 h) ∙ ap (λ (b : ℕ). innerOf (take n d ++ (b ∷ []))) z ∙ inner-zero (take n d)
 
-  pub type-more : (getD d n 0 ≡ 0 → ⊥) → innerOf (take (suc n) d) ≡ inner.Found (getD d n 0) n
+  type-more : (getD d n 0 ≡ 0 → ⊥) → innerOf (take (suc n) d) ≡ inner.Found (getD d n 0) n
   type-more typed =
       ap innerOf (take-suc d n 0 h) ∙ inner-type (take n d) (getD d n 0) typed
       ∙ ap (inner.Found (getD d n 0)) (length-take-le n d (omega arith))
@@ -114,6 +114,7 @@ module _ (d : List ℕ) (n last : ℕ) (e : innerOf (take n d) ≡ innerOf d) (h
   pub cut-zero : getD d last 0 ≡ 0 → innerOf (take last d) ≡ innerOf d
   cut-zero z = sym (zero-more d last (omega arith) z) ∙ whole
 
+  -- the length told is a number of its own, so that a wrong one is refused as one
   pub cut-last : (size : ℕ) → n ≡ suc size → (getD d last 0 ≡ 0 → ⊥) → inner.Found (getD d last 0) size ≡ innerOf d
   cut-last size all typed =
       let same : size ≡ last = omega arith in

@@ -16,7 +16,7 @@ abbrev pub wordLen : ℕ
 wordLen = 8
 
 -- how many are left of n bytes and k words behind them
-abbrev pub wordsOff : List ℕ → ℕ → ℕ → ℕ
+abbrev wordsOff : List ℕ → ℕ → ℕ → ℕ
 wordsOff d n zero = n
 wordsOff d n (suc k) = choose (eqb (beAt wordLen d (n + wordLen * k)) 0) (wordsOff d n k) (n + wordLen * suc k)
 

@@ -11,23 +11,23 @@ pub enum Inner {
     Nothing,
 }
 
-// Bytes of padding that are passed together.
+// Zeros are passed by as many as base::be64 reads, since one by one takes several times as long.
 const WORD_LEN: usize = 8;
 
-// How many of the first bytes are left when words of zeros are taken off their end.
-fn without_zero_words(d: &[u8], first: usize) -> usize
-    requires { ⌜ first ≤ length (now d) ⌝ }
-    ensures { λ r. ⌜ r ≡ leftOf (now (d .entry)) first ⌝ }
+// How many of the first n bytes are left when words of zeros are taken off their end.
+fn without_zero_words(d: &[u8], n: usize) -> usize
+    requires { ⌜ n ≤ length (now d) ⌝ }
+    ensures { λ r. ⌜ r ≡ leftOf (now (d .entry)) n ⌝ }
 {
-    let mut n = first;
-    while WORD_LEN <= n {
-        let start = n - WORD_LEN;
+    let mut left = n;
+    while WORD_LEN <= left {
+        let start = left - WORD_LEN;
         if base::be64(d, start) != 0 {
-            return n;
+            return left;
         }
-        n = start;
+        left = start;
     }
-    n
+    left
 }
 
 // Trailing zeros removed, the last byte left is the content type, and what precedes it the content.
