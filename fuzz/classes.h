@@ -14,8 +14,8 @@ typedef struct {
 } Pending;
 
 /* The words (crates/recv_words/specs/Words.antt). */
-enum { W_COUNT = 15, W_HIGHEST, W_ENCRYPTION, W_RELEASED, W_MIN, W_SIZE, W_CURSOR, W_READINGS, W_ASKED, W_EPOCH, W_TWO, W_HEADER,
-    W_LENGTH, W_NUMBER, W_IVS };
+enum { W_WINDOWS = 5, W_MARKS = 10, W_COUNT = 15, W_HIGHEST, W_ENCRYPTION, W_RELEASED, W_MIN, W_SIZE, W_CURSOR, W_READINGS, W_ASKED, W_EPOCH,
+    W_TWO, W_HEADER, W_LENGTH, W_NUMBER, W_IVS };
 
 /* The words of what waits (crates/classify/specs/Classify.antt). */
 enum { P_KIND, P_TYPE, P_EPOCH, P_NUMBER, P_START, P_LENGTH, P_CLOSED, P_CLOSE_EPOCH, P_CLOSE_NUMBER, P_WORDS };

@@ -48,7 +48,7 @@ static int planted(int fault)
     return chosen == fault;
 }
 
-/* The datagrams whose classes are known answers have these lengths, or one byte less where that is refused. */
+/* The datagrams whose classes or verdicts are known answers have these lengths, or one byte less where that is refused. */
 static int is_known(size_t n)
 {
     return n == 28 || n == 29 || n == 30 || n == 45 || n == 46 || n == 63;
@@ -94,9 +94,39 @@ HuskReading __wrap_husk_receiving_begin_read_words(uint64_t *w, uint64_t *x, uin
     return r;
 }
 
+/* How far below its window's highest a number with these unmasked bits is, where it is no more than half a block below. */
+static uint64_t below_highest(const uint64_t *w, const uint8_t *d)
+{
+    const uint8_t *p = d + w[21];
+    uint64_t i = w[15] - 1;
+    while (i > 0 && (w[i] ^ w[24]) % 65536 != 0)
+        i--;
+    return w[25] ? (w[5 + i] - (p[1] * 256u + p[2])) % 65536 : (w[5 + i] - p[1]) % 256;
+}
+
+/* Faults in the window's verdict, for a record that was judged in these words. */
+static void verdict_fault(HuskReading *r, const uint64_t *w, const uint8_t *d)
+{
+    const HuskReading old = {.kind = HUSK_READING_DROPPED, .refusal = HUSK_TOO_OLD};
+    if (r->refusal == HUSK_TOO_OLD && planted(97))
+        r->refusal = HUSK_SEEN;
+    else if (r->refusal == HUSK_SEEN && planted(98))
+        r->refusal = HUSK_TOO_OLD;
+    else if (r->refusal == HUSK_SEEN && below_highest(w, d) == 63 && planted(99))
+        r->refusal = HUSK_TOO_OLD; /* 63 below is in the window */
+    else if (r->refusal == HUSK_TOO_OLD && below_highest(w, d) == 64 && planted(100))
+        r->refusal = HUSK_SEEN; /* 64 below is not */
+    else if (r->kind == HUSK_READING_OPENING && below_highest(w, d) == 63 && planted(101))
+        *r = old; /* unused and 63 below */
+}
+
 HuskReading __wrap_husk_receiving_mask(HuskReceiving *s, uint8_t m0, uint8_t m1, uint8_t *d, size_t n)
 {
+    uint64_t w[39];
+    memcpy(w, s->word, sizeof w);
     HuskReading r = __real_husk_receiving_mask(s, m0, m1, d, n);
+    if (!is_known(n) && r.kind != HUSK_READING_REFUSED)
+        verdict_fault(&r, w, d);
     if (n > 0 && planted(6))
         d[n - 1] ^= 1;
     if (r.kind == HUSK_READING_OPENING && r.number > 40000 && r.number < 65536 && planted(45))

@@ -53,6 +53,46 @@ static void known_first(void)
     check_reading(husk_receiving_mask(&s, 0, 0, d, sizeof d), HUSK_READING_OPENING, 0, 6, 200, 25, 2, 17);
 }
 
+/* A record of epoch 3 with this number, opened if the layer asks for it; else the refusal that drops it, told alone. */
+static unsigned arrives(HuskReceiving *s, uint8_t number)
+{
+    uint8_t d[28] = {0x2F, 0, number, 0, 23};
+    require(husk_receiving_begin_read(s, d, sizeof d).kind == HUSK_READING_MASK, "a known mask question");
+    HuskReading r = husk_receiving_mask(s, 0, 0, d, sizeof d);
+    if (r.kind != HUSK_READING_OPENING) {
+        uint8_t refusal = r.refusal;
+        r.refusal = 0;
+        check_reading(r, HUSK_READING_DROPPED, 0, 0, 0, 0, 0, 0);
+        return refusal;
+    }
+    check_reading(r, HUSK_READING_OPENING, 0, 3, number, 0, 5, 23);
+    memcpy(d + 5, "hi\x17\0\0\0\0", 7);
+    check_reading(husk_receiving_opened(s, 1, 7, d, sizeof d), HUSK_READING_OPENED, 23, 3, number, 5, 0, 2);
+    return 0;
+}
+
+/* Numbers in their order of arrival, each with the refusal that drops it or 0: those of the window's rows (01; 02, 5). */
+static void known_window(void)
+{
+    static const struct {
+        size_t n;
+        uint8_t numbers[5], refusals[5];
+    } rows[] = {
+        {4, {100, 36, 37, 37}, {0, HUSK_TOO_OLD, 0, HUSK_SEEN}},
+        {3, {5, 68, 5}, {0, 0, HUSK_SEEN}},
+        {5, {5, 69, 5, 69, 6}, {0, 0, HUSK_TOO_OLD, HUSK_SEEN, 0}},
+        {3, {0, 0, 1}, {0, HUSK_SEEN, 0}},
+    };
+    calling(RECEIVING_MASK);
+    for (size_t i = 0; i < sizeof rows / sizeof *rows; i++) {
+        HuskReceiving s;
+        require(husk_receiving_init(&s, 16) == 0 && husk_receiving_key(&s, 3, iv) == 0, "a known start");
+        require(husk_receiving_enable_encryption(&s) == 0, "a known start");
+        for (size_t k = 0; k < rows[i].n; k++)
+            require(arrives(&s, rows[i].numbers[k]) == rows[i].refusals[k], "a known verdict");
+    }
+}
+
 static void check_sealing(const HuskSending *s, uint64_t number, size_t start)
 {
     const uint8_t header[5] = {0x2E, 0, (uint8_t)number, 0, 20};
@@ -382,16 +422,17 @@ static void known_pieces(void)
 /* Every refusal has a text of its own; other numbers have another. */
 static void known_texts(void)
 {
-    for (unsigned i = 0; i <= HUSK_TOO_MANY_PIECES + 1; i++)
+    for (unsigned i = 0; i <= HUSK_TOO_OLD + 1; i++)
         for (unsigned j = 0; j < i; j++)
             require(strcmp(husk_refusal_text((uint8_t)i), husk_refusal_text((uint8_t)j)) != 0, "a text that two refusals have");
-    require(strcmp(husk_refusal_text(HUSK_TOO_MANY_PIECES + 1), husk_refusal_text(255)) == 0, "a text for no refusal");
+    require(strcmp(husk_refusal_text(HUSK_TOO_OLD + 1), husk_refusal_text(255)) == 0, "a text for no refusal");
 }
 
 void known(void)
 {
     known_receiving();
     known_first();
+    known_window();
     known_removal();
     known_sending();
     known_queue();

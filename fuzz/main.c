@@ -24,7 +24,7 @@
 #define HANG_SECONDS 60
 #endif
 
-enum { KINDS = 12, REFUSALS = 26, ENOUGH = 1000000 };
+enum { KINDS = 12, REFUSALS = 27, ENOUGH = 1000000 };
 
 #define R(n) (1u << (n))
 
@@ -43,7 +43,7 @@ static const struct {
         {R(12) | R(15), R(0) | R(2) | R(3), R(4) | R(5) | R(6) | R(7), R(0), R(0), 0, R(0), R(0)}},
     [RECEIVING_BEGIN_READ] = {"husk_receiving_begin_read_words",
         {R(1) | R(12), R(0) | R(2), R(4) | R(5) | R(6) | R(7), R(0), R(0), 0, R(0)}},
-    [RECEIVING_MASK] = {"husk_receiving_mask", {R(12) | R(15), 0, R(8) | R(9), 0, 0, 0, 0, R(0)}},
+    [RECEIVING_MASK] = {"husk_receiving_mask", {R(12) | R(15), 0, R(8) | R(9) | R(26), 0, 0, 0, 0, R(0)}},
     [RECEIVING_OPENED] = {"husk_receiving_opened_words", {R(12) | R(15), R(3), R(10) | R(11), 0, 0, R(0)}},
     [RECEIVING_CLASSIFY] = {"husk_receiving_classify_words",
         {R(12) | R(15), R(0), R(0), R(0), R(0), R(0), R(0), R(0), R(0), R(0), R(0), R(0)}},

@@ -312,11 +312,74 @@ static void check_rebuilt(const HuskReading *r, const uint8_t *d)
         require(r->number % 256 == p[1], "a number that does not end in the record's 8 bits");
 }
 
+/* Which entry has the epoch of the question, 5 for none. Forged words may have an epoch twice: the last counts. */
+static uint64_t entry_asked(const uint64_t *w)
+{
+    for (uint64_t i = w[W_COUNT] <= 5 ? w[W_COUNT] : 0; i > 0; i--)
+        if ((w[i - 1] ^ w[W_EPOCH]) % 65536 == 0)
+            return i - 1;
+    return 5;
+}
+
+/* The number of 0 or more that ends in these bits and is nearest to the one expected; of two as near the one in its own block. Beyond 64
+ * bits there is none. */
+static uint64_t nearest(uint64_t bits, uint64_t block, uint64_t expected)
+{
+    uint64_t own = expected - expected % block + bits;
+    if (own > expected && own - expected > block / 2 && own >= block)
+        return own - block;
+    if (own < expected && expected - own > block / 2 && own <= UINT64_MAX - block)
+        return own + block;
+    return own;
+}
+
+/* What a record of this number must be told as, by the words of its window: the highest number and the marks, bit k that of k below it. */
+static unsigned verdict(uint64_t number, uint64_t highest, uint64_t marks)
+{
+    if (number > LAST_NUMBER)
+        return HUSK_NUMBER_TOO_LARGE;
+    if (number > highest)
+        return 0;
+    if (highest - number >= 64)
+        return HUSK_TOO_OLD;
+    return marks >> (highest - number) & 1 ? HUSK_SEEN : 0;
+}
+
+/* After the mask the record is asked about or dropped by exactly what its window says: 8, then 9 or 26. */
+static void check_verdict(const HuskReading *r, const uint8_t *d)
+{
+    const uint64_t *w = before.word;
+    if (r->kind == HUSK_READING_REFUSED)
+        return;
+    uint64_t i = entry_asked(w);
+    require(i < 5, "a number judged in an epoch that is not keyed");
+    uint64_t highest = w[W_WINDOWS + i], marks = w[W_MARKS + i], expected = marks & 1 ? highest + 1 : 0;
+    const uint8_t *p = d + w[W_CURSOR];
+    uint64_t number = w[W_TWO] ? nearest(p[1] * 256u + p[2], 65536, expected) : nearest(p[1], 256, expected);
+    unsigned due = verdict(number, highest, marks);
+    require(r->refusal == due && (due != 0 || r->number == number), "another verdict on a number than its window's, or another number");
+}
+
+/* A mask by which the number comes to an edge of its window: the highest or next to it, or the lowest of the window or one near that. */
+static void mask_to_edge(const uint8_t *d, size_t n, uint8_t *m0, uint8_t *m1)
+{
+    static const uint64_t below_highest[] = {0, 1, 62, 63, 64, 65};
+    const uint64_t *w = s->word;
+    uint64_t i = entry_asked(w), at = w[W_CURSOR];
+    if (i == 5 || at >= n || n - at < 3)
+        return;
+    uint64_t number = w[W_WINDOWS + i] - below_highest[below(6)];
+    *m0 = (uint8_t)(d[at + 1] ^ (w[W_TWO] ? number >> 8 : number));
+    *m1 = (uint8_t)(d[at + 2] ^ number);
+}
+
 static void call_mask(void)
 {
     size_t n = length_lent();
     uint8_t *d = bytes_lent(n), m0 = one_in(2) ? 0 : (uint8_t)any(), m1 = one_in(2) ? 0 : (uint8_t)below(8);
     HuskReading r;
+    if (one_in(6))
+        mask_to_edge(d, n, &m0, &m1);
     if (n > 0)
         memcpy(copy, d, n);
     calling(RECEIVING_MASK);
@@ -325,6 +388,7 @@ static void call_mask(void)
     reading_answer(RECEIVING_MASK, r, n, 0);
     check_masked(&r, d, n, m0, m1);
     check_rebuilt(&r, d);
+    check_verdict(&r, d);
 }
 
 /* A content of some type that calls can act on. */

@@ -34,9 +34,9 @@ extern "C" {
 #endif
 
 #define HUSK_VERSION_MAJOR 0
-#define HUSK_VERSION_MINOR 9
+#define HUSK_VERSION_MINOR 10
 #define HUSK_VERSION_PATCH 0
-#define HUSK_VERSION "0.9.0"
+#define HUSK_VERSION "0.10.0"
 
 /* ---- refusals */
 
@@ -51,7 +51,8 @@ enum {
     HUSK_NO_KEYS = 6,           /* no keys for the record's epoch */
     HUSK_TOO_SHORT = 7,         /* the protected part is too short */
     HUSK_NUMBER_TOO_LARGE = 8,  /* the record's number would be above 2^48 - 1 */
-    HUSK_NOT_FRESH = 9,         /* the record's number is used or too old */
+    HUSK_SEEN = 9,              /* the record's number was used: the record came before */
+    HUSK_TOO_OLD = 26,          /* the record's number is 64 or more below the highest used: it comes too late, used or not */
     HUSK_NOT_OPENED = 10,       /* the cipher did not open the record */
     HUSK_NO_CONTENT_TYPE = 11,  /* the opened record has no content type; its number is used */
     /* The host causes these. */
@@ -87,7 +88,7 @@ static inline const char *husk_refusal_text(uint8_t refusal) {
         "no keys for the record's epoch",
         "the protected part is too short",
         "the record's number is above 2^48 - 1",
-        "the record's number is used or too old",
+        "the record's number was used",
         "the cipher did not open the record",
         "the opened record has no content type",
         "a setting or a state is out of its range, or a buffer too short for it",
@@ -104,6 +105,7 @@ static inline const char *husk_refusal_text(uint8_t refusal) {
         "a sealing still waits, or four application epochs are keyed to receive",
         "a piece runs past its message or its record, its total is over 16,384 bytes, or the message numbers are spent",
         "the message has more than 50 different pieces",
+        "the record's number is 64 or more below the highest used",
     };
     return refusal < sizeof text / sizeof *text ? text[refusal] : "no refusal of this version";
 }
@@ -136,7 +138,7 @@ typedef struct {
 enum {
     HUSK_READING_REFUSED = 0,   /* refusal 1, 12 or 15: nothing has changed */
     HUSK_READING_END = 1,       /* the datagram ends; refusal 0, 2 or 3 */
-    HUSK_READING_DROPPED = 2,   /* one record is dropped; refusal 4 to 11 */
+    HUSK_READING_DROPPED = 2,   /* one record is dropped; refusal 4 to 11 or 26 */
     HUSK_READING_PLAINTEXT = 3, /* content_type, number; content at start, length bytes. Anyone can have written it. Readings 3, 4 and 5 are
                                    what husk_receiving_classify deals with */
     HUSK_READING_UNOPENED = 4,  /* before peer encryption: epoch (its two bits), number (its bytes as they lie, masked); protected part

@@ -51,6 +51,7 @@ SPOILED = ["byte", "type", "whole", "later", "number", "closed", "at-close", "la
 
 LONGEST = 16384
 WINDOW = 64
+LAST_NUMBER = (1 << 48) - 1
 MOST_APPLICATIONS = 4
 MOST_READINGS = 16
 
@@ -61,7 +62,7 @@ CLOSE, USER_CANCELED = 0, 90
 LATE = 8
 
 # Refusals of the header.
-TOO_MANY_READINGS, BEFORE_ENCRYPTION, NO_KEYS, TOO_SHORT, NUMBER_TOO_LARGE, NOT_FRESH, NOT_OPENED = 3, 5, 6, 7, 8, 9, 10
+TOO_MANY_READINGS, BEFORE_ENCRYPTION, NO_KEYS, TOO_SHORT, NUMBER_TOO_LARGE, SEEN, TOO_OLD, NOT_OPENED = 3, 5, 6, 7, 8, 9, 26, 10
 
 
 def hex_or_dash(text):
@@ -131,25 +132,34 @@ class Receiver:
         highest = max(self.opened[record["epoch"]], default=-1)
         return nearest(record["seq"] % block, block, highest + 1)
 
+    def refused(self, epoch, number):
+        """By what a number is refused before the cipher is asked, in the order of the tests; None where it is fresh."""
+        if number > LAST_NUMBER:
+            return NUMBER_TOO_LARGE
+        if number + WINDOW <= max(self.opened[epoch], default=0):
+            return TOO_OLD
+        return SEEN if number in self.opened[epoch] else None
+
     def dropped(self, record, first):
-        """Why a sealed record must be dropped, and the refusals by which it may be; None where it must open."""
-        epoch, number = record["epoch"], record["seq"]
+        """Why a sealed record must be dropped, and the refusals by which it may be; None where it must open. Under the keys of another
+        epoch its number becomes one that is not known here."""
+        epoch = record["epoch"]
         if not self.encrypted:
             return "early", BEFORE_ENCRYPTION
         if self.must_not_open:
             return "unopened", NO_KEYS, TOO_SHORT, NOT_OPENED
         if epoch == 1:
-            return "early", NO_KEYS, TOO_SHORT, NOT_FRESH, NOT_OPENED
+            return "early", NO_KEYS, TOO_SHORT, SEEN, TOO_OLD, NOT_OPENED
         if epoch not in self.keyed or self.resolved(first & 3) != epoch:
-            return "left", NO_KEYS, NUMBER_TOO_LARGE, NOT_FRESH, NOT_OPENED
+            return "left", NO_KEYS, NUMBER_TOO_LARGE, SEEN, TOO_OLD, NOT_OPENED
         if self.keys[str(epoch)]["cipher_suite"] == SHORT_TAG:
             return "short-tag", TOO_SHORT, NOT_OPENED
-        if self.rebuilt(record, first) != number:
-            return "far", NUMBER_TOO_LARGE, NOT_FRESH, NOT_OPENED
-        if number in self.opened[epoch]:
-            return "replayed", NOT_FRESH
-        if number + WINDOW <= max(self.opened[epoch], default=0):
-            return "old", NOT_FRESH
+        number = self.rebuilt(record, first)
+        refusal = self.refused(epoch, number)
+        if number != record["seq"]:
+            return "far", refusal or NOT_OPENED
+        if refusal:
+            return "old" if refusal == TOO_OLD else "replayed", refusal
         return None
 
     def expected(self, record, first):

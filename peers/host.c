@@ -22,7 +22,7 @@ static const struct {
     const char *word, *text;
 } reasons[] = {
     {"replayed", "refused as replayed"},
-    {"old", "too old"},
+    {"old", "refused as too old"},
     {"far", "out of reach"},
     {"left", "of an epoch left"},
     {"unopened", "not opened, as expected"},

@@ -44,3 +44,4 @@ pub mod leaves;
 pub mod library;
 pub mod requests;
 pub mod sendings;
+pub mod verdict;

@@ -4,6 +4,7 @@ use std::collections::{HashMap, HashSet};
 use std::ops::Range;
 use std::slice;
 
+use crate::late::{Bands, WIDTHS};
 use crate::ledger::{Delivery, Event, Ledger, Record};
 use crate::link::{Kind, Sent};
 
@@ -45,10 +46,17 @@ pub struct Account {
     pub forged_dropped: usize,
     /// Datagrams delivered and not read: on their way when the far end ended, or lost between the sockets.
     pub unread: usize,
-    /// Readings of undamaged records that were handed over before.
+    /// Readings of undamaged records that were handed over before, at most 63 below the highest: dropped as seen.
     pub doubles: usize,
-    /// Readings of undamaged records that were behind the window.
+    /// Readings of undamaged records that were behind the window, dropped as too old: handed over before, and not.
+    pub doubles_too_old: usize,
     pub late: usize,
+    /// Datagrams of which a record was dropped as seen or as too old that was not, or was not dropped so.
+    pub misjudged: usize,
+    /// Records dropped as too old, by how far below the highest they came, as the end that read them tells.
+    pub below: Bands,
+    /// Of these the records too late, each counted once, as it came first: not those that the link lost and replayed.
+    pub missed: Bands,
     /// Records lost or damaged together with another one in the same datagram, but for those lost as --lose-first says.
     pub beside: usize,
     /// Records lost as --lose-first says.
@@ -74,6 +82,11 @@ impl Account {
                 }
                 Event::Beyond { epoch, number } => judge.tell((*epoch, *number), Fate::BeyondClose, |_| true),
                 Event::Unprotected => judge.unprotected += 1,
+                Event::Dropped(refusal) => judge.told.drops(*refusal),
+                Event::Below(distance) => {
+                    judge.told.below.push(*distance);
+                    judge.account.below.add(*distance);
+                }
                 Event::Read(check) => judge.read(*check),
             }
         }
@@ -102,10 +115,40 @@ impl Account {
 
 /// A number beside those that are used in its epoch.
 enum Standing {
-    Used,
-    Behind,
+    /// Used, and in the window.
+    Seen,
+    /// Behind the window, so far below the highest.
+    Behind {
+        below: u64,
+        is_used: bool,
+    },
     Beyond,
     Fresh,
+}
+
+/// What the window's verdict drops from a datagram.
+#[derive(Default, PartialEq)]
+struct Drops {
+    seen: usize,
+    too_old: usize,
+    /// How far below the highest those too old are.
+    below: Vec<u64>,
+}
+
+/// Refusals: the number was used, and it is behind the window.
+pub const SEEN: usize = 9;
+pub const TOO_OLD: usize = 26;
+
+impl Drops {
+    fn drops(&mut self, refusal: usize) {
+        self.seen += usize::from(refusal == SEEN);
+        self.too_old += usize::from(refusal == TOO_OLD);
+    }
+
+    /// Whether each one too old is as far below the highest as it has to be.
+    fn are_sound(&self) -> bool {
+        self.too_old == self.below.len() && self.below.iter().all(|below| *below > REACH)
+    }
 }
 
 /// The numbers used in a receive epoch.
@@ -116,7 +159,7 @@ struct Used {
 }
 
 /// A number more than this below the highest is behind the window.
-pub const REACH: u64 = 63;
+pub const REACH: u64 = WIDTHS[0] - 1;
 /// A record carries the last 16 bits of its number, which stand for the nearest number that is 0 or more and ends in them.
 const BLOCK: u64 = 1 << 16;
 
@@ -125,12 +168,13 @@ impl Used {
     /// those handed over from the same datagram before.
     fn standing(&self, number: u64, passed: Option<u64>) -> Standing {
         let highest = self.highest.max(passed);
-        let low = highest.unwrap_or(0).saturating_sub(REACH);
+        let below = highest.unwrap_or(0).saturating_sub(number);
         let next = highest.map_or(0, |highest| highest + 1);
-        if self.numbers.contains(&number) {
-            Standing::Used
-        } else if number < low {
-            Standing::Behind
+        let is_used = self.numbers.contains(&number);
+        if below > REACH {
+            Standing::Behind { below, is_used }
+        } else if is_used {
+            Standing::Seen
         } else if number >= BLOCK.max(next + BLOCK / 2) {
             Standing::Beyond
         } else {
@@ -176,6 +220,10 @@ struct Judge<'a> {
     here: Vec<usize>,
     /// How many in it were in plaintext and dropped.
     unprotected: usize,
+    /// Those dropped from it by the window's verdict.
+    told: Drops,
+    /// Those that came too late.
+    missed: HashSet<usize>,
     account: Account,
 }
 
@@ -193,12 +241,21 @@ impl Judge<'_> {
             delivered: ledger.delivered.iter(),
             here: Vec::new(),
             unprotected: 0,
+            told: Drops::default(),
+            missed: HashSet::new(),
             account: Account { fates, ..Account::default() },
         }
     }
 
     fn meets(&mut self, i: usize, fate: Fate) {
         self.account.fates[i] = self.account.fates[i].max(fate);
+    }
+
+    /// A replay is the link's own doing: what became of the record before stays.
+    fn meets_unless(&mut self, replayed: bool, i: usize, fate: Fate) {
+        if !replayed {
+            self.meets(i, fate);
+        }
     }
 
     fn hand(&mut self, record: &Record) {
@@ -220,10 +277,11 @@ impl Judge<'_> {
 
     /// A datagram is read: the records in it that were not handed over are looked at.
     fn read(&mut self, check: u64) {
+        let mut due = None;
         if let Some(delivery) = self.delivered.find(|delivery| delivery.check == check) {
             let records = delivery.records.start..delivery.records.end.min(self.sealed.len());
             match delivery.kind {
-                Kind::Intact | Kind::Replayed => self.read_whole(records, delivery.kind == Kind::Replayed),
+                Kind::Intact | Kind::Replayed => due = self.read_whole(records, delivery.kind == Kind::Replayed),
                 Kind::Damaged => records.for_each(|i| self.meets(i, Fate::Damaged)),
                 Kind::Forged => {}
                 Kind::Plaintext => {
@@ -233,31 +291,55 @@ impl Judge<'_> {
             }
         }
         self.unprotected = 0;
+        let told = std::mem::take(&mut self.told);
+        self.account.misjudged += usize::from(!told.are_sound() || due.is_some_and(|due| due != told));
         for i in std::mem::take(&mut self.here) {
             let record = &self.sealed[i];
             self.used.entry(record.epoch).or_default().mark(record.number);
         }
     }
 
-    fn read_whole(&mut self, records: Range<usize>, replayed: bool) {
+    /// What the window's verdict has to drop, where that can be said: not of a number whose bits stand for another one.
+    fn read_whole(&mut self, records: Range<usize>, replayed: bool) -> Option<Drops> {
+        let (mut due, mut is_known) = (Drops::default(), true);
         // At most 16 readings from one datagram.
         for i in records.take(16).filter(|i| !self.here.contains(i)).collect::<Vec<_>>() {
             match self.standing(i) {
                 None => self.meets(i, Fate::BeforeKeys),
-                Some(Standing::Used) => self.account.doubles += 1,
-                Some(Standing::Behind) => {
-                    self.account.late += 1;
-                    if !replayed {
-                        self.meets(i, Fate::TooLate);
-                    }
+                Some(Standing::Seen) => {
+                    self.account.doubles += 1;
+                    due.seen += 1;
                 }
-                Some(Standing::Beyond) if !replayed => self.meets(i, Fate::OutOfReach),
-                Some(Standing::Beyond) => {}
+                Some(Standing::Behind { below, is_used }) => {
+                    self.meets_unless(replayed, i, Fate::TooLate);
+                    is_known &= below + 1 < BLOCK / 2;
+                    self.comes_late(i, below, is_used, replayed);
+                    due.too_old += 1;
+                    due.below.push(below);
+                }
+                Some(Standing::Beyond) => {
+                    self.meets_unless(replayed, i, Fate::OutOfReach);
+                    is_known = false;
+                }
                 Some(Standing::Fresh) => {
                     self.account.left_out += 1;
                     self.meets(i, Fate::LeftOut);
                 }
             }
+        }
+        is_known.then_some(due)
+    }
+
+    /// A record is read behind the window. One that was not handed over before will not be, and the first time it was nearest.
+    fn comes_late(&mut self, i: usize, below: u64, is_used: bool, replayed: bool) {
+        if below + 1 >= BLOCK / 2 {
+            // Its bits stand for a higher number, under which it is not opened.
+            return;
+        }
+        self.account.doubles_too_old += usize::from(is_used);
+        self.account.late += usize::from(!is_used);
+        if !is_used && !replayed && self.missed.insert(i) {
+            self.account.missed.add(below);
         }
     }
 
@@ -328,6 +410,16 @@ mod tests {
             self.ledger.reads("g", &mut check.split_ascii_whitespace());
         }
 
+        /// A datagram is delivered and read, and its records are dropped as seen, and as too old, so far below the highest.
+        fn drop(&mut self, i: usize, kind: Kind, seen: usize, below: &[u64]) {
+            let seen = (0..seen).map(|_| ("x", SEEN as u64));
+            let too_old = below.iter().flat_map(|below| [("x", TOO_OLD as u64), ("t", *below)]);
+            for (kind, number) in seen.chain(too_old) {
+                self.ledger.reads(kind, &mut number.to_string().split_ascii_whitespace());
+            }
+            self.read(i, kind, &[]);
+        }
+
         fn account(&self) -> Account {
             Account::of(&self.ledger)
         }
@@ -337,8 +429,8 @@ mod tests {
         format!("3 {number} 23 {}", hex::encode(number.to_be_bytes()))
     }
 
-    fn findings(account: &Account) -> [usize; 5] {
-        [account.twice, account.changed, account.invented, account.left_out, account.unacknowledged]
+    fn findings(account: &Account) -> [usize; 6] {
+        [account.twice, account.changed, account.invented, account.left_out, account.unacknowledged, account.misjudged]
     }
 
     #[test]
@@ -349,20 +441,113 @@ mod tests {
         scene.read(2, Kind::Damaged, &[]);
         let account = scene.account();
         assert_eq!(account.fates, [Fate::HandedOver, Fate::Lost, Fate::Damaged, Fate::OnItsWay]);
-        assert_eq!(findings(&account), [0; 5]);
+        assert_eq!(findings(&account), [0; 6]);
     }
 
     #[test]
     fn a_double_is_told_from_one_that_is_late() {
         let mut scene = Scene::new(&[1; 66]);
         scene.read(1, Kind::Intact, &[1]);
+        scene.read(2, Kind::Intact, &[2]);
         scene.read(65, Kind::Intact, &[65]);
-        scene.read(1, Kind::Intact, &[]);
-        scene.read(0, Kind::Intact, &[]);
+        scene.drop(2, Kind::Intact, 1, &[]);
+        scene.drop(1, Kind::Intact, 0, &[64]);
+        scene.drop(0, Kind::Intact, 0, &[65]);
         let account = scene.account();
-        assert_eq!((account.doubles, account.late), (1, 1));
-        assert_eq!(account.fates[..2], [Fate::TooLate, Fate::HandedOver]);
-        assert_eq!(findings(&account), [0; 5]);
+        assert_eq!((account.doubles, account.doubles_too_old, account.late), (1, 1, 1));
+        assert_eq!(account.fates[..3], [Fate::TooLate, Fate::HandedOver, Fate::HandedOver]);
+        assert_eq!((account.below, account.missed), (Bands([2, 0, 0, 0]), Bands([1, 0, 0, 0])));
+        assert_eq!(findings(&account), [0; 6]);
+    }
+
+    /// The findings where numbers 1 and 2 were handed over, then 65, and these datagrams are dropped so.
+    fn misjudged(drops: &[(usize, Kind, usize, &[u64])]) -> usize {
+        let mut scene = Scene::new(&[1; 66]);
+        [1, 2, 65].iter().for_each(|number| scene.read(*number, Kind::Intact, &[*number]));
+        drops.iter().for_each(|(i, kind, seen, below)| scene.drop(*i, *kind, *seen, below));
+        let account = scene.account();
+        assert_eq!(findings(&account)[..5], [0; 5]);
+        account.misjudged
+    }
+
+    #[test]
+    fn seen_and_too_old_are_told_as_they_are() {
+        for kind in [Kind::Intact, Kind::Replayed] {
+            assert_eq!(misjudged(&[(2, kind, 1, &[]), (1, kind, 0, &[64]), (0, kind, 0, &[65])]), 0);
+            // As the other one, as both, as neither, and at another distance.
+            assert_eq!(misjudged(&[(2, kind, 0, &[64]), (1, kind, 1, &[]), (0, kind, 1, &[])]), 3);
+            assert_eq!(misjudged(&[(2, kind, 1, &[64]), (1, kind, 1, &[64]), (2, kind, 0, &[]), (1, kind, 0, &[])]), 4);
+            assert_eq!(misjudged(&[(1, kind, 0, &[65]), (0, kind, 0, &[64]), (0, kind, 0, &[65])]), 2);
+        }
+        // What is damaged or forged can have any number, and yet none in the window is too old.
+        for kind in [Kind::Damaged, Kind::Forged] {
+            assert_eq!(misjudged(&[(2, kind, 0, &[64]), (1, kind, 1, &[]), (0, kind, 0, &[]), (0, kind, 0, &[30_000])]), 0);
+            assert_eq!(misjudged(&[(0, kind, 0, &[63])]), 1);
+        }
+    }
+
+    #[test]
+    fn each_one_too_old_has_a_distance() {
+        let mut scene = Scene::new(&[1; 65]);
+        scene.read(64, Kind::Intact, &[64]);
+        scene.ledger.reads("x", &mut "26".split_ascii_whitespace());
+        scene.read(0, Kind::Damaged, &[]);
+        assert_eq!(findings(&scene.account()), [0, 0, 0, 0, 0, 1]);
+    }
+
+    #[test]
+    fn late_ones_are_counted_by_how_late_they_came() {
+        let mut scene = Scene::new(&[1; 600]);
+        scene.read(599, Kind::Intact, &[599]);
+        for below in [64, 127, 128, 255, 256, 511, 512, 599] {
+            scene.drop(599 - below, Kind::Intact, 0, &[below as u64]);
+        }
+        let account = scene.account();
+        assert_eq!((account.late, account.below, account.missed), (8, Bands([2; 4]), Bands([2; 4])));
+        assert_eq!((account.count(Fate::TooLate), findings(&account)), (8, [0; 6]));
+    }
+
+    #[test]
+    fn one_that_comes_late_twice_is_missed_once_as_it_came_first() {
+        let mut scene = Scene::new(&[1; 300]);
+        scene.read(100, Kind::Intact, &[100]);
+        scene.drop(0, Kind::Intact, 0, &[100]);
+        scene.read(299, Kind::Intact, &[299]);
+        scene.drop(0, Kind::Intact, 0, &[299]);
+        scene.drop(100, Kind::Intact, 0, &[199]);
+        let account = scene.account();
+        assert_eq!((account.late, account.doubles_too_old), (2, 1));
+        assert_eq!((account.below, account.missed), (Bands([1, 1, 1, 0]), Bands([1, 0, 0, 0])));
+        assert_eq!(findings(&account), [0; 6]);
+    }
+
+    #[test]
+    fn one_handed_over_makes_the_next_of_its_datagram_late() {
+        let mut scene = Scene::new(&[1, 1]);
+        scene.send(70..71);
+        scene.send(2..3);
+        // A datagram with numbers 70 and 2, in this order.
+        scene.datagrams[2].records = 2..4;
+        scene.read(0, Kind::Intact, &[0]);
+        for (kind, words) in [("x", "26"), ("t", "68")] {
+            scene.ledger.reads(kind, &mut words.split_ascii_whitespace());
+        }
+        scene.read(2, Kind::Intact, &[70]);
+        let account = scene.account();
+        assert_eq!((account.late, account.missed, findings(&account)), (1, Bands([1, 0, 0, 0]), [0; 6]));
+    }
+
+    /// From 32,768 below the next number on the bits stand for a higher one: that it is not dropped as too old is a finding up to there.
+    #[test]
+    fn one_so_late_that_its_bits_stand_for_another_need_not_be_too_old() {
+        for (number, late) in [(33_000, 1), (32_234, 1), (32_233, 0), (100, 0)] {
+            let mut scene = Scene::from(number, &[1]);
+            scene.send(65_000..65_001);
+            scene.read(1, Kind::Intact, &[65_000]);
+            scene.read(0, Kind::Intact, &[]);
+            let account = scene.account();
+            assert_eq!((account.fates[0], account.late, findings(&account)), (Fate::TooLate, late, [0, 0, 0, 0, 0, late]));
+        }
     }
 
     #[test]
@@ -372,7 +557,7 @@ mod tests {
         scene.read(0, Kind::Intact, &[]);
         let account = scene.account();
         assert_eq!(account.fates[0], Fate::LeftOut);
-        assert_eq!(findings(&account), [0, 0, 0, 1, 0]);
+        assert_eq!(findings(&account), [0, 0, 0, 1, 0, 0]);
     }
 
     #[test]
@@ -380,9 +565,10 @@ mod tests {
         let mut scene = Scene::new(&[1; 100]);
         scene.lose(0);
         scene.read(99, Kind::Intact, &[99]);
-        scene.read(0, Kind::Replayed, &[]);
+        scene.drop(0, Kind::Replayed, 0, &[99]);
         let account = scene.account();
         assert_eq!((account.fates[0], account.late), (Fate::Lost, 1));
+        assert_eq!((account.below, account.missed, findings(&account)), (Bands([1, 0, 0, 0]), Bands::default(), [0; 6]));
     }
 
     /// The fate of this number, read and not handed over after the highest, if there is one, was handed over.
@@ -394,7 +580,7 @@ mod tests {
         }
         scene.read(0, Kind::Intact, &[]);
         let account = scene.account();
-        assert_eq!(findings(&account), [0, 0, 0, usize::from(account.fates[0] == Fate::LeftOut), 0]);
+        assert_eq!(findings(&account), [0, 0, 0, usize::from(account.fates[0] == Fate::LeftOut), 0, 0]);
         account.fates[0]
     }
 
@@ -425,7 +611,7 @@ mod tests {
         scene.read(1, Kind::Intact, &[65_536]);
         let account = scene.account();
         assert_eq!(account.fates, [Fate::HandedOver, Fate::HandedOver, Fate::OnItsWay]);
-        assert_eq!(findings(&account), [0; 5]);
+        assert_eq!(findings(&account), [0; 6]);
     }
 
     #[test]
@@ -446,7 +632,7 @@ mod tests {
         scene.read(0, Kind::Intact, &[65_535]);
         let account = scene.account();
         assert_eq!(account.fates, [Fate::HandedOver, Fate::LeftOut]);
-        assert_eq!(findings(&account), [0, 0, 0, 1, 0]);
+        assert_eq!(findings(&account), [0, 0, 0, 1, 0, 0]);
     }
 
     #[test]
@@ -457,7 +643,7 @@ mod tests {
         scene.read(3, Kind::Intact, &[9]);
         let account = scene.account();
         assert_eq!((account.count(Fate::Lost), account.lost_first, account.beside), (9, 6, 2));
-        assert_eq!((account.lowest_in_epoch_3, findings(&account)), (Some(9), [0; 5]));
+        assert_eq!((account.lowest_in_epoch_3, findings(&account)), (Some(9), [0; 6]));
     }
 
     #[test]
@@ -477,7 +663,7 @@ mod tests {
         scene.ledger.events.clear();
         scene.read(0, Kind::Intact, &[]);
         let account = scene.account();
-        assert_eq!((account.fates[0], findings(&account)), (Fate::BeforeKeys, [0; 5]));
+        assert_eq!((account.fates[0], findings(&account)), (Fate::BeforeKeys, [0; 6]));
     }
 
     #[test]
@@ -519,18 +705,18 @@ mod tests {
     fn what_the_library_dealt_with_is_handed_over() {
         let account = dealt(&[("d", "3 0 26"), ("d", "3 1 21 0")]);
         assert_eq!((account.fates.as_slice(), account.closes), (&[Fate::HandedOver; 2][..], 1));
-        assert_eq!(findings(&account), [0; 5]);
+        assert_eq!(findings(&account), [0; 6]);
         // As another type, as another alert, twice, and one that was not sealed.
-        assert_eq!(findings(&dealt(&[("d", "3 0 20"), ("d", "3 1 21 40")])), [0, 2, 0, 0, 0]);
-        assert_eq!(findings(&dealt(&[("d", "3 0 26"), ("d", "3 0 26"), ("d", "3 1 21"), ("d", "3 2 26")])), [1, 0, 1, 0, 0]);
-        assert_eq!(findings(&dealt(&[("d", "3 1 21 0")])), [0, 0, 0, 1, 0]);
+        assert_eq!(findings(&dealt(&[("d", "3 0 20"), ("d", "3 1 21 40")])), [0, 2, 0, 0, 0, 0]);
+        assert_eq!(findings(&dealt(&[("d", "3 0 26"), ("d", "3 0 26"), ("d", "3 1 21"), ("d", "3 2 26")])), [1, 0, 1, 0, 0, 0]);
+        assert_eq!(findings(&dealt(&[("d", "3 1 21 0")])), [0, 0, 0, 1, 0, 0]);
     }
 
     #[test]
     fn beyond_the_close_is_not_left_out() {
         let account = dealt(&[("d", "3 1 21 0"), ("b", "3 0")]);
         assert_eq!(account.fates, [Fate::BeyondClose, Fate::HandedOver]);
-        assert_eq!(findings(&account), [0; 5]);
+        assert_eq!(findings(&account), [0; 6]);
     }
 
     #[test]

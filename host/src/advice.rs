@@ -4,7 +4,7 @@ use indicatif::HumanCount;
 
 use crate::account::REACH;
 use crate::options::Options;
-use crate::report::{Records, Report};
+use crate::report::{Records, Report, Way, WiderWindow};
 use crate::verdict::{Ending, Word};
 
 pub fn on(options: &Options, report: &Report) -> String {
@@ -14,9 +14,9 @@ pub fn on(options: &Options, report: &Report) -> String {
         Word::NotFinished if report.verdict.ending == Ending::Ended => again,
         Word::NotFinished => on_time(report),
         Word::Holds => {
-            let records = &report.post_to_gateway.records;
-            let but = if records.lost_first > 0 { "but for those lost first, " } else { "" };
-            format!("{but}{}", on_records(options, records))
+            let way = &report.post_to_gateway;
+            let but = if way.records.lost_first > 0 { "but for those lost first, " } else { "" };
+            format!("{but}{}", on_late(options, way).unwrap_or_else(|| on_records(&way.records)))
         }
     }
 }
@@ -43,32 +43,54 @@ fn on_time(report: &Report) -> String {
     format!("at this pace {all} meter records take {needed:.0} s: give --seconds {:.0}, or fewer --records", (1.5 * needed).ceil())
 }
 
-/// A run that holds: what most of the missing records are missing for.
-fn on_records(options: &Options, records: &Records) -> String {
-    // Without those that --lose-first asked for.
-    let (sealed, lost) = (records.sealed - records.lost_first, records.lost - records.lost_first);
-    let many = |n: usize| n * 100 > sealed;
-    let share = |n: usize| format!("{:.0} %", 100.0 * n as f64 / sealed as f64);
-    let reach = REACH as usize / options.pack;
-    if many(records.too_late) && options.reorder > reach {
+/// The records of a run that holds, without those that --lose-first asked for.
+fn sealed(records: &Records) -> usize {
+    records.sealed - records.lost_first
+}
+
+fn is_many(records: &Records, n: usize) -> bool {
+    n * 100 > sealed(records)
+}
+
+fn share(records: &Records, n: usize) -> String {
+    format!("{:.0} %", 100.0 * n as f64 / sealed(records) as f64)
+}
+
+/// The narrowest window that would have read nearly as many as the widest.
+fn wider(windows: &[WiderWindow]) -> String {
+    let most = windows.last().map_or(0, |widest| widest.never_handed_over);
+    match windows.iter().find(|window| 100 * window.never_handed_over >= 99 * most) {
+        Some(WiderWindow { numbers, never_handed_over: read @ 1.., .. }) => {
+            format!("; a window of {numbers} would have read {} of them", HumanCount(*read as u64))
+        }
+        _ => String::new(),
+    }
+}
+
+/// A run that holds and in which many came too late.
+fn on_late(options: &Options, way: &Way) -> Option<String> {
+    let (records, reach) = (&way.records, REACH as usize / options.pack);
+    if !is_many(records, records.too_late) {
+        return None;
+    }
+    let why = if options.reorder > reach {
         let pack = if options.pack > 1 { ", or --pack" } else { "" };
-        return format!(
-            "{} came too late, overtaken by more than {REACH} records: lower --reorder to {reach}{pack}",
-            share(records.too_late)
-        );
-    }
-    if many(records.too_late) {
-        return format!(
-            "{} came too late, held back while more than {REACH} records passed: lower --delay or --delay-ms",
-            share(records.too_late)
-        );
-    }
-    if many(records.beside_another) {
+        format!("overtaken by more than {REACH} records: lower --reorder to {reach}{pack}")
+    } else {
+        format!("held back while more than {REACH} records passed: lower --delay or --delay-ms")
+    };
+    Some(format!("{} came too late, {why}{}", share(records, records.too_late), wider(&way.readings.wider_windows)))
+}
+
+/// A run that holds: what most of the missing records are missing for.
+fn on_records(records: &Records) -> String {
+    if is_many(records, records.beside_another) {
         let n = HumanCount(records.beside_another as u64);
         return format!("{n} records went along with another one in their datagram: a lower --pack loses fewer at once");
     }
-    if many(lost + records.damaged) {
-        let gone = share(lost + records.damaged);
+    let gone = records.lost - records.lost_first + records.damaged;
+    if is_many(records, gone) {
+        let gone = share(records, gone);
         return format!(
             "{gone} were lost or damaged, and nothing sends them again: what has to arrive is saved and resent, as the orders are"
         );

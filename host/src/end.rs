@@ -14,6 +14,8 @@ use huskelapse::openssl::Keys;
 use huskelapse::{Cipher, CipherError, Reading, Receiver, Refusal, Sender};
 
 use crate::crypto::{EpochKeys, Suite};
+use crate::cut::{is_sealed, records, PLAINTEXT_HEADER};
+use crate::late::{distances, Highest};
 use crate::options::Options;
 use crate::system::Sources;
 
@@ -78,6 +80,8 @@ pub struct End {
     marked: usize,
     /// The datagram sent last.
     last: Vec<u8>,
+    /// What those that come too late are held against.
+    highest: Highest,
     pub arrived: VecDeque<Arrived>,
     started: Instant,
     limit: Duration,
@@ -118,19 +122,11 @@ fn log_reading(log: &mut impl Write, reading: &Reading) {
 }
 
 /// The plaintext records of a datagram that this end wrote.
-fn plaintext_records(mut bytes: &[u8]) -> Vec<Record> {
-    let mut records = Vec::new();
-    while !bytes.is_empty() {
-        let sealed = bytes[0] & 0xE0 == 0x20;
-        let header = if sealed { 5 } else { 13 };
-        let length = usize::from(u16::from_be_bytes([bytes[header - 2], bytes[header - 1]]));
-        if !sealed {
-            let number = u64::from_be_bytes(*bytes[3..].first_chunk().unwrap());
-            records.push(Record { epoch: 0, number, content_type: bytes[0], content: bytes[header..][..length].to_vec() });
-        }
-        bytes = &bytes[header + length..];
-    }
-    records
+fn plaintext_records(datagram: &[u8]) -> impl Iterator<Item = Record> + '_ {
+    records(datagram).filter(|record| !is_sealed(record)).map(|record| {
+        let number = u64::from_be_bytes(*record[3..].first_chunk().unwrap());
+        Record { epoch: 0, number, content_type: record[0], content: record[PLAINTEXT_HEADER..].to_vec() }
+    })
 }
 
 impl Cipher for Logged<'_> {
@@ -179,6 +175,7 @@ impl End {
             resent: 0,
             marked: 0,
             last: Vec::new(),
+            highest: Highest::default(),
             arrived: VecDeque::new(),
             started: Instant::now(),
             limit: Duration::from_secs(options.seconds),
@@ -328,21 +325,27 @@ impl End {
             Ok(readings) => readings,
             Err(why) => return writeln!(self.log, "x {}\ng {check}", why.number()).unwrap_or(()),
         };
-        let (mut forged_close, mut alert) = (false, None);
-        for reading in readings {
+        let (mut forged_close, mut alert, mut too_old) = (false, None, Vec::new());
+        for (place, reading) in readings.enumerate() {
             log_reading(&mut self.log, &reading);
             self.arrived.extend(Arrived::of(&reading));
+            self.highest.note(&reading);
             match reading {
+                Reading::Dropped(Refusal::TooOld) => too_old.push((place, self.highest)),
                 Reading::Close { epoch: 0, .. } => forged_close = true,
                 Reading::Alert { epoch: 2.., description, .. } => alert = Some(description),
                 _ => {}
             }
+        }
+        for distance in distances(datagram, &too_old) {
+            let _ = writeln!(self.log, "t {distance}");
         }
         let _ = writeln!(self.log, "g {check}");
         if forged_close {
             // No end here closes in plaintext. All that is sealed would lie beyond it; nothing is keyed yet.
             let anew = Receiver::new(Receiver::MIN_PROTECTED);
             self.receiver = self.must(anew);
+            self.highest = Highest::default();
         }
         if let Some(description) = alert {
             self.stop(&format!("the far end sent alert {description}"));

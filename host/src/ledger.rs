@@ -1,5 +1,6 @@
 //! What was sealed at one end, what the link did with it and what the other end handed over, as it is told.
 
+use std::collections::BTreeMap;
 use std::hash::{DefaultHasher, Hasher};
 use std::ops::Range;
 use std::str::SplitAsciiWhitespace;
@@ -30,6 +31,10 @@ pub enum Event {
     },
     /// In plaintext, and dropped.
     Unprotected,
+    /// Dropped by this refusal.
+    Dropped(usize),
+    /// One of those dropped as too old was so far below the highest number.
+    Below(u64),
     Read(u64),
 }
 
@@ -64,7 +69,8 @@ pub struct Ledger {
     /// Handshake messages that were put together, and their pieces.
     pub messages: usize,
     pub pieces: usize,
-    pub dropped: [usize; 24],
+    /// How often, by refusal.
+    pub dropped: BTreeMap<usize, usize>,
 }
 
 fn record_of(words: &mut SplitAsciiWhitespace<'_>) -> Option<Record> {
@@ -136,8 +142,10 @@ impl Ledger {
             }
             "x" => {
                 let reason: usize = words.next().and_then(|n| n.parse().ok()).unwrap_or(0);
-                self.dropped[reason.min(23)] += 1;
+                *self.dropped.entry(reason).or_default() += 1;
+                self.events.push(Event::Dropped(reason));
             }
+            "t" => self.events.extend(words.next().and_then(|distance| distance.parse().ok()).map(Event::Below)),
             _ => return false,
         }
         true

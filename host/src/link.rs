@@ -9,6 +9,7 @@ use rand::rngs::SmallRng;
 use rand::{Rng, RngCore, SeedableRng};
 use serde::Serialize;
 
+use crate::cut::{is_sealed, records};
 use crate::options::Options;
 
 /// What a datagram is by the time it is delivered.
@@ -342,16 +343,12 @@ impl Direction {
 }
 
 /// How many sealed records a datagram from an end has, by its headers, and how many of them are of epoch 3.
-fn sealed_records(mut bytes: &[u8]) -> (usize, usize) {
+fn sealed_records(datagram: &[u8]) -> (usize, usize) {
     let (mut count, mut in_epoch_3) = (0, 0);
-    while !bytes.is_empty() {
-        let sealed = bytes[0] & 0xE0 == 0x20;
-        let header = if sealed { 5 } else { 13 };
-        let length = u16::from_be_bytes([bytes[header - 2], bytes[header - 1]]);
-        count += usize::from(sealed);
+    for record in records(datagram).filter(|record| is_sealed(record)) {
+        count += 1;
         // The low bits of the epoch; no end here goes on to epoch 7.
-        in_epoch_3 += usize::from(sealed && bytes[0] & 3 == 3);
-        bytes = &bytes[header + usize::from(length)..];
+        in_epoch_3 += usize::from(record[0] & 3 == 3);
     }
     (count, in_epoch_3)
 }

@@ -3,9 +3,11 @@
 mod account;
 mod advice;
 mod crypto;
+mod cut;
 mod end;
 mod gateway;
 mod handshake;
+mod late;
 mod ledger;
 mod link;
 mod messages;

@@ -13,9 +13,9 @@ pub const GRACE: u64 = 5;
 const LONGEST: u64 = 86_400;
 
 const EXIT_STATUS: &str = "\
-Exit status: 0 the page holds; 1 a record was handed over twice, changed, invented or wrongly left out, one forged in plaintext
-was heeded, a close not seen, or an order obeyed that was not given or obeyed twice; 2 the run was not finished (its time was
-over, or Ctrl-C), or something is missing to make it.
+Exit status: 0 the page holds; 1 a record was handed over twice, changed, invented, wrongly left out, or dropped as seen or too old
+and was not, one forged in plaintext was heeded, a close not seen, or an order obeyed that was not given or obeyed twice; 2 the
+run was not finished (its time was over, or Ctrl-C), or something is missing to make it.
 
 The first run proves the library, which takes about ten minutes, and builds the program. HUSKELAPSE_LIB names a folder that has
 libhuskelapse.a, where it is not to be proved here.";

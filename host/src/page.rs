@@ -5,25 +5,24 @@ use std::time::{Duration, Instant};
 
 use indicatif::{HumanCount, ProgressBar, ProgressDrawTarget, ProgressStyle};
 
+use crate::account::{SEEN, TOO_OLD};
 use crate::report::{Report, Way};
 
-const REASONS: [&str; 12] = [
-    "",
-    "over 16,384 bytes",
-    "header or length beyond the datagram",
-    "a seventeenth reading",
-    "bad plaintext type, version or epoch",
-    "epoch bits 0 or 1 before encryption",
-    "no keys for the epoch",
-    "protected part too short",
-    "number above 2^48 - 1",
-    "number used or too old",
-    "the cipher did not open it",
-    "no content type",
+/// Refusals in the order of their tests.
+const REASONS: [(usize, &str); 12] = [
+    (1, "over 16,384 bytes"),
+    (2, "header or length beyond the datagram"),
+    (3, "a seventeenth reading"),
+    (4, "bad plaintext type, version or epoch"),
+    (5, "epoch bits 0 or 1 before encryption"),
+    (6, "no keys for the epoch"),
+    (7, "protected part too short"),
+    (8, "number above 2^48 - 1"),
+    (SEEN, "number used (seen)"),
+    (TOO_OLD, "number too old"),
+    (10, "the cipher did not open it"),
+    (11, "no content type"),
 ];
-
-/// Refusal 9, which is told apart by what the link did.
-const NOT_FRESH: usize = 9;
 
 /// A bar on stderr, where that is a terminal.
 pub struct Progress {
@@ -79,7 +78,7 @@ impl fmt::Display for Page<'_> {
 }
 
 impl Page<'_> {
-    fn row(&self, f: &mut fmt::Formatter<'_>, name: &str, count: fn(&Way) -> usize) -> fmt::Result {
+    fn row(&self, f: &mut fmt::Formatter<'_>, name: &str, count: impl Fn(&Way) -> usize) -> fmt::Result {
         self.words(f, name, |way| number(count(way)).to_string())
     }
 
@@ -135,26 +134,37 @@ impl Page<'_> {
         self.row(f, "closes seen", |way| way.readings.closes)?;
         self.row(f, "handshake messages put together", |way| way.readings.messages)?;
         self.row(f, "  from so many pieces", |way| way.readings.pieces)?;
-        let [up, down] = [&self.0.post_to_gateway.readings, &self.0.gateway_to_post.readings];
-        for (refusal, reason) in REASONS.iter().enumerate() {
-            let [a, b] = [up, down].map(|readings| readings.dropped_by(refusal));
-            if a + b > 0 {
-                let name = format!("dropped by {refusal}: {reason}");
-                writeln!(f, "  {name:<52}{:>16}{:>18}", number(a).to_string(), number(b).to_string())?;
-                if refusal == NOT_FRESH {
-                    self.not_fresh(f)?;
+        for (refusal, reason) in REASONS {
+            let count = |way: &Way| way.readings.dropped_by(refusal);
+            if count(&self.0.post_to_gateway) + count(&self.0.gateway_to_post) > 0 {
+                self.row(f, &format!("dropped by {refusal}: {reason}"), count)?;
+                match refusal {
+                    SEEN => self.seen(f)?,
+                    TOO_OLD => self.too_old(f)?,
+                    _ => {}
                 }
             }
         }
         Ok(())
     }
 
-    fn not_fresh(&self, f: &mut fmt::Formatter<'_>) -> fmt::Result {
+    fn seen(&self, f: &mut fmt::Formatter<'_>) -> fmt::Result {
         self.row(f, "  doubles, handed over before", |way| way.readings.doubles)?;
-        self.row(f, "  too late or replayed, never handed over", |way| way.readings.too_late)?;
-        self.row(f, "  damaged or forged numbers", |way| {
-            way.readings.dropped_by(NOT_FRESH).saturating_sub(way.readings.doubles + way.readings.too_late)
-        })
+        self.row(f, "  damaged or forged numbers", |way| way.readings.dropped_by(SEEN).saturating_sub(way.readings.doubles))
+    }
+
+    /// How late they came, and what wider windows would have read of them.
+    fn too_old(&self, f: &mut fmt::Formatter<'_>) -> fmt::Result {
+        for (i, band) in self.0.post_to_gateway.readings.below_highest.iter().enumerate() {
+            let to = band.to.map_or("or more".to_string(), |to| format!("to {to}"));
+            self.row(f, &format!("  {} {to} below the highest number", band.from), |way| way.readings.below_highest[i].count)?;
+        }
+        for (i, window) in self.0.post_to_gateway.readings.wider_windows.iter().enumerate() {
+            let name = format!("  a window of {} would have read at most", window.numbers);
+            self.row(f, &name, |way| way.readings.wider_windows[i].at_most)?;
+            self.row(f, "    of these overtaken, and never handed over", |way| way.readings.wider_windows[i].never_handed_over)?;
+        }
+        Ok(())
     }
 
     fn totals(&self, f: &mut fmt::Formatter<'_>) -> fmt::Result {
@@ -181,7 +191,9 @@ impl Page<'_> {
             (None, true) => "holds",
         };
         writeln!(f, "{head}: no record handed over twice, changed or invented, none left out that arrived undamaged and in reach,")?;
-        let rest = "none marked acknowledged that was not handed over; each meter record counted was sent, each order obeyed once;";
+        let rest = "none of these dropped as seen or as too old that was not, none marked acknowledged that was not handed over;";
+        writeln!(f, "{:head$}  {rest}", "", head = head.len())?;
+        let rest = "each meter record counted was sent, each order obeyed once;";
         writeln!(f, "{:head$}  {rest}", "", head = head.len())?;
         let closes = if verdict.unfinished.is_none() { ", both closes seen" } else { "" };
         let rest = format!("no alert or ACK forged in plaintext heeded, no record dropped beyond a close{closes}");

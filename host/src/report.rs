@@ -4,6 +4,7 @@ use serde::Serialize;
 
 use crate::account::{Account, Fate};
 use crate::advice;
+use crate::late::{Bands, WIDTHS};
 use crate::ledger::{Ledger, Record};
 use crate::link::Tally;
 use crate::meter::Word;
@@ -88,10 +89,34 @@ pub struct Readings {
     /// Handshake messages put together, and the pieces that they were put together from.
     pub messages: usize,
     pub pieces: usize,
+    /// Of those dropped by 9, the undamaged ones: they were handed over before.
     pub doubles: usize,
+    /// Of those dropped by 26, the undamaged ones: handed over before, and never.
+    pub doubles_too_old: usize,
     pub too_late: usize,
+    /// Those dropped by 26, by how far below the highest number they came.
+    pub below_highest: Vec<Band>,
+    pub wider_windows: Vec<WiderWindow>,
     /// By refusal: how often.
     pub dropped: Vec<Dropped>,
+}
+
+/// Records that came at least and at most so far below the highest number.
+#[derive(Clone, Serialize)]
+pub struct Band {
+    pub from: u64,
+    pub to: Option<u64>,
+    pub count: usize,
+}
+
+/// What a window of so many numbers would have read of those dropped by 26.
+#[derive(Clone, Serialize)]
+pub struct WiderWindow {
+    pub numbers: u64,
+    /// Those that it reaches, as an end by itself can tell: some are doubles, replayed, damaged or forged.
+    pub at_most: usize,
+    /// Of these the records too late, which were never handed over, each counted once.
+    pub never_handed_over: usize,
 }
 
 #[derive(Clone, Serialize)]
@@ -120,7 +145,6 @@ pub struct Orders {
 
 impl Way {
     fn new(side: usize, tally: &Tally, ledger: &Ledger, account: &Account, told: &Told) -> Way {
-        let dropped = ledger.dropped.iter().enumerate().filter(|(_, count)| **count > 0);
         Way {
             datagrams: Datagrams { link: tally.clone(), unread: account.unread },
             records: Records {
@@ -149,11 +173,29 @@ impl Way {
                 messages: ledger.messages,
                 pieces: ledger.pieces,
                 doubles: account.doubles,
+                doubles_too_old: account.doubles_too_old,
                 too_late: account.late,
-                dropped: dropped.map(|(refusal, count)| Dropped { refusal, count: *count }).collect(),
+                below_highest: bands(&account.below),
+                wider_windows: wider_windows(account),
+                dropped: ledger.dropped.iter().map(|(&refusal, &count)| Dropped { refusal, count }).collect(),
             },
         }
     }
+}
+
+fn bands(below: &Bands) -> Vec<Band> {
+    let ends = WIDTHS[1..].iter().map(|width| Some(width - 1)).chain([None]);
+    let bands = WIDTHS.iter().zip(ends).zip(below.0);
+    bands.map(|((&from, to), count)| Band { from, to, count }).collect()
+}
+
+fn wider_windows(account: &Account) -> Vec<WiderWindow> {
+    let reached = |numbers: u64| WiderWindow {
+        numbers,
+        at_most: account.below.reached_by(numbers),
+        never_handed_over: account.missed.reached_by(numbers),
+    };
+    WIDTHS[1..].iter().copied().map(reached).collect()
 }
 
 impl Readings {
@@ -210,7 +252,7 @@ impl Report {
 #[cfg(test)]
 mod tests {
     use clap::Parser;
-    use serde_json::Value;
+    use serde_json::{json, Value};
 
     use super::*;
     use crate::ledger::check;
@@ -278,6 +320,81 @@ mod tests {
         assert_eq!(json["gateway_to_post"]["readings"]["closes"], 1);
         assert_eq!(json["post_to_gateway"]["readings"]["dropped"][0]["refusal"], 9);
         assert_eq!(json["meter"]["counted_wh"], 14);
+    }
+
+    /// A run in which these numbers of 0 to 700 were handed over, then 700, and after it those come, which are all seen or too old.
+    fn report_of_late(handed: &[usize], dropped: &[usize]) -> Report {
+        let mut up = Ledger::default();
+        up.reads("k", &mut "3".split_ascii_whitespace());
+        (0..=700).for_each(|number| up.seals(&mut meter_record(number).split_ascii_whitespace()));
+        let handed = handed.iter().chain([&700]).map(|number| (*number, vec![("r", meter_record(*number))]));
+        let dropped = dropped.iter().map(|number| match 700 - number {
+            0..64 => (*number, vec![("x", "9".to_string())]),
+            below => (*number, vec![("x", "26".to_string()), ("t", below.to_string())]),
+        });
+        for (i, (number, lines)) in handed.chain(dropped).enumerate() {
+            let bytes = i.to_be_bytes().to_vec();
+            let read = ("g", check(&bytes).to_string());
+            up.delivers(&Datagram { bytes, records: number..number + 1, kind: Kind::Intact });
+            for (kind, words) in lines.into_iter().chain([read]) {
+                up.reads(kind, &mut words.split_ascii_whitespace());
+            }
+        }
+        report_of(up, &["--records", "701"], Ending::Ended)
+    }
+
+    #[test]
+    fn the_page_tells_late_ones_from_doubles_and_how_late_they_came() {
+        let report = report_of_late(&[188, 444, 572, 636, 637], &[700, 637, 636, 573, 572, 445, 444, 189, 188]);
+        assert_eq!(report.verdict.findings, [""; 0]);
+        assert_eq!(row(&report, "dropped by 9: number used (seen)").unwrap(), ["2", "0"]);
+        assert_eq!(row(&report, "doubles, handed over before").unwrap(), ["2", "0"]);
+        assert_eq!(row(&report, "damaged or forged numbers").unwrap(), ["0", "0"]);
+        assert_eq!(row(&report, "dropped by 26: number too old").unwrap(), ["7", "0"]);
+        for (band, count) in [("64 to 127", "2"), ("128 to 255", "2"), ("256 to 511", "2"), ("512 or more", "1")] {
+            assert_eq!(row(&report, &format!("{band} below the highest number")).unwrap(), [count, "0"]);
+        }
+        for (width, at_most) in [(128, "2"), (256, "4"), (512, "6")] {
+            assert_eq!(row(&report, &format!("a window of {width} would have read at most")).unwrap(), [at_most, "0"]);
+        }
+        assert_eq!(row(&report, "of these overtaken, and never handed over").unwrap(), ["1", "0"]);
+    }
+
+    #[test]
+    fn json_has_the_late_ones_as_the_page_has_them() {
+        let report = report_of_late(&[188, 444, 572, 636, 637], &[700, 637, 636, 573, 572, 445, 444, 189, 188]);
+        let json: Value = serde_json::from_str(&report.json()).expect("JSON");
+        let readings = &json["post_to_gateway"]["readings"];
+        let counts = ["doubles", "doubles_too_old", "too_late"].map(|name| readings[name].clone());
+        assert_eq!(counts, [2, 4, 3].map(Value::from));
+        assert_eq!(readings["below_highest"][0], json!({ "from": 64, "to": 127, "count": 2 }));
+        assert_eq!(readings["below_highest"][3], json!({ "from": 512, "to": null, "count": 1 }));
+        for (i, (numbers, at_most, never)) in [(128, 2, 1), (256, 4, 2), (512, 6, 3)].into_iter().enumerate() {
+            let window = json!({ "numbers": numbers, "at_most": at_most, "never_handed_over": never });
+            assert_eq!(readings["wider_windows"][i], window);
+        }
+        assert_eq!(readings["dropped"], json!([{ "refusal": 9, "count": 2 }, { "refusal": 26, "count": 7 }]));
+    }
+
+    #[test]
+    fn nothing_is_said_of_wider_windows_where_none_came_late() {
+        let report = report_of_late(&[637], &[700, 637]);
+        assert_eq!(report.verdict.exit_status, 0);
+        assert_eq!((row(&report, "dropped by 26"), row(&report, "a window of 128")), (None, None));
+    }
+
+    #[test]
+    fn advice_names_the_window_that_would_have_read_late_ones() {
+        let late = |numbers: std::ops::Range<usize>| report_of_late(&[], &numbers.collect::<Vec<_>>()).advice;
+        for (numbers, end) in [
+            (600..620, "--delay-ms; a window of 128 would have read 20 of them"),
+            (560..580, "--delay-ms; a window of 256 would have read 20 of them"),
+            (180..200, "--delay-ms; a window of 512 would have read 11 of them"),
+            (100..120, "--delay-ms"),
+        ] {
+            let advice = late(numbers);
+            assert!(advice.starts_with("3 % came too late, held back while more than 63 ") && advice.ends_with(end), "{advice}");
+        }
     }
 
     #[test]

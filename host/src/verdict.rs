@@ -76,6 +76,7 @@ fn wrong_records(accounts: &[Account; 2], done: [bool; 2]) -> Vec<String> {
         (sum(|a| a.changed, always), "handed over changed"),
         (sum(|a| a.invented, by_sender), "handed over that was not sealed"),
         (sum(|a| a.left_out, always), "left out though undamaged and in reach"),
+        (sum(|a| a.misjudged, by_sender), "dropped as seen or as too old that was not, or the other way round"),
         (sum(|a| a.unacknowledged, by_receiver), "marked acknowledged of which no sending was handed over"),
         (sum(|a| a.count(Fate::BeyondClose), always), "dropped beyond a close, after which none is sent"),
         (sum(|a| a.forged - a.forged_dropped, always), "forged in plaintext that was not dropped"),
@@ -168,6 +169,7 @@ mod tests {
             Account { changed: 1, ..closed() },
             Account { invented: 1, ..closed() },
             Account { left_out: 1, ..closed() },
+            Account { misjudged: 1, ..closed() },
             Account { unacknowledged: 1, ..closed() },
             Account { fates: vec![Fate::BeyondClose], ..closed() },
             Account { forged: 2, forged_dropped: 1, ..closed() },
@@ -214,9 +216,10 @@ mod tests {
         let post_broke = Told { done: [false, true], ..told() };
         let gateway_broke = Told { done: [true, false], orders_given: 0, counted: 0, energy: 0, ..told() };
         let invented = Account { invented: 1, ..Account::default() };
+        let misjudged = Account { misjudged: 1, ..Account::default() };
         let unacknowledged = Account { unacknowledged: 1, ..Account::default() };
-        for (account, told) in [(invented, post_broke), (unacknowledged, gateway_broke)] {
-            let verdict = verdict(Ending::Interrupted, account, &told);
+        for (account, told) in [(invented, &post_broke), (misjudged, &post_broke), (unacknowledged, &gateway_broke)] {
+            let verdict = verdict(Ending::Interrupted, account, told);
             assert_eq!((verdict.word, verdict.exit_status), (Word::NotFinished, 2));
         }
     }

@@ -25,7 +25,7 @@ fn main() -> Result<(), Box<dyn std::error::Error>> {
             Reading::ApplicationData { epoch, number, content } => println!("{epoch}.{number}: {}", content.escape_ascii()),
             Reading::Close { .. } => println!("the far end closes"),
             Reading::Alert { description, .. } => eprintln!("alert {description}"),
-            Reading::Dropped(why) => eprintln!("{why}"), // refusal 9: the record's number is used or too old
+            Reading::Dropped(why) => eprintln!("{why}"), // refusal 9: the record's number was used
             _ => {}
         }
     }

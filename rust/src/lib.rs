@@ -32,7 +32,7 @@
 //!     assert_eq!(reading, Reading::ApplicationData { epoch: 3, number: 0, content: b"14.2 kWh" });
 //! }
 //! for reading in receiver.read(&mut copy, &mut Toy(5), &mut gateway)? {
-//!     assert_eq!(reading, Reading::Dropped(Refusal::NotFresh));
+//!     assert_eq!(reading, Reading::Dropped(Refusal::Seen));
 //! }
 //! # Ok::<(), huskelapse::Error>(())
 //! ```

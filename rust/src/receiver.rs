@@ -280,8 +280,8 @@ pub enum Reading<'a> {
     },
     /// A record is dropped, with [`Refusal::BadPlaintext`] (4), [`BeforeEncryption`](Refusal::BeforeEncryption) (5),
     /// [`NoKeys`](Refusal::NoKeys) (6), [`TooShort`](Refusal::TooShort) (7), [`NumberTooLarge`](Refusal::NumberTooLarge) (8),
-    /// [`NotFresh`](Refusal::NotFresh) (9), [`NotOpened`](Refusal::NotOpened) (10) or [`NoContentType`](Refusal::NoContentType) (11);
-    /// the records behind it follow.
+    /// [`Seen`](Refusal::Seen) (9), [`TooOld`](Refusal::TooOld) (26), [`NotOpened`](Refusal::NotOpened) (10) or
+    /// [`NoContentType`](Refusal::NoContentType) (11); the records behind it follow.
     Dropped(Refusal),
     /// The datagram ends early, with [`Refusal::Truncated`] (2) or [`Refusal::TooManyReadings`] (3).
     Fault(Refusal),

@@ -6,8 +6,9 @@ use core::fmt;
 /// ```
 /// use huskelapse::Refusal;
 ///
-/// assert_eq!(Refusal::NotFresh.number(), 9);
-/// assert_eq!(Refusal::NotFresh.to_string(), "refusal 9: the record's number is used or too old");
+/// assert_eq!(Refusal::Seen.number(), 9);
+/// assert_eq!(Refusal::Seen.to_string(), "refusal 9: the record's number was used");
+/// assert_eq!(Refusal::TooOld.to_string(), "refusal 26: the record's number is 64 or more below the highest used");
 /// assert_eq!(Refusal::BufferTooSmall { needed: 74 }.to_string(), "refusal 16: the buffer is too small, 74 bytes are needed");
 /// ```
 #[derive(Clone, Copy, Debug, PartialEq, Eq, Hash)]
@@ -29,8 +30,10 @@ pub enum Refusal {
     TooShort,
     /// 8: the record's number would be above 2^48 - 1.
     NumberTooLarge,
-    /// 9: the record's number is used, or 64 or more below the highest.
-    NotFresh,
+    /// 9: the record's number was used: the record came before.
+    Seen,
+    /// 26: the record's number is 64 or more below the highest used: it comes too late, whether it was used or not.
+    TooOld,
     /// 10: the cipher did not open the record.
     NotOpened,
     /// 11: the opened record has no content type; its number is used.
@@ -71,7 +74,7 @@ pub enum Refusal {
 }
 
 impl Refusal {
-    /// The specification's number, 1 to 25.
+    /// The specification's number, 1 to 26.
     pub fn number(self) -> u8 {
         match self {
             Refusal::DatagramTooLong => 1,
@@ -82,7 +85,8 @@ impl Refusal {
             Refusal::NoKeys => 6,
             Refusal::TooShort => 7,
             Refusal::NumberTooLarge => 8,
-            Refusal::NotFresh => 9,
+            Refusal::Seen => 9,
+            Refusal::TooOld => 26,
             Refusal::NotOpened => 10,
             Refusal::NoContentType => 11,
             Refusal::OutOfRange => 12,
@@ -113,7 +117,7 @@ impl Refusal {
             6 => Refusal::NoKeys,
             7 => Refusal::TooShort,
             8 => Refusal::NumberTooLarge,
-            9 => Refusal::NotFresh,
+            9 => Refusal::Seen,
             10 => Refusal::NotOpened,
             11 => Refusal::NoContentType,
             12 => Refusal::OutOfRange,
@@ -130,6 +134,7 @@ impl Refusal {
             23 => Refusal::Waiting,
             24 => Refusal::BadPiece,
             25 => Refusal::TooManyPieces,
+            26 => Refusal::TooOld,
             _ => panic!("the library refuses by {number}, it is of another version than this crate"),
         }
     }
@@ -164,7 +169,8 @@ impl fmt::Display for Refusal {
             Refusal::NoKeys => "no keys for the record's epoch",
             Refusal::TooShort => "the protected part is too short",
             Refusal::NumberTooLarge => "the record's number is above 2^48 - 1",
-            Refusal::NotFresh => "the record's number is used or too old",
+            Refusal::Seen => "the record's number was used",
+            Refusal::TooOld => "the record's number is 64 or more below the highest used",
             Refusal::NotOpened => "the cipher did not open the record",
             Refusal::NoContentType => "the opened record has no content type",
             Refusal::OutOfRange => "a setting or a state is out of its range, or a buffer too short for it",

@@ -120,7 +120,7 @@ fn an_ack_is_acted_on_once() {
     let first = end.receiver.read(&mut datagram, &mut Toy(5), &mut end.sender).unwrap().next();
     let Some(Reading::Ack { epoch: 2, number: 0, acked }) = first else { panic!("{first:?}") };
     assert_eq!((acked.marked, acked.unacknowledged, acked.saved), (1, 1, 2));
-    assert_eq!((end.read(&[ack])[0].as_str(), end.unacknowledged()), ("Dropped(NotFresh)", 1));
+    assert_eq!((end.read(&[ack])[0].as_str(), end.unacknowledged()), ("Dropped(Seen)", 1));
     assert_eq!(end.sender.resend(), Ok(1));
 }
 

@@ -24,7 +24,11 @@ fn declarations() -> String {
 fn one_version() {
     let version = env!("CARGO_PKG_VERSION");
     assert!(HEADER.contains(&format!("#define HUSK_VERSION \"{version}\"\n")));
-    let parts = [("MAJOR", env!("CARGO_PKG_VERSION_MAJOR")), ("MINOR", env!("CARGO_PKG_VERSION_MINOR")), ("PATCH", env!("CARGO_PKG_VERSION_PATCH"))];
+    let parts = [
+        ("MAJOR", env!("CARGO_PKG_VERSION_MAJOR")),
+        ("MINOR", env!("CARGO_PKG_VERSION_MINOR")),
+        ("PATCH", env!("CARGO_PKG_VERSION_PATCH")),
+    ];
     for (name, part) in parts {
         assert!(HEADER.contains(&format!("#define HUSK_VERSION_{name} {part}\n")), "HUSK_VERSION_{name} is not {part}");
     }
@@ -54,7 +58,7 @@ fn each_refusal_has_the_headers_text() {
         Refusal::NoKeys,
         Refusal::TooShort,
         Refusal::NumberTooLarge,
-        Refusal::NotFresh,
+        Refusal::Seen,
         Refusal::NotOpened,
         Refusal::NoContentType,
         Refusal::OutOfRange,
@@ -71,6 +75,7 @@ fn each_refusal_has_the_headers_text() {
         Refusal::Waiting,
         Refusal::BadPiece,
         Refusal::TooManyPieces,
+        Refusal::TooOld,
     ];
     assert_eq!(texts.len(), 1 + refusals.len());
     for (number, refusal) in (1..).zip(refusals) {

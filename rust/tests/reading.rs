@@ -110,6 +110,39 @@ fn an_epoch_is_found_after_a_gap() {
     assert_eq!(late.read(&mut beyond, &mut Toy(5), &mut idle()).unwrap().next(), Some(opened(65_536, b"14.2 kWh")));
 }
 
+/// What comes of records of epoch 3 read in this order: the number handed over, or why it is dropped.
+fn verdicts(numbers: &[u64]) -> Vec<Result<u64, Refusal>> {
+    let mut sealed = numbers.to_vec();
+    sealed.sort_unstable();
+    sealed.dedup();
+    let (datagrams, mut receiver) = (sent(&sealed), receiver());
+    let read = |number: &u64| {
+        let mut bytes = datagrams[sealed.binary_search(number).unwrap()].clone();
+        match receiver.read(&mut bytes, &mut Toy(5), &mut idle()).unwrap().next() {
+            Some(Reading::ApplicationData { number, .. }) => Ok(number),
+            Some(Reading::Dropped(why)) => Err(why),
+            other => panic!("{other:?}"),
+        }
+    };
+    numbers.iter().map(read).collect()
+}
+
+#[test]
+fn a_number_63_below_the_highest_is_fresh_or_seen() {
+    assert_eq!(verdicts(&[100, 37, 37]), [Ok(100), Ok(37), Err(Refusal::Seen)]);
+    assert_eq!(verdicts(&[5, 68, 5]), [Ok(5), Ok(68), Err(Refusal::Seen)]);
+    assert_eq!(verdicts(&[63, 0, 0]), [Ok(63), Ok(0), Err(Refusal::Seen)]);
+    assert_eq!(verdicts(&[100, 100]), [Ok(100), Err(Refusal::Seen)]);
+}
+
+#[test]
+fn a_number_64_below_the_highest_is_too_old_used_or_not() {
+    assert_eq!(verdicts(&[100, 36, 36]), [Ok(100), Err(Refusal::TooOld), Err(Refusal::TooOld)]);
+    assert_eq!(verdicts(&[36, 100, 36]), [Ok(36), Ok(100), Err(Refusal::TooOld)]);
+    assert_eq!(verdicts(&[64, 0]), [Ok(64), Err(Refusal::TooOld)]);
+    assert_eq!(verdicts(&[5, 68, 5, 69, 5, 6]), [Ok(5), Ok(68), Err(Refusal::Seen), Ok(69), Err(Refusal::TooOld), Ok(6)]);
+}
+
 #[test]
 fn what_is_left_is_not_read() {
     let original = datagram(&[b"one", b"two", b"three"]);
@@ -118,7 +151,7 @@ fn what_is_left_is_not_read() {
     let first = receiver.read(&mut bytes, &mut Toy(5), &mut idle()).unwrap().next();
     let (mut again, mut cipher, mut sender) = (original.clone(), Toy(5), idle());
     let mut readings = receiver.read(&mut again, &mut cipher, &mut sender).unwrap();
-    assert_eq!(readings.next(), Some(Reading::Dropped(Refusal::NotFresh)));
+    assert_eq!(readings.next(), Some(Reading::Dropped(Refusal::Seen)));
     assert_eq!((readings.next(), readings.next()), (Some(opened(1, b"two")), Some(opened(2, b"three"))));
     assert_eq!((readings.next(), readings.next()), (None, None));
     assert_eq!(first, Some(opened(0, b"one")));
@@ -135,7 +168,7 @@ fn a_record_whose_mask_fails_is_dropped_alone() {
     // Its number is not used: it can arrive once more.
     let mut bytes = original.clone();
     let readings: Vec<_> = receiver.read(&mut bytes, &mut Toy(5), &mut idle()).unwrap().collect();
-    let again = Reading::Dropped(Refusal::NotFresh);
+    let again = Reading::Dropped(Refusal::Seen);
     assert_eq!(readings, [again, opened(1, b"two"), again]);
 }
 
@@ -160,7 +193,7 @@ fn a_panic_ends_the_datagram() {
         assert_eq!((first, readings.next()), (Some(opened(0, b"one")), None));
         let mut bytes = original.clone();
         let readings: Vec<_> = receiver.read(&mut bytes, &mut Toy(5), &mut idle()).unwrap().collect();
-        assert_eq!(readings, [Reading::Dropped(Refusal::NotFresh), opened(1, b"two"), opened(2, b"three")]);
+        assert_eq!(readings, [Reading::Dropped(Refusal::Seen), opened(1, b"two"), opened(2, b"three")]);
     }
 }
 
@@ -217,7 +250,7 @@ fn a_record_is_handed_over_once_of_many_copies() {
     let mut bytes = full_of(&datagram(&[b"x"]));
     let readings: Vec<_> = receiver().read(&mut bytes, &mut Toy(5), &mut idle()).unwrap().collect();
     assert_eq!(readings[0], opened(0, b"x"));
-    assert_eq!(readings[1..712], [Reading::Dropped(Refusal::NotFresh); 711]);
+    assert_eq!(readings[1..712], [Reading::Dropped(Refusal::Seen); 711]);
     assert_eq!(readings[712..], [Reading::Fault(Refusal::Truncated)]);
 }
 

@@ -10,6 +10,7 @@ use dimpl::beside::{self, Answers, Batch, Line};
 use dimpl::dice::Dice;
 use dimpl::ends::generate::random;
 use dimpl::ends::{self, History, Met, Run, Step};
+use dimpl::histories::REASONS;
 use dimpl::requests::Left;
 use dimpl::{driver, library, sendings};
 
@@ -213,8 +214,9 @@ fn print(met: &Met) {
     for (name, n) in numbers {
         println!("  {name:<18} {n:>9}");
     }
-    for (reason, n) in met.reasons.iter().enumerate().skip(4) {
-        if *n > 0 {
+    for reason in REASONS {
+        let n = met.reasons[reason as usize];
+        if n > 0 {
             println!("  dropped by {reason:<7} {n:>9}");
         }
     }

@@ -10,7 +10,7 @@ use std::process::ExitCode;
 use dimpl::beside::{self, Answers, Batch};
 use dimpl::dice::Dice;
 use dimpl::histories::generate::random;
-use dimpl::histories::{History, Run, Step, between, limits, reference};
+use dimpl::histories::{History, REASONS, Reasons, Run, Step, between, limits, reference};
 use dimpl::requests::Left;
 use dimpl::{driver, library};
 
@@ -115,7 +115,7 @@ fn shrink(side: &dyn Answers, mut history: History) -> io::Result<History> {
 struct Tally {
     steps: usize,
     kinds: [u64; 10],
-    reasons: [u64; 12],
+    reasons: Reasons,
     refusals: [u64; 24],
     early: usize,
     left: Left,
@@ -155,7 +155,8 @@ impl Tally {
         for (name, n) in names.iter().zip(&self.kinds[1..]) {
             println!("  {name:<18} {n:>9}");
         }
-        for (reason, n) in self.reasons.iter().enumerate().skip(4) {
+        for reason in REASONS {
+            let n = self.reasons[reason as usize];
             println!("  dropped by {reason:<7} {n:>9}");
         }
         println!(
@@ -181,6 +182,7 @@ fn compare(side: &dyn Answers, count: u64, seed: u64) -> io::Result<bool> {
     let mut fixed = limits::all();
     fixed.extend(limits::longest());
     fixed.extend(limits::padded());
+    fixed.extend(limits::late());
     let at_limits = fixed.len() as u64;
     let total = at_limits + count;
     // Each history has its own random numbers.

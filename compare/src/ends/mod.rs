@@ -10,7 +10,7 @@ use crate::beside::{self, Line};
 use crate::crypto::{script, stub};
 use crate::dtls13::engine::probe::Saved;
 use crate::histories::reference::Receiver;
-use crate::histories::{self, OPENED};
+use crate::histories::{self, OPENED, Reasons};
 use crate::requests::Changes;
 use crate::sendings::reference::World;
 use crate::sendings::{self, Settings, Tally};
@@ -68,7 +68,7 @@ pub struct Met {
     pub emptied: u64,
     pub sent: Tally,
     pub kinds: [u64; 10],
-    pub reasons: [u64; 12],
+    pub reasons: Reasons,
     /// How often a request changed what the Rust does.
     pub changes: Changes,
 }

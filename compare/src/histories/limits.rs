@@ -673,6 +673,37 @@ pub fn longest() -> Vec<History> {
     ]
 }
 
+/// Numbers at the end of the window, used and unused, and the highest again: of two bytes and of one, in epochs 2 and 3, early, with the
+/// edge of a block of 8 and of 16 bits at the end of the window, and at the end of the number line.
+pub fn late() -> Vec<History> {
+    let made = [numbers, short_numbers];
+    let highest = [100, 319, 65_599, LAST];
+    let each = highest
+        .into_iter()
+        .flat_map(|high| [2, 3].map(|epoch| (high, epoch)));
+    each.flat_map(|(high, epoch)| made.map(|make| late_by(make, epoch, high)))
+        .flatten()
+        .collect()
+}
+
+/// Records of these numbers, under the bits of an epoch, one a datagram.
+type Made = fn(u8, &[u64]) -> Vec<Step>;
+
+fn late_by(make: Made, epoch: u16, high: u64) -> [History; 4] {
+    let after = |before: u64, asked: &[u64]| {
+        let marks = vec![mark(epoch, before), mark(epoch, high)];
+        expecting(&[epoch], 0, &[marks, make(epoch as u8, asked)])
+    };
+    [
+        // Used and 63 below is seen, used and 64 below is too old.
+        after(high - 63, &[high - 63, high]),
+        after(high - 64, &[high - 64, high]),
+        // Unused and 63 below is opened, and seen when it comes again; unused and 64 below is too old.
+        after(high - 64, &[high - 63, high - 63]),
+        after(high - 63, &[high - 64, high - 64]),
+    ]
+}
+
 /// A record that opens to a content, its type and zeros; or to zeros alone, where there is no type.
 fn padded_by(zeros: usize, content_type: Option<u8>) -> Vec<u8> {
     let mut text: Vec<u8> = content_type.into_iter().flat_map(|t| [5, 0, t]).collect();

@@ -66,6 +66,14 @@ pub const OPENED: u8 = 7;
 pub const MASK: u8 = 8;
 pub const OPENING: u8 = 9;
 
+/// The reasons to drop that the window has.
+pub const SEEN: u8 = 9;
+pub const TOO_OLD: u8 = 26;
+/// All reasons to drop, in the order of their tests.
+pub const REASONS: [u8; 9] = [4, 5, 6, 7, 8, SEEN, TOO_OLD, 10, 11];
+/// How often each occurred, by its number.
+pub type Reasons = [u64; TOO_OLD as usize + 1];
+
 impl Answer {
     pub fn kind(kind: u8) -> Self {
         Self {
@@ -110,7 +118,7 @@ pub struct Run {
     /// The records handed over that were read in plaintext or opened.
     pub handed: Vec<Answer>,
     pub kinds: [u64; 10],
-    pub reasons: [u64; 12],
+    pub reasons: Reasons,
     /// How often a request changed what the Rust does; if at all, the history has left the equality with it.
     pub changes: Changes,
 }

@@ -14,6 +14,7 @@ use crate::dtls13::incoming::{self, Record, RecordHandler};
 use crate::dtls13::message::{Dtls13Record, Sequence};
 use crate::requests::{self, REBUILDING};
 use crate::types::Dtls13CipherSuite;
+use crate::verdict::{Verdict, Windows};
 use crate::{Config, CryptoError, DtlsCertificate, Error, InternalError};
 
 /// The last number that a record can have.
@@ -45,6 +46,8 @@ pub struct Receiver {
     min_protected: u8,
     /// The highest epoch that was keyed.
     highest: u16,
+    /// What the Rust has marked.
+    marked: Windows,
     pub run: Run,
 }
 
@@ -55,6 +58,7 @@ impl Receiver {
         Self {
             min_protected,
             highest: 0,
+            marked: Windows::default(),
             run,
         }
     }
@@ -66,14 +70,13 @@ impl Receiver {
         bytes: &[u8],
         replies: &[Reply],
     ) -> ArrayVec<Record, 16> {
-        let min = self.min_protected;
-        datagram(engine, min, bytes, Some(replies), &mut self.run)
+        datagram(self, engine, bytes, Some(replies))
     }
 
     /// A datagram whose questions the cipher itself answers: the records handed over.
     pub fn read(&mut self, engine: &mut Engine, bytes: &[u8]) -> Vec<Answer> {
         self.run.handed.clear();
-        datagram(engine, self.min_protected, bytes, None, &mut self.run);
+        datagram(self, engine, bytes, None);
         std::mem::take(&mut self.run.handed)
     }
 
@@ -113,13 +116,14 @@ impl Receiver {
                     epoch: *epoch,
                     sequence_number: *number,
                 });
+                self.marked.mark(*epoch, *number);
                 let mut input = epoch.to_be_bytes().to_vec();
                 input.extend_from_slice(&number.to_be_bytes());
                 run.say('w', &input, Answer::default());
             }
             Step::Mark { .. } => {}
             Step::Datagram { bytes, replies } => {
-                datagram(engine, self.min_protected, bytes, Some(replies), run);
+                datagram(self, engine, bytes, Some(replies));
             }
         }
     }
@@ -147,6 +151,7 @@ pub fn asked(min: u8, epochs: &[u16], highest: Option<u64>, bytes: &[u8]) -> Str
     }
     let mut tap = Tap {
         engine: &mut engine,
+        marked: &mut Windows::default(),
         replies: Some(VecDeque::new()),
         seen: RefCell::default(),
         own: true,
@@ -173,7 +178,8 @@ struct Seen {
     number: Option<u64>,
     /// Whether the number is that of request 1, in the place of the engine's.
     renumbered: bool,
-    fresh: Option<bool>,
+    /// Whether it is fresh, as the Rust says, and beside it the verdict of request 5.
+    verdict: Option<(bool, Verdict)>,
     mask: Option<MaskAsked>,
     opening: Option<OpeningAsked>,
     opened: bool,
@@ -184,6 +190,7 @@ struct Seen {
 /// The engine, with what it is asked written down.
 struct Tap<'a> {
     engine: &'a mut Engine,
+    marked: &'a mut Windows,
     /// The replies to the questions in their order; none if the cipher itself answers.
     replies: Option<VecDeque<Reply>>,
     seen: RefCell<Vec<Seen>>,
@@ -242,7 +249,8 @@ impl RecordHandler for Tap<'_> {
 
     fn replay_check(&self, seq: Sequence) -> bool {
         let fresh = self.engine.replay_check(seq);
-        self.note(|seen| seen.fresh = Some(fresh));
+        let verdict = self.marked.verdict(seq.epoch, seq.sequence_number);
+        self.note(|seen| seen.verdict = Some((fresh, verdict)));
         fresh
     }
 
@@ -296,6 +304,7 @@ impl RecordHandler for Tap<'_> {
 
     fn replay_update(&mut self, seq: Sequence) {
         self.note(|seen| seen.updated = true);
+        self.marked.mark(seq.epoch, seq.sequence_number);
         self.engine.replay_update(seq);
     }
 
@@ -306,12 +315,18 @@ impl RecordHandler for Tap<'_> {
 
 /// A datagram read to its end: the records kept.
 fn datagram(
+    receiver: &mut Receiver,
     engine: &mut Engine,
-    min: u8,
     bytes: &[u8],
     replies: Option<&[Reply]>,
-    run: &mut Run,
 ) -> ArrayVec<Record, 16> {
+    let Receiver {
+        min_protected: min,
+        marked,
+        run,
+        ..
+    } = receiver;
+    let min = *min;
     script::set_min_protected(min as usize);
     script::set_opens(replies.is_none());
     // What sealing asked before.
@@ -320,6 +335,7 @@ fn datagram(
     let keyed = engine::probe::receive_epochs(engine);
     let mut tap = Tap {
         engine,
+        marked,
         replies: replies.map(|replies| replies.iter().cloned().collect()),
         seen: RefCell::default(),
         own: false,
@@ -486,16 +502,25 @@ impl One<'_> {
     fn unmasked(&self, epoch: u16, run: &mut Run) {
         let seen = self.seen;
         let number = seen.number.unwrap();
-        let (opening, fresh) = (&seen.opening, seen.fresh.unwrap());
+        let (fresh, verdict) = seen.verdict.unwrap();
         if number > LAST_NUMBER {
             assert!(self.dropped() && fresh && !seen.updated);
             return run.say('m', &seen.reply.mask, Answer::dropped(8));
         }
-        if !fresh {
-            assert!(self.dropped() && opening.is_none() && !seen.updated);
-            return run.say('m', &seen.reply.mask, Answer::dropped(9));
-        }
-        let opening = opening.as_ref().unwrap();
+        // Request 5: where the Rust has one verdict, 9 or 26 is worked out beside it.
+        let reason = match verdict.beside(fresh) {
+            Verdict::Fresh => return self.asked(epoch, number, run),
+            Verdict::Seen => SEEN,
+            Verdict::TooOld => TOO_OLD,
+        };
+        assert!(self.dropped() && seen.opening.is_none() && !seen.updated);
+        run.say('m', &seen.reply.mask, Answer::dropped(reason));
+    }
+
+    /// A sealed record whose number is fresh: its opening is asked.
+    fn asked(&self, epoch: u16, number: u64, run: &mut Run) {
+        let seen = self.seen;
+        let opening = seen.opening.as_ref().unwrap();
         assert_eq!(opening.key, epoch.to_be_bytes());
         assert_eq!(opening.length, self.before.len() - self.header_len());
         let question = Answer {

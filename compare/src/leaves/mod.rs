@@ -57,7 +57,7 @@ pub const LEAVES: &[Leaf] = &[
         letter: 'w',
         name: "replay window",
         input: &[("op", 1), ("number", 8)],
-        answer: &[("fresh", 1)],
+        answer: &[("verdict", 1)],
         unit: 9,
         domain: |d| d.len().is_multiple_of(9) && d.chunks(9).all(|step| step[0] <= 1),
         rust: reference::window,

@@ -15,17 +15,26 @@ use crate::dtls13::message::{
     Body, ContentType, Dtls13Record, Handshake, Header, MessageType, Sequence,
 };
 use crate::requests::{self, REBUILDING};
+use crate::verdict::{Marked, Verdict};
 use crate::window::ReplayWindow;
 use crate::{CryptoError, Error, InternalError};
 
+/// The Rust says whether a number is fresh. Whether another is seen or too old (request 5) is worked out beside it.
 pub fn window(input: &[u8], out: &mut Vec<u8>) {
     let mut window = ReplayWindow::new();
+    let mut marked = Marked::default();
     for step in input.chunks(9) {
         let number = be(&step[1..]);
         if step[0] == 0 {
-            out.push(window.check(number) as u8);
+            let verdict = marked.verdict(number).beside(window.check(number));
+            out.push(match verdict {
+                Verdict::Fresh => 0,
+                Verdict::Seen => 1,
+                Verdict::TooOld => 2,
+            });
         } else {
             window.update(number);
+            marked.mark(number);
         }
     }
 }

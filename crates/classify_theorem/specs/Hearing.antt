@@ -17,6 +17,7 @@ use Rattle.datagram.specs.declared.Ask.{Ask}
 use Rattle.datagram.specs.declared.Reading.the-variants as says
 use Rattle.datagram.specs.declared.Reading.{Reading}
 use Rattle.datagram.specs.declared.Step.{Step}
+use Rattle.mask_reply.specs.Leads.{by-judged}
 use Rattle.mask_reply.specs.Mask.{judged, maskedAt, maskedBy, masking, maskStep}
 use Rattle.opening_reply.specs.Opening.{shownBy}
 use Rattle.opening_reply.specs.declared.Opening.the-variants as reply
@@ -103,8 +104,8 @@ abbrev NoReading : Step → Type 0
 NoReading t = isReading (t .reading) ≡ false
 
 judged-none : (e : RecvEpochEntry) (b : Datagram) (a : Ask) (n : ℕ) → NoReading (judged e b a n)
-unfolding judged openingAsked
-judged-none e b a n = by-test NoReading (λ t. refl) (λ t. by-test NoReading (λ u. refl) (λ u. refl))
+unfolding openingAsked
+judged-none e b a n = by-judged e b a n NoReading (λ r. refl) (λ small fresh. refl)
 
 masked-none : (f : Found) (k : RecvKeys) (b : Datagram) (a : Ask) (m d : List ℕ) → NoReading (maskedBy f k b a m d .0)
 unfolding maskedBy maskedAt
@@ -350,13 +351,13 @@ module _ (masks : Masks) (sealed : ℕ → List Sealed) (i : Inbound) (h : Sound
   -- with a reading that waits no question does, and the mask is refused
   mask-down : (m : List ℕ) (x : Pending) → Waiting x → maskOf (y .state) m (y .datagram) .0 .reading ≡ says.Reply
   unfolding afterMask
-  mask-down m x e = subst (λ (w : Shown). Proper aMaskReply w (maskOf (y .state) m (y .datagram) .0 .reading)) (asks-nothing p y s x e) (mask-sound y h m .proper _ (here refl))
+  mask-down m x e = subst (λ (w : Shown). Proper (aMaskReply m) w (maskOf (y .state) m (y .datagram) .0 .reading)) (asks-nothing p y s x e) (mask-sound y h m .proper _ (here refl))
 
   mask-quiet : (m : List ℕ) → Quiet p y s (afterMask y m)
   unfolding afterMask
   mask-quiet m =
       let r = maskOf (y .state) m (y .datagram) in
-      let k = calm (r .0 .state) (r .1) (r .0 .nonce) (y .trial) unused _ aMaskReply (r .0 .reading) (mask-none (y .state) m (y .datagram)) in
+      let k = calm (r .0 .state) (r .1) (r .0 .nonce) (y .trial) unused _ (aMaskReply m) (r .0 .reading) (mask-none (y .state) m (y .datagram)) in
       record {
         same = k .0;
         readings = omega (arith, k .1);

@@ -16,7 +16,7 @@ use Rattle.datagram.specs.declared.Reason.the-variants as reason
 use Rattle.datagram.specs.declared.Reason.{Reason}
 use Rattle.datagram.specs.declared.Step.{Step}
 
--- ---- 01's number of each refusal; 0 where nothing is refused
+-- ---- the number of each refusal, of 01 and 02; 0 where nothing is refused
 
 abbrev pub reasonNumber : Reason → ℕ
 reasonNumber reason.Invalid = 4
@@ -24,7 +24,8 @@ reasonNumber reason.EarlyBits = 5
 reasonNumber reason.NoKeys = 6
 reasonNumber reason.TooShort = 7
 reasonNumber reason.TooHigh = 8
-reasonNumber reason.Replayed = 9
+reasonNumber reason.Seen = 9
+reasonNumber reason.TooOld = 26
 reasonNumber reason.NotOpened = 10
 reasonNumber reason.NoContentType = 11
 

@@ -26,14 +26,15 @@ pub struct Datagram {
     pub question: Question,
 }
 
-// Why a record is dropped, refusals 4 to 11.
+// Why a record is dropped: refusals 4 to 9, 26, 10 and 11, in the order of their tests.
 pub enum Reason {
     Invalid,
     EarlyBits,
     NoKeys,
     TooShort,
     TooHigh,
-    Replayed,
+    Seen,
+    TooOld,
     NotOpened,
     NoContentType,
 }

@@ -67,7 +67,7 @@ use Rattle.ends_theorem.specs.World.{Side, post, gateway, Said, sending,
 
 -- every definition that a list computes with
 opened : Unit {0}
-unfolding classify-classify.isInside classify-classify.isSound classify-classify.isAfter classify-classify.isBeyond classify-classify.isGuarded classify-classify.alertAs classify-classify.byType classify-classify.classOf classify-classify.classified classify-account.isPast classify-account.alertOwed classify-account.typeOwed classify-account.sealedOwed classify-account.isDropped classify-account.plainOwed classify-account.readingOwed history-receiver.beginOwed base-bits.bit base-choose.choose base-choose.both base-choose.either base-parts.splice window-used.expected window-window.isFresh window-window.marking sequence-sequence.own sequence-sequence.below sequence-sequence.above sequence-sequence.nearest record-record.headerLen record-record.fragmentLen record-record.partialOf record-record.parseCiphertext record-record.isType record-record.isVersion record-record.isPlaintext record-record.parsePlaintext record-record.parsed record-record.plaintextHeader record-record.unifiedHeader dtls-aead-nonce.nonceOf incoming-inner.innerOf recv-keys-keys.fits recv-keys-keys.lastFit recv-keys-keys.find recv-keys-keys.orElse recv-keys-keys.two recv-keys-keys.resolve recv-keys-keys.wasFound recv-keys-keys.isKeyed recv-keys-keys.marked recv-keys-keys.appOne recv-keys-keys.apps recv-keys-keys.windowsSound recv-keys-keys.keysSound recv-keys-keys.isFull recv-keys-keys.installed recv-keys-keys.leftAt recv-keys-keys.left datagram-datagram.askSound datagram-datagram.askKeyed datagram-datagram.openingSound datagram-datagram.questionSound datagram-datagram.isSound datagram-datagram.counted records-records.lockedStep records-records.sealedStep records-records.stepOf records-records.openingAsked records-records.askedAgain records-records.asking records-records.readStep mask-reply-mask.unmasked mask-reply-mask.rebuilt mask-reply-mask.judged mask-reply-mask.maskedAt mask-reply-mask.maskedBy mask-reply-mask.masking mask-reply-mask.maskStep opening-reply-opening.typed opening-reply-opening.openedAt opening-reply-opening.openedBy opening-reply-opening.openings opening-reply-opening.openedStep opening-reply-opening.cancelledAsk opening-reply-opening.cancelled receiving-receiving.freshOf receiving-receiving.keyOf receiving-receiving.leaving receiving-receiving.removedBy receiving-receiving.removeOf receiving-receiving.encryptOf receiving-receiving.releaseOf receiving-receiving.beginOf queue-laid.trailerOf queue-laid.recordLen queue-laid.recordBytes queue-queue.isSetting queue-queue.isSound queue-queue.isReady queue-queue.slotOf queue-queue.lastLen queue-queue.tailOf queue-queue.placeOf queue-queue.grown queue-queue.laid queue-queue.startOf send-keys-keys.noEpoch send-keys-keys.noKeys send-keys-keys.isUsable send-keys-keys.isKeyed send-keys-keys.nextOf send-keys-keys.ivOf send-keys-keys.used send-keys-keys.sealedUpTo send-keys-keys.keyAnswer send-keys-keys.keyed outgoing-send.waitsBehind outgoing-send.laidState outgoing-send.laidMemory outgoing-send.sendAnswer outgoing-send.sendState outgoing-send.sendMemory outgoing-state.noWaiting outgoing-state.freshSending outgoing-state.started outgoing-state.isContentType outgoing-state.isAllowed outgoing-state.keyingState sealing-sealing.isSpan sealing-sealing.isHeld sealing-sealing.isAsked sealing-sealing.partStart sealing-sealing.questionOf sealing-sealing.partOf sealing-sealing.isPut sealing-sealing.putMemory sealing-sealing.maskedHeader sealing-sealing.behindOldest sealing-sealing.sealAnswer sealing-sealing.sealedState sealing-sealing.sealedMemory sealing-seek.nthOf sealing-seek.beyond sealing-seek.passed sealing-seek.foundAt sealing-seek.stepOf sealing-seek.seekStep sealing-seek.seek sealing-take.nextSlot sealing-take.takeAnswer sealing-take.takeState sealing-take.takeBuffer flight-flight.entryOf flight-flight.freshFlight flight-flight.isKept flight-flight.begun flight-flight.savedWith flight-flight.savedMemory flight-save.saveAnswer flight-save.saveState flight-save.saveQueue flight-save.saveKept flight-status.unmarkedAfter history-account.upd history-account.keyOwed history-account.keys history-account.resolvesTo history-account.sealedSize history-account.plainSize history-account.recordSize history-account.goodPlain history-receiver.removedFrom history-receiver.removed history-receiver.begun history-receiver.afterRead history-receiver.afterMask history-receiver.afterOpen history-receiver.verdictOf process-ack-ack.isFormed process-ack-ack.isPair process-ack-ack.isNamed process-ack-ack.isRemembered process-ack-ack.isAcked process-ack-ack.withMark process-ack-ack.markAt process-ack-ack.marksAfter process-ack-ack.tallyWith process-ack-ack.tallyAfter process-ack-ack.emptied process-ack-ack.acked process-ack-status.newlyMarked acks-acks.freshNotes acks-acks.noted acks-acks.forgotten acks-acks.ackEpoch acks-acks.pairOf acks-acks.pairsOf acks-acks.ackContent acks-acks.noticeState acks-acks.noticeMemory acks-acks.ackAnswer acks-acks.ackSent acks-acks.sentAck acks-acks.ackMemory resend-resend.withNumber resend-resend.canRemember resend-resend.renewed resend-resend.renewedIf resend-resend.sentAgain resend-resend.againAt resend-resend.againAfter resend-resend.resendState resend-resend.resendQueue resend-tests.remembers resend-tests.hasRoom resend-tests.passes resend-tests.allPass resend-tests.joined resend-tests.tailAfter resend-tests.countAfter resend-tests.isOver resend-tests.isSpent resend-tests.anySpent resend-tests.closedState resend-tests.fitAnswer resend-tests.resendAnswer ends-sender.lends messages-cut.epochOf messages-cut.pieceSize messages-cut.cutNext messages-cut.pieces messages-cut.planReach messages-message.contentOf messages-message.pieceOf messages-message.sendAll messages-message.messageAnswer messages-message.messageState messages-message.messageQueue messages-message.messageKept handshake-header.headerBytes ends-ledger.joins ends-ledger.lays ends-ledger.isOld ends-ledger.keyNumber ends-ledger.keyed ends-ledger.isUsable ends-ledger.isType ends-ledger.isAllowed ends-ledger.hasKeys ends-ledger.hasRoom ends-ledger.queueNumber ends-ledger.flightNumber ends-ledger.sendNumber ends-ledger.saves ends-ledger.saveNumber ends-ledger.pieceSize ends-ledger.savesOn ends-ledger.pieces ends-ledger.posted ends-ledger.messageNumber ends-ledger.known ends-ledger.sendsAgain ends-ledger.again ends-ledger.resent ends-ledger.isSpent ends-ledger.resendNumber ends-ledger.isFormed ends-ledger.namesIn ends-ledger.isOver ends-ledger.ackedBy ends-ledger.cleared ends-ledger.ackReply ends-ledger.acking ends-ledger.after ends-ledger.sentBy
+unfolding classify-classify.isInside classify-classify.isSound classify-classify.isAfter classify-classify.isBeyond classify-classify.isGuarded classify-classify.alertAs classify-classify.byType classify-classify.classOf classify-classify.classified classify-account.isPast classify-account.alertOwed classify-account.typeOwed classify-account.sealedOwed classify-account.isDropped classify-account.plainOwed classify-account.readingOwed history-receiver.beginOwed base-bits.bit base-choose.choose base-choose.both base-choose.either base-parts.splice window-used.expected window-window.verdict window-window.marking sequence-sequence.own sequence-sequence.below sequence-sequence.above sequence-sequence.nearest record-record.headerLen record-record.fragmentLen record-record.partialOf record-record.parseCiphertext record-record.isType record-record.isVersion record-record.isPlaintext record-record.parsePlaintext record-record.parsed record-record.plaintextHeader record-record.unifiedHeader dtls-aead-nonce.nonceOf incoming-inner.innerOf recv-keys-keys.fits recv-keys-keys.lastFit recv-keys-keys.find recv-keys-keys.orElse recv-keys-keys.two recv-keys-keys.resolve recv-keys-keys.wasFound recv-keys-keys.isKeyed recv-keys-keys.marked recv-keys-keys.appOne recv-keys-keys.apps recv-keys-keys.windowsSound recv-keys-keys.keysSound recv-keys-keys.isFull recv-keys-keys.installed recv-keys-keys.leftAt recv-keys-keys.left datagram-datagram.askSound datagram-datagram.askKeyed datagram-datagram.openingSound datagram-datagram.questionSound datagram-datagram.isSound datagram-datagram.counted records-records.lockedStep records-records.sealedStep records-records.stepOf records-records.openingAsked records-records.askedAgain records-records.asking records-records.readStep mask-reply-mask.unmasked mask-reply-mask.rebuilt mask-reply-mask.judged mask-reply-mask.maskedAt mask-reply-mask.maskedBy mask-reply-mask.masking mask-reply-mask.maskStep opening-reply-opening.typed opening-reply-opening.openedAt opening-reply-opening.openedBy opening-reply-opening.openings opening-reply-opening.openedStep opening-reply-opening.cancelledAsk opening-reply-opening.cancelled receiving-receiving.freshOf receiving-receiving.keyOf receiving-receiving.leaving receiving-receiving.removedBy receiving-receiving.removeOf receiving-receiving.encryptOf receiving-receiving.releaseOf receiving-receiving.beginOf queue-laid.trailerOf queue-laid.recordLen queue-laid.recordBytes queue-queue.isSetting queue-queue.isSound queue-queue.isReady queue-queue.slotOf queue-queue.lastLen queue-queue.tailOf queue-queue.placeOf queue-queue.grown queue-queue.laid queue-queue.startOf send-keys-keys.noEpoch send-keys-keys.noKeys send-keys-keys.isUsable send-keys-keys.isKeyed send-keys-keys.nextOf send-keys-keys.ivOf send-keys-keys.used send-keys-keys.sealedUpTo send-keys-keys.keyAnswer send-keys-keys.keyed outgoing-send.waitsBehind outgoing-send.laidState outgoing-send.laidMemory outgoing-send.sendAnswer outgoing-send.sendState outgoing-send.sendMemory outgoing-state.noWaiting outgoing-state.freshSending outgoing-state.started outgoing-state.isContentType outgoing-state.isAllowed outgoing-state.keyingState sealing-sealing.isSpan sealing-sealing.isHeld sealing-sealing.isAsked sealing-sealing.partStart sealing-sealing.questionOf sealing-sealing.partOf sealing-sealing.isPut sealing-sealing.putMemory sealing-sealing.maskedHeader sealing-sealing.behindOldest sealing-sealing.sealAnswer sealing-sealing.sealedState sealing-sealing.sealedMemory sealing-seek.nthOf sealing-seek.beyond sealing-seek.passed sealing-seek.foundAt sealing-seek.stepOf sealing-seek.seekStep sealing-seek.seek sealing-take.nextSlot sealing-take.takeAnswer sealing-take.takeState sealing-take.takeBuffer flight-flight.entryOf flight-flight.freshFlight flight-flight.isKept flight-flight.begun flight-flight.savedWith flight-flight.savedMemory flight-save.saveAnswer flight-save.saveState flight-save.saveQueue flight-save.saveKept flight-status.unmarkedAfter history-account.upd history-account.keyOwed history-account.keys history-account.resolvesTo history-account.sealedSize history-account.plainSize history-account.recordSize history-account.goodPlain history-receiver.removedFrom history-receiver.removed history-receiver.begun history-receiver.afterRead history-receiver.afterMask history-receiver.afterOpen history-receiver.verdictOf process-ack-ack.isFormed process-ack-ack.isPair process-ack-ack.isNamed process-ack-ack.isRemembered process-ack-ack.isAcked process-ack-ack.withMark process-ack-ack.markAt process-ack-ack.marksAfter process-ack-ack.tallyWith process-ack-ack.tallyAfter process-ack-ack.emptied process-ack-ack.acked process-ack-status.newlyMarked acks-acks.freshNotes acks-acks.noted acks-acks.forgotten acks-acks.ackEpoch acks-acks.pairOf acks-acks.pairsOf acks-acks.ackContent acks-acks.noticeState acks-acks.noticeMemory acks-acks.ackAnswer acks-acks.ackSent acks-acks.sentAck acks-acks.ackMemory resend-resend.withNumber resend-resend.canRemember resend-resend.renewed resend-resend.renewedIf resend-resend.sentAgain resend-resend.againAt resend-resend.againAfter resend-resend.resendState resend-resend.resendQueue resend-tests.remembers resend-tests.hasRoom resend-tests.passes resend-tests.allPass resend-tests.joined resend-tests.tailAfter resend-tests.countAfter resend-tests.isOver resend-tests.isSpent resend-tests.anySpent resend-tests.closedState resend-tests.fitAnswer resend-tests.resendAnswer ends-sender.lends messages-cut.epochOf messages-cut.pieceSize messages-cut.cutNext messages-cut.pieces messages-cut.planReach messages-message.contentOf messages-message.pieceOf messages-message.sendAll messages-message.messageAnswer messages-message.messageState messages-message.messageQueue messages-message.messageKept handshake-header.headerBytes ends-ledger.joins ends-ledger.lays ends-ledger.isOld ends-ledger.keyNumber ends-ledger.keyed ends-ledger.isUsable ends-ledger.isType ends-ledger.isAllowed ends-ledger.hasKeys ends-ledger.hasRoom ends-ledger.queueNumber ends-ledger.flightNumber ends-ledger.sendNumber ends-ledger.saves ends-ledger.saveNumber ends-ledger.pieceSize ends-ledger.savesOn ends-ledger.pieces ends-ledger.posted ends-ledger.messageNumber ends-ledger.known ends-ledger.sendsAgain ends-ledger.again ends-ledger.resent ends-ledger.isSpent ends-ledger.resendNumber ends-ledger.isFormed ends-ledger.namesIn ends-ledger.isOver ends-ledger.ackedBy ends-ledger.cleared ends-ledger.ackReply ends-ledger.acking ends-ledger.after ends-ledger.sentBy
 opened = tt
 
 settings : Side → Setting

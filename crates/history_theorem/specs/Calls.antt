@@ -38,7 +38,8 @@ use Rattle.recv_keys.specs.declared.Found.the-variants as found
 use Rattle.recv_keys.specs.declared.Found.{Found}
 use Rattle.recv_keys.specs.declared.RecvEpochEntry.{RecvEpochEntry}
 use Rattle.recv_keys.specs.declared.RecvKeys.{RecvKeys}
-use Rattle.window.specs.Window.{isFresh}
+use Rattle.window.specs.Window.{verdict}
+use Rattle.window.specs.declared.Verdict.the-variants.{Fresh}
 use Rattle.history_theorem.specs.Account.{Shown, nothing, Account, isIn, without, owedBy, keyOwed, withKey, keys}
 use Rattle.history_theorem.specs.Lists.{by-both, some≢none, mem-by, drops-on, splice-behind}
 use Rattle.history_theorem.specs.Reading.{is-found, unasked}
@@ -84,7 +85,7 @@ fresh-keeps k l f question.Nothing a = tt
 fresh-keeps k l f (question.Mask x) a = tt
 fresh-keeps k l f (question.Opening x n) a =
     let g = f (x .epoch) (a .0) (a .1) in
-    (g .0, g .1, subst (λ (e : RecvEpochEntry). isFresh (e .replay) n ≡ true) (sym (g .2)) (a .2))
+    (g .0, g .1, subst (λ (e : RecvEpochEntry). verdict (e .replay) n ≡ Fresh) (sym (g .2)) (a .2))
 
 -- ---- keying
 
@@ -191,6 +192,7 @@ module _ (y : Receiver) (i : Sound y) where
           proper = i .proper;
           nonces = i .nonces;
           spared = i .spared;
+          judged = i .judged;
           lost = i .lost;
           real = i .real;
           shows = i .shows;
@@ -264,6 +266,7 @@ module _ (y : Receiver) (i : Sound y) where
       proper = i .proper;
       nonces = i .nonces;
       spared = i .spared;
+      judged = i .judged;
       lost = i .lost;
       real = i .real;
       shows = i .shows;
@@ -323,6 +326,7 @@ module _ (y : Receiver) (i : Sound y) where
     proper = i .proper;
     nonces = i .nonces;
     spared = i .spared;
+    judged = i .judged;
     lost = i .lost;
     real = i .real;
     shows = i .shows;
@@ -377,6 +381,7 @@ module _ (y : Receiver) (i : Sound y) where
         proper = i .proper;
         nonces = i .nonces;
         spared = i .spared;
+        judged = i .judged;
         lost = i .lost;
         real = i .real;
         shows = i .shows;
@@ -451,7 +456,7 @@ module _ (y : Receiver) (i : Sound y) where
     fresh-left (question.Mask x) a ne = tt
     fresh-left (question.Opening x n) a ne =
         let g = find-left (x .epoch) (a .0) (ne x n refl) (a .1) in
-        (g .0, g .1, subst (λ (r : RecvEpochEntry). isFresh (r .replay) n ≡ true) (sym (g .2)) (a .2))
+        (g .0, g .1, subst (λ (r : RecvEpochEntry). verdict (r .replay) n ≡ Fresh) (sym (g .2)) (a .2))
 
     -- another epoch's removal: the question stays
     stays : (s : Receiving) → s ≡ record { keys = left k j; datagram = b } → Made s → FreshAsked (left k j) (b .question)
@@ -476,6 +481,7 @@ module _ (y : Receiver) (i : Sound y) where
         proper = i .proper;
         nonces = i .nonces;
         spared = i .spared;
+        judged = i .judged;
         lost = i .lost;
         real = i .real;
         shows = i .shows;
@@ -514,6 +520,7 @@ module _ (y : Receiver) (i : Sound y) where
         proper = i .proper;
         nonces = i .nonces;
         spared = i .spared;
+        judged = i .judged;
         lost = λ l o. mem-by o (λ (p : l ≡ record { trial = t; epoch = e }). subst (λ x. x .trial .resolved ≡ some (x .epoch)) (sym p) to) (λ o′. i .lost l o′);
         real = i .real;
         shows = i .shows;
@@ -662,6 +669,7 @@ module _ (y : Receiver) (i : Sound y) where
     proper = i .proper;
     nonces = i .nonces;
     spared = i .spared;
+    judged = i .judged;
     lost = i .lost;
     real = i .real;
     shows = i .shows;
@@ -700,6 +708,7 @@ new-sound min h = subst (λ s. Sound (withState (newInbound min .into) s (newInb
   proper = λ c m. elim m [ ];
   nonces = λ c m. elim m [ ];
   spared = λ c m. elim m [ ];
+  judged = λ c m. elim m [ ];
   lost = λ l m. elim m [ ];
   real = λ d m. elim m [ ];
   shows = λ d m. elim m [ ];

@@ -1,6 +1,6 @@
 -- Demand 3 at a receiving end: what is asked of the host, and what then holds, against the records that the far end sealed.
 -- Quotations are the demand's, or from 01's paragraph e.
-use Prim.Native.Nat.{ℕ, _+_, _-_, _/_, _%_, _^_, _≤_, _<_, max}
+use Prim.Native.Nat.{ℕ, _+_, _-_, _*_, _/_, _%_, _^_, _≤_, _<_, max}
 use lib.Bits.{bitXor}
 use lib.Dec.{eqb}
 use lib.ListN.{length, take, drop, getD}
@@ -15,9 +15,12 @@ use Rattle.base.specs.Choose.{choose}
 use Rattle.base.specs.Parts.{part}
 use Rattle.datagram.specs.declared.Reading.the-variants as says
 use Rattle.datagram.specs.declared.Reading.{Reading}
+use Rattle.datagram.specs.declared.Reason.the-variants as reason
 use Rattle.opening_reply.specs.declared.Opening.the-variants as reply
 use Rattle.opening_reply.specs.declared.Opening.{Opening}
+use Rattle.sequence.specs.Laws.{Nearest}
 use Rattle.window.specs.Used.{above}
+use Rattle.window.specs.declared.Verdict.the-variants.{Seen}
 use Rattle.history_theorem.specs.Account.{plainHead, tagSize, Shown, nothing, aMask, anOpening, headSize, saidSize, recordSize}
 use Rattle.history_theorem.specs.Receiver.{
   Sealed,
@@ -166,6 +169,52 @@ pub record Due (t : Trial) (e : ℕ) (r : Sealed) : Type 0 where
   -- "under 32,768 above that highest plus one", or under 65,536
   pub in-reach : r .num < reachOf (t .used e)
 
+-- what the host is told of a record that came late or twice (02, 5): the record r, sealed in epoch e, lies there undamaged, peer encryption on
+-- and its bits resolved to e, and its number is brought back: in reach, and near enough below
+pub record Known (t : Trial) (e : ℕ) (r : Sealed) : Type 0 where
+  pub sealed-then : Mem r (t .sealed e)
+  pub undamaged : take (length (r .wire)) (t .rest) ≡ r .wire
+  pub encryption-on : t .encrypted ≡ true
+  pub resolved : t .resolved ≡ some e
+  pub in-reach : r .num < reachOf (t .used e)
+  -- two number bytes bring back what is under 32,768 below the highest used plus one
+  pub near-enough : above (t .used e) < r .num + 32768
+
+-- "already seen": the number was used, and is fewer than the width below the highest used
+abbrev pub IsSeen : List ℕ → ℕ → Type 0
+IsSeen used n = Mem n used × (above used ≤ n + windowMarks)
+
+-- "A number 64 or more below the highest is too old even if it was used"
+abbrev pub IsOld : List ℕ → ℕ → Type 0
+IsOld used n = n + windowMarks < above used
+
+-- 9 is said of the number n exactly if it was seen, 26 exactly if it is too old
+abbrev pub Tells : Reading → List ℕ → ℕ → Type 0
+Tells r used n = ((r ≡ says.Dropped reason.Seen) ↔ IsSeen used n) × ((r ≡ says.Dropped reason.TooOld) ↔ IsOld used n)
+
+-- neither is said
+abbrev pub TellsNeither : Reading → Type 0
+TellsNeither r = (r ≡ says.Dropped reason.Seen → ⊥) × (r ≡ says.Dropped reason.TooOld → ⊥)
+
+-- what a mask brings out of the number bytes of a record as it arrived, and how many numbers such bits tell apart: two bytes, or one
+abbrev pub bitsUnder : List ℕ → List ℕ → ℕ
+bitsUnder m rest =
+    choose (eqb (getD rest 0 0 / 8 % 2) 1) (bitXor (getD rest 1 0) (getD m 0 0) * 256 + bitXor (getD rest 2 0) (getD m 1 0))
+    (bitXor (getD rest 1 0) (getD m 0 0))
+
+abbrev pub blockIn : List ℕ → ℕ
+blockIn rest = choose (eqb (getD rest 0 0 / 8 % 2) 1) 65536 256
+
+-- and this of every record that arrives, sealed here or anywhere, altered or invented: 9 and 26 are said in reply to a mask alone, by the number
+-- nearest to the highest used plus one (02, 1) that ends in the bits which that mask brings out
+abbrev pub Judged : Deed → Shown → List ℕ → (ℕ → List ℕ) → Reading → Type 0
+Judged aRead w rest used r = TellsNeither r
+Judged (aMaskReply m) nothing rest used r = TellsNeither r
+Judged (aMaskReply m) (aMask e p) rest used r =
+    (n : ℕ) → Nearest (blockIn rest) (bitsUnder m rest) (above (used e)) n → Tells r (used e) n
+Judged (aMaskReply m) (anOpening e n at head body) rest used r = TellsNeither r
+Judged (anOpenReply o) w rest used r = TellsNeither r
+
 -- a reading says opened in epoch e and shows the record h
 abbrev pub SaysOpened : Reading → List ℕ → ℕ → Handed → Type 0
 SaysOpened (says.Opened k n t s l) shown e h = (k ≡ e) × (record { num = n; type = t; content = shown } ≡ h)
@@ -297,9 +346,9 @@ abbrev pub Proper : Deed → Shown → Reading → Type 0
 Proper aRead nothing r = Refused r → ⊥
 Proper aRead (aMask e p) r = r ≡ says.Mask e p
 Proper aRead (anOpening e n at head body) r = r ≡ says.Opening e n at (length head) (length body)
-Proper aMaskReply nothing r = r ≡ says.Reply
-Proper aMaskReply (aMask e p) r = (Refused r → ⊥) × ((k s : ℕ) → r ≡ says.Mask k s → ⊥)
-Proper aMaskReply (anOpening e n at head body) r = r ≡ says.Reply
+Proper (aMaskReply m) nothing r = r ≡ says.Reply
+Proper (aMaskReply m) (aMask e p) r = (Refused r → ⊥) × ((k s : ℕ) → r ≡ says.Mask k s → ⊥)
+Proper (aMaskReply m) (anOpening e n at head body) r = r ≡ says.Reply
 Proper (anOpenReply o) nothing r = r ≡ says.Reply
 Proper (anOpenReply o) (aMask e p) r = r ≡ says.Reply
 Proper (anOpenReply reply.No) (anOpening e n at head body) r = fateOf r ≡ settled
@@ -332,26 +381,26 @@ RightNonce (says.Opened e n t s l) ivs nonce = Unit {0}
 
 -- the bytes that a reading call may change: a mask reply to a mask question those of the number, one, or two where the record's first byte says so
 abbrev pub NumberByte : Deed → Shown → ℕ → ℕ → ℕ → Type 0
-NumberByte aMaskReply (aMask e p) place flags j = (place < j) × (j ≤ place + 1 + flags / 8 % 2)
-NumberByte aMaskReply nothing place flags j = ⊥
-NumberByte aMaskReply (anOpening e n at head body) place flags j = ⊥
+NumberByte (aMaskReply m) (aMask e p) place flags j = (place < j) × (j ≤ place + 1 + flags / 8 % 2)
+NumberByte (aMaskReply m) nothing place flags j = ⊥
+NumberByte (aMaskReply m) (anOpening e n at head body) place flags j = ⊥
 NumberByte aRead w place flags j = ⊥
 NumberByte (anOpenReply o) w place flags j = ⊥
 
 -- every other byte stays
 pub record Spares (c : Spoken) : Type 0 where
   pub long : length (c .left) ≡ length (c .lent)
-  pub bytes : (j : ℕ) → (NumberByte (c .deed) (c .waited) (c .place) (c .first) j → ⊥) → getD (c .left) j 0 ≡ getD (c .lent) j 0
+  pub bytes : (j : ℕ) → (NumberByte (c .deed) (c .waited) (c .place) (getD (c .rest) 0 0) j → ⊥) → getD (c .left) j 0 ≡ getD (c .lent) j 0
 
 -- "every window verdict as it was"
 abbrev pub SameVerdicts : Move → Type 0
 SameVerdicts m = (e n : ℕ) → verdictOf (m .behind) e n ≡ verdictOf (m .before) e n
 
--- a call that uses a number moves the verdicts of its epoch alone, and that number is no longer fresh
+-- a call that uses a number moves the verdicts of its epoch alone, and that number is seen
 abbrev pub Moved : Move → Use → Type 0
 Moved m unused = SameVerdicts m
 Moved m (uses e n) =
-    ((k : ℕ) → (k ≡ e → ⊥) → (j : ℕ) → verdictOf (m .behind) k j ≡ verdictOf (m .before) k j) × (verdictOf (m .behind) e n ≡ some false)
+    ((k : ℕ) → (k ≡ e → ⊥) → (j : ℕ) → verdictOf (m .behind) k j ≡ verdictOf (m .before) k j) × (verdictOf (m .behind) e n ≡ some Seen)
 
 -- 15, and nothing changes
 pub record Turned (t : Stray) : Type 0 where
@@ -368,6 +417,10 @@ pub record Received (sealed : ℕ → List Sealed) (i : Inbound) (e : ℕ) : Typ
   -- "none was left out that .. reached .., all its questions answered": it was handed over, and the very reading that was due said so
   pub none-left-out : (d : Tried) → Mem d (i .into .tried) → (r : Sealed) → Due (d .trial) e r → Mem (asHanded r) (i .into .handed e)
   pub due-opened : (d : Tried) → Mem d (i .into .tried) → (r : Sealed) → Due (d .trial) e r → SaysOpened (d .reading) (d .shown) e (asHanded r)
+  -- "whether a record was too late or already seen" (02, 5): of a record whose number is brought back, and of whatever else arrives by the number
+  -- that its bits stand for
+  pub late-told : (d : Tried) → Mem d (i .into .tried) → (r : Sealed) → Known (d .trial) e r → Tells (d .reading) (d .trial .used e) (r .num)
+  pub judged : (c : Spoken) → Mem c (i .into .spoken) → Judged (c .deed) (c .waited) (c .rest) (c .used) (c .reading)
   -- "A datagram with no record accepted by the cipher moved no .. window": "the calls that read the datagram leave .. every window verdict"
   pub moved-nothing : (k : ℕ) → ((m : Move) → Mem m (i .moves) → m .datagram ≡ k → accepts (m .spends) ≡ false)
       → (m : Move) → Mem m (i .moves) → m .datagram ≡ k → SameVerdicts m

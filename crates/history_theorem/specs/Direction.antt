@@ -1,6 +1,6 @@
 -- One direction: what an end hands over against what the far end sealed, and a record that is due through its questions. Assumes nothing.
 use Prim.Native.Nat.{ℕ, zero, suc, _+_, _-_, _/_, _%_, _≤_, _<_}
-use borrow.Author.Tests.{eqb-true, eqb-false, eq-eqb, ne-eqb, lt-leb}
+use borrow.Author.Tests.{eqb-true, eqb-false, eq-eqb, ne-eqb, lt-leb, le-leb}
 use lib.Dec.{eqb, leb}
 use lib.ListN.{length, take, drop, getD, length-append, length-take}
 use lib.Seq.{take-append-seam}
@@ -10,7 +10,7 @@ use mathlib.Core.Logic.{_↔_, _⊎_, inl, inr, ⊎-elim}
 use mathlib.Core.Option.{Option, none, some}
 use mathlib.Core.Path.{_≡_, refl, sym, ap, subst, _∙_}
 use native.Mathlib.Omega.{arith}
-use Rattle.base.specs.Choose.{if-true, if-false, by-test, test-cases}
+use Rattle.base.specs.Choose.{if-true, if-false, by-test, test-cases, lt-or-ge}
 use Rattle.base.specs.Parts.{part, part-first}
 use Rattle.datagram.specs.Datagram.{isSound, told, questioned, moved, counted, endAsked}
 use Rattle.datagram.specs.Sound.{Held, held-mask, held-open}
@@ -20,11 +20,13 @@ use Rattle.datagram.specs.declared.Question.the-variants as question
 use Rattle.datagram.specs.declared.Question.{Question}
 use Rattle.datagram.specs.declared.Reading.the-variants as says
 use Rattle.datagram.specs.declared.Reading.{Reading}
+use Rattle.datagram.specs.declared.Reason.the-variants as reason
+use Rattle.datagram.specs.declared.Reason.{Reason}
 use Rattle.datagram.specs.declared.Step.{Step}
 use Rattle.incoming.specs.Inner.{innerOf, inner-type}
 use Rattle.incoming.specs.declared.Inner.the-variants as inner
 use Rattle.incoming.specs.declared.Inner.{Inner}
-use Rattle.mask_reply.specs.Mask.{unmasked}
+use Rattle.mask_reply.specs.Mask.{unmasked, ruled}
 use Rattle.opening_reply.specs.Opening.{still, typed, openedAt, openings, openedStep, shownBy}
 use Rattle.opening_reply.specs.Undamaged.{yes-hands, content-shown}
 use Rattle.opening_reply.specs.declared.Marked.{Marked}
@@ -41,10 +43,13 @@ use Rattle.recv_keys.specs.Keys.{entryAt, find, marked}
 use Rattle.recv_keys.specs.Laws.{found-keyed}
 use Rattle.recv_keys.specs.declared.Found.the-variants as found
 use Rattle.recv_keys.specs.declared.RecvKeys.{RecvKeys}
-use Rattle.window.specs.Used.{Agrees}
+use Rattle.window.specs.Used.{above, Agrees, tells}
+use Rattle.window.specs.Window.{verdict}
+use Rattle.window.specs.declared.Verdict.the-variants as number
+use Rattle.window.specs.declared.Verdict.{Verdict}
 use Rattle.history_theorem.specs.Account.{upd, Shown, nothing, aMask, anOpening}
 use Rattle.history_theorem.specs.Calls.{Leaves, as-was, no-more}
-use Rattle.history_theorem.specs.Claim.{Masks, FairMask, Opens, FairOpen, asHanded, Due, SaysOpened}
+use Rattle.history_theorem.specs.Claim.{Masks, FairMask, Opens, FairOpen, asHanded, windowMarks, Due, Known, IsSeen, IsOld, Tells, SaysOpened}
 use Rattle.history_theorem.specs.Half.{Shape}
 use Rattle.history_theorem.specs.Lists.{upd-same, upd-by, some≢none, some-inj, option-cases, mem-by}
 use Rattle.history_theorem.specs.Reading.{refusal, sameAgain, is-found, mask-opening, mask-refused, open-idle, open-masked, masks-again, again-is, rest-idle, rest-masked, reached-to, idle-quiet, masked-quiet, opened-is, use-down}
@@ -136,13 +141,61 @@ says-handed (says.Opened k n t s l) shown f e h z =
 
 -- ---- the record that the cut came to
 
+-- neither seen nor too old
+abbrev pub IsNew : Trial → ℕ → Sealed → Type 0
+IsNew t e x = (Mem (x .num) (t .used e) → ⊥) × (above (t .used e) ≤ x .num + windowMarks)
+
+-- what is said in the end of a record whose number is brought back: 9, 26, or opened, and 3 after sixteen readings
+pub data Ending (t : Trial) (e : ℕ) (x : Sealed) (r : Reading) (shown : List ℕ) : Type 0 where
+  as-seen : IsSeen (t .used e) (x .num) → r ≡ says.Dropped reason.Seen → Ending t e x r shown
+  as-old : IsOld (t .used e) (x .num) → r ≡ says.Dropped reason.TooOld → Ending t e x r shown
+  as-new : IsNew t e x → (t .count ≤ 15 → SaysOpened r shown e (asHanded x)) → (15 < t .count → r ≡ says.TooMany) → Ending t e x r shown
+
+-- so one that is due is opened, and 9 and 26 are said exactly where they should be
+pub due-known : (t : Trial) (e : ℕ) (x : Sealed) → Due t e x → Known t e x
+due-known t e x due = record {
+  sealed-then = due .sealed-then;
+  undamaged = due .undamaged;
+  encryption-on = due .encryption-on;
+  resolved = due .resolved;
+  in-reach = due .in-reach;
+  near-enough = omega (arith, due .not-old);
+}
+
+module _ (t : Trial) (e : ℕ) (x : Sealed) (r : Reading) (shown : List ℕ) where
+  pub ending-opened : Due t e x → Ending t e x r shown → SaysOpened r shown e (asHanded x)
+  ending-opened due (as-seen s q) = absurd (due .not-used (s .0))
+  ending-opened due (as-old s q) = absurd (omega (arith, due .not-old))
+  ending-opened due (as-new s opened over) = opened (due .among-16)
+
+  -- an opened record is not said to be dropped, nor is 3
+  not-dropped : (w : Reason) → (t .count ≤ 15 → SaysOpened r shown e (asHanded x)) → (15 < t .count → r ≡ says.TooMany) → r ≡ says.Dropped w → ⊥
+  not-dropped w opened over q =
+      ⊎-elim (λ (l : t .count < 16). subst (λ v. SaysOpened v shown e (asHanded x)) q (opened (omega arith)))
+      (λ l. let z : _≡_ {A = ℕ} 0 1 = absurd (many (sym (over (omega arith)) ∙ q)) in omega arith) (lt-or-ge (t .count) 16)
+    where
+      many : says.TooMany ≡ says.Dropped w → ⊥
+      many p = let z : _≡_ {A = ℕ} 0 1 = cc in omega arith
+
+  one-reason : r ≡ says.Dropped reason.Seen → r ≡ says.Dropped reason.TooOld → ⊥
+  one-reason p q = let z : _≡_ {A = ℕ} 0 1 = cc in omega arith
+
+  pub ending-told : Ending t e x r shown → Tells r (t .used e) (x .num)
+  ending-told (as-seen s q) = ((λ p. s, λ p. q), (λ p. absurd (one-reason q p), λ p. absurd (omega (arith, s .1))))
+  ending-told (as-old s q) = ((λ p. absurd (one-reason p q), λ p. absurd (omega (arith, p .1))), (λ p. s, λ p. q))
+  ending-told (as-new s opened over) = (
+    (λ p. absurd (not-dropped reason.Seen opened over p), λ p. absurd (s .0 (p .0))),
+    (λ p. absurd (not-dropped reason.TooOld opened over p), λ p. absurd (omega (arith, s .1))),
+  )
+
 pub data Ongoing (t : Trial) (e : ℕ) (x : Sealed) (b : Datagram) (d : List ℕ) (used : ℕ → List ℕ) (w : Shown) : Type 0 where
   at-mask : b .question ≡ question.Mask (askFor e x) → part (b .at) (length (x .wire)) d ≡ x .wire → used e ≡ t .used e → w ≡ aMask e (b .at + sealedHead)
       → Ongoing t e x b d used w
-  at-open : b .question ≡ question.Opening (askFor e x) (x .num) → w ≡ anOpening e (x .num) (b .at) (x .header) (x .cipher) → Ongoing t e x b d used w
+  at-open : b .question ≡ question.Opening (askFor e x) (x .num) → w ≡ anOpening e (x .num) (b .at) (x .header) (x .cipher) → IsNew t e x
+      → Ongoing t e x b d used w
 
 pub record Under (sealed : ℕ → List Sealed) (t : Trial) (e : ℕ) (x : Sealed) (b : Datagram) (d : List ℕ) (used : ℕ → List ℕ) (w : Shown) : Type 0 where
-  pub count : b .readings ≤ 15
+  pub count : b .readings ≡ t .count
   pub mem : Mem x (sealed e)
   pub ongoing : Ongoing t e x b d used w
 
@@ -150,8 +203,8 @@ abbrev pub UnderIn : (ℕ → List Sealed) → Trial → ℕ → Sealed → Rece
 UnderIn sealed t e x y = Under sealed t e x (y .state .datagram) (y .datagram) (y .used) (y .account .waits)
 
 pub record Trials (sealed : ℕ → List Sealed) (y : Receiver) : Type 0 where
-  pub under : (t : Trial) → y .trial ≡ some t → (e : ℕ) (x : Sealed) → Due t e x → UnderIn sealed t e x y
-  pub says : (d : Tried) → Mem d (y .tried) → (e : ℕ) (x : Sealed) → Due (d .trial) e x → SaysOpened (d .reading) (d .shown) e (asHanded x)
+  pub under : (t : Trial) → y .trial ≡ some t → (e : ℕ) (x : Sealed) → Known t e x → UnderIn sealed t e x y
+  pub says : (d : Tried) → Mem d (y .tried) → (e : ℕ) (x : Sealed) → Known (d .trial) e x → Ending (d .trial) e x (d .reading) (d .shown)
   pub handed : (d : Tried) → Mem d (y .tried) → (e : ℕ) (x : Sealed) → Due (d .trial) e x → Mem (asHanded x) (y .handed e)
 
 -- more sealed records change nothing of this
@@ -200,16 +253,16 @@ write-trials sealed y i p = record {
         → Ongoing t e x (y .state .datagram) (writtenIn (y .account .waits) (y .datagram) p) (y .used) (y .account .waits)
     go t e x (at-mask z same n w) =
         at-mask z (subst (λ v. part (y .state .datagram .at) (length (x .wire)) (writtenIn v (y .datagram) p) ≡ x .wire) (sym w) same) n w
-    go t e x (at-open z w) = at-open z w
+    go t e x (at-open z w n) = at-open z w n
 
 -- ---- a reading call, by its fate
 
 module _ (sealed : ℕ → List Sealed) (y : Receiver) (o : Out) (t : Option Trial) (u : Use) (w : Shown) (deed : Deed) (i : Trials sealed y)
     (still-so : fateOf (o .reading) ≡ turnedDown → (o .state ≡ y .state) × (o .datagram ≡ y .datagram) × (spent u (y .used) ≡ y .used))
-    (next : fateOf (o .reading) ≡ underway → (a : Trial) → t ≡ some a → (e : ℕ) (x : Sealed) → Due a e x
+    (next : fateOf (o .reading) ≡ underway → (a : Trial) → t ≡ some a → (e : ℕ) (x : Sealed) → Known a e x
     → Under sealed a e x (o .state .datagram) (o .datagram) (spent u (y .used)) w)
-    (last : fateOf (o .reading) ≡ settled → (a : Trial) → t ≡ some a → (e : ℕ) (x : Sealed) → Due a e x
-    → SaysOpened (o .reading) (shownBy (o .reading) (o .datagram)) e (asHanded x)) where
+    (last : fateOf (o .reading) ≡ settled → (a : Trial) → t ≡ some a → (e : ℕ) (x : Sealed) → Known a e x
+    → Ending a e x (o .reading) (shownBy (o .reading) (o .datagram))) where
   shown : List ℕ
   shown = shownBy (o .reading) (o .datagram)
 
@@ -248,13 +301,15 @@ module _ (sealed : ℕ → List Sealed) (y : Receiver) (o : Out) (t : Option Tri
         option-cases t (λ z. i .says d (settled-none z d m) e x due)
         (λ a z. mem-by (settled-some a z d m)
         (λ (p : d ≡ record { trial = a; reading = o .reading; shown = shownBy (o .reading) (o .datagram) }).
-        subst (λ v. SaysOpened (v .reading) (v .shown) e (asHanded x)) (sym p) (last q a z e x (subst (λ v. Due (v .trial) e x) p due)))
+        subst (λ v. Ending (v .trial) e x (v .reading) (v .shown)) (sym p) (last q a z e x (subst (λ v. Known (v .trial) e x) p due)))
         (λ m′. i .says d m′ e x due));
     handed = λ d m e x due.
         option-cases t (λ z. grows e (asHanded x) (i .handed d (settled-none z d m) e x due))
         (λ a z. mem-by (settled-some a z d m)
         (λ (p : d ≡ record { trial = a; reading = o .reading; shown = shownBy (o .reading) (o .datagram) }).
-        says-handed (o .reading) (shownBy (o .reading) (o .datagram)) (y .handed) e (asHanded x) (last q a z e x (subst (λ v. Due (v .trial) e x) p due)))
+        let due′ : Due a e x = subst (λ v. Due (v .trial) e x) p due in
+        says-handed (o .reading) (shownBy (o .reading) (o .datagram)) (y .handed) e (asHanded x)
+        (ending-opened a e x (o .reading) (shownBy (o .reading) (o .datagram)) due′ (last q a z e x (due-known a e x due′))))
         (λ m′. grows e (asHanded x) (i .handed d m′ e x due)));
   }
     where
@@ -321,8 +376,8 @@ module _ (masks : Masks) (sealed : ℕ → List Sealed) (shaped : Shaped masks s
   abbrev asksMask : ℕ → Sealed → Out
   asksMask e x = readsOut k (told (questioned b (question.Mask (askFor e x))) (says.Mask e (b .at + sealedHead))) d
 
-  -- the cut that comes to a record that is due asks for its mask
-  due-asks : b .question ≡ question.Nothing → (e : ℕ) (x : Sealed) → Due (reached y sealed) e x
+  -- the cut that comes to a record whose number can be brought back asks for its mask
+  due-asks : b .question ≡ question.Nothing → (e : ℕ) (x : Sealed) → Known (reached y sealed) e x
       → (part (b .at) (length (x .wire)) d ≡ x .wire) × (readOut (y .state) d ≡ asksMask e x)
   due-asks q e x due =
       let lie : part (b .at) (length (x .wire)) d ≡ x .wire =
@@ -339,17 +394,17 @@ module _ (masks : Masks) (sealed : ℕ → List Sealed) (shaped : Shaped masks s
       after-trials sealed y o (some (reached y sealed)) unused (questionIn (o .reading) (o .datagram)) aRead j
       (λ f. absurd (moves-on (idle-quiet y i sealed q .moves) f))
       (λ f a p e x due.
-      subst (λ v. Due v e x → Under sealed v e x (o .state .datagram) (o .datagram) (y .used) (questionIn (o .reading) (o .datagram))) (some-inj p)
+      subst (λ v. Known v e x → Under sealed v e x (o .state .datagram) (o .datagram) (y .used) (questionIn (o .reading) (o .datagram))) (some-inj p)
       (λ due.
       let z = due-asks q e x due in
       subst (λ v. Under sealed (reached y sealed) e x (v .state .datagram) (v .datagram) (y .used) (questionIn (v .reading) (v .datagram))) (sym (z .1))
       (record {
-        count = subst (λ (n : ℕ). n ≤ 15) (i .tally .readings) (due .among-16);
+        count = sym (i .tally .readings);
         mem = due .sealed-then;
         ongoing = at-mask refl (z .0) refl refl;
       })) due)
       (λ f a p e x due.
-      let z = due-asks q e x (subst (λ v. Due v e x) (sym (some-inj p)) due) in
+      let z = due-asks q e x (subst (λ v. Known v e x) (sym (some-inj p)) due) in
       underway≢settled (sym (ap (λ (v : Out). fateOf (v .reading)) (z .1)) ∙ f))
 
   again-trials : Trials sealed y → (r : Reading) (v : List ℕ) (w : Shown) → fateOf r ≡ underway → w ≡ y .account .waits
@@ -379,24 +434,52 @@ module _ (masks : Masks) (sealed : ℕ → List Sealed) (shaped : Shaped masks s
 
   -- ---- a mask reply
 
-  -- the question under way, and the one asked by this step
-  abbrev Opening′ : Trial → ℕ → Sealed → Out → Type 0
-  Opening′ a e x o =
-      (fateOf (o .reading) ≡ underway)
-      × Under sealed a e x (o .state .datagram) (o .datagram) (y .used) (questionIn (o .reading) (o .datagram))
+  -- what a reply comes to for the record under way: refused, a question that leaves it under way, or its end
+  data Next (a : Trial) (e : ℕ) (x : Sealed) (o : Out) : Type 0 where
+    refused-so : fateOf (o .reading) ≡ turnedDown → Next a e x o
+    goes-on : fateOf (o .reading) ≡ underway → Under sealed a e x (o .state .datagram) (o .datagram) (y .used) (questionIn (o .reading) (o .datagram)) → Next a e x o
+    ends : fateOf (o .reading) ≡ settled → Ending a e x (o .reading) (shownBy (o .reading) (o .datagram)) → Next a e x o
 
-  pub mask-due : (m : List ℕ) → FairMask masks (y .account .waits) d (getD (restOf y) 0 0) m → (a : Trial) (e : ℕ) (x : Sealed) → Due a e x
-      → UnderIn sealed a e x y
-      → (fateOf (maskOut (y .state) m d .reading) ≡ turnedDown) ⊎ Opening′ a e x (maskOut (y .state) m d)
-  mask-due m fair a e x due u = go (u .ongoing)
+  next-under : {a : Trial} {e : ℕ} {x : Sealed} {o : Out} → Next a e x o → fateOf (o .reading) ≡ underway
+      → Under sealed a e x (o .state .datagram) (o .datagram) (y .used) (questionIn (o .reading) (o .datagram))
+  next-under (refused-so f) g = down≢ (sym f ∙ g)
+  next-under (goes-on f u) g = u
+  next-under (ends f z) g = underway≢settled (sym g ∙ f)
+
+  next-ends : {a : Trial} {e : ℕ} {x : Sealed} {o : Out} → Next a e x o → fateOf (o .reading) ≡ settled
+      → Ending a e x (o .reading) (shownBy (o .reading) (o .datagram))
+  next-ends (refused-so f) g = down≢settled (sym f ∙ g)
+  next-ends (goes-on f u) g = underway≢settled (sym f ∙ g)
+  next-ends (ends f z) g = z
+
+  -- the record ruled on by the window's verdict on its number
+  ruled-next : (a : Trial) (e : ℕ) (x : Sealed) (u : UnderIn sealed a e x y) (m : List ℕ) (h : ℕ) → Agrees (entryAt k h .replay) (a .used e)
+      → part (b .at) sealedHead (unmasked d (b .at) true m) ≡ x .header
+      → part (b .at + sealedHead) (length (x .cipher)) (unmasked d (b .at) true m) ≡ x .cipher
+      → (v : Verdict) → verdict (entryAt k h .replay) (x .num) ≡ v
+      → Next a e x (maskedOut k (ruled v (entryAt k h) b (askFor e x) (x .num), unmasked d (b .at) true m))
+  ruled-next a e x u m h agrees p r number.Fresh is = unfold openingAsked in (
+      goes-on refl (record {
+        count = u .count;
+        mem = u .mem;
+        ongoing = at-open refl
+            (ap (λ (l : List ℕ). anOpening e (x .num) (b .at) l (part (b .at + sealedHead) (length (x .cipher)) (unmasked d (b .at) true m))) p
+            ∙ ap (anOpening e (x .num) (b .at) (x .header)) r)
+            (tells agrees (x .num) number.Fresh .0 is);
+      }))
+  ruled-next a e x u m h agrees p r number.Seen is = ends refl (as-seen (tells agrees (x .num) number.Seen .0 is) refl)
+  ruled-next a e x u m h agrees p r number.TooOld is = ends refl (as-old (tells agrees (x .num) number.TooOld .0 is) refl)
+
+  mask-known : (m : List ℕ) → FairMask masks (y .account .waits) d (getD (restOf y) 0 0) m → (a : Trial) (e : ℕ) (x : Sealed) → Known a e x
+      → UnderIn sealed a e x y → Next a e x (maskOut (y .state) m d)
+  mask-known m fair a e x known u = go (u .ongoing)
     where
       shape : Shape masks e x
       shape = shaped e x (u .mem)
 
-      go : Ongoing a e x b d (y .used) (y .account .waits)
-          → (fateOf (maskOut (y .state) m d .reading) ≡ turnedDown) ⊎ Opening′ a e x (maskOut (y .state) m d)
-      go (at-open q w) =
-          inl (ap (λ (p : Step × List ℕ). fateOf (p .0 .reading)) (mask-opening y i m (askFor e x) (x .num) q))
+      go : Ongoing a e x b d (y .used) (y .account .waits) → Next a e x (maskOut (y .state) m d)
+      go (at-open q w n) =
+          refused-so (ap (λ (p : Step × List ℕ). fateOf (p .0 .reading)) (mask-opening y i m (askFor e x) (x .num) q))
       go (at-mask q same z w) =
           is-found k e _ refl (held-mask k b in-range (askFor e x) q .installed) λ h f.
           let fair′ : FairMask masks (aMask e (b .at + sealedHead)) d (getD (restOf y) 0 0) m =
@@ -410,38 +493,22 @@ module _ (masks : Masks) (sealed : ℕ → List Sealed) (shaped : Shaped masks s
           let agrees : Agrees (entryAt k h .replay) (a .used e) =
           subst (λ l. Agrees (entryAt k h .replay) l) (ap (y .used) (found-epoch (k .entries) e (k .count) h f) ∙ z)
           (i .table .agrees h (found-keyed (k .entries) e (k .count) h f)) in
-          inr
-          (subst (λ p. Opening′ a e x (maskedOut k p))
-          (sym (mask-is masks e x shape k b d in-range (i .whole) same m one two h q f (a .used e) agrees (due .not-used) (due .not-old) (due .in-reach)))
-          (opened h (header-is masks e x shape k b d in-range (i .whole) same m one two) (cipher-is masks e x shape k b d in-range (i .whole) same m one two)))
-        where
-          opened : (h : ℕ) → part (b .at) sealedHead (unmasked d (b .at) true m) ≡ x .header
-              → part (b .at + sealedHead) (length (x .cipher)) (unmasked d (b .at) true m) ≡ x .cipher
-              → Opening′ a e x (maskedOut k (openingAsked (entryAt k h) b (askFor e x) (x .num), unmasked d (b .at) true m))
-          opened h p r = unfold openingAsked in (
-            refl,
-            record {
-              count = u .count;
-              mem = u .mem;
-              ongoing = at-open refl
-                  (ap (λ (l : List ℕ). anOpening e (x .num) (b .at) l (part (b .at + sealedHead) (length (x .cipher)) (unmasked d (b .at) true m))) p
-                  ∙ ap (anOpening e (x .num) (b .at) (x .header)) r);
-            },
-          )
+          subst (λ p. Next a e x (maskedOut k p))
+          (sym (mask-is masks e x shape k b d in-range (i .whole) same m one two h q f (a .used e) agrees (known .near-enough) (known .in-reach) _ refl))
+          (ruled-next a e x u m h agrees (header-is masks e x shape k b d in-range (i .whole) same m one two) (cipher-is masks e x shape k b d in-range (i .whole) same m one two) _ refl)
 
   pub mask-trials : Trials sealed y → (m : List ℕ) → FairMask masks (y .account .waits) d (getD (restOf y) 0 0) m → Trials sealed (afterMask y m)
   unfolding afterMask
   mask-trials j m fair =
       let o = maskOut (y .state) m d in
-      after-trials sealed y o (y .trial) unused (questionIn (o .reading) (o .datagram)) aMaskReply j
+      after-trials sealed y o (y .trial) unused (questionIn (o .reading) (o .datagram)) (aMaskReply m) j
       (λ f. (
         refused-stays (answering m d) (y .state) (down-refused (o .reading) f),
         mask-refused y i m f,
         refl,
       ))
-      (λ f a p e x due. ⊎-elim (λ z. down≢ (sym z ∙ f)) (λ z. z .1) (mask-due m fair a e x due (j .under a p e x due)))
-      (λ f a p e x due.
-      ⊎-elim (λ z. down≢settled (sym z ∙ f)) (λ z. underway≢settled (sym (z .0) ∙ f)) (mask-due m fair a e x due (j .under a p e x due)))
+      (λ f a p e x known. next-under (mask-known m fair a e x known (j .under a p e x known)) f)
+      (λ f a p e x known. next-ends (mask-known m fair a e x known (j .under a p e x known)) f)
 
   -- ---- an opening reply
 
@@ -543,12 +610,22 @@ module _ (masks : Masks) (sealed : ℕ → List Sealed) (shaped : Shaped masks s
       subst (λ (s : Step). SaysOpened (s .reading) (shownBy (s .reading) d) (a .epoch) (record { num = n; type = t; content = c }))
       (sym (if-false _ _ (lt-leb 16 (b .readings) (omega arith)))) (refl, ap (λ (x : List ℕ). record { num = n; type = t; content = x }) shown)
 
-  abbrev Ends : ℕ → Sealed → Out → Type 0
-  Ends e x o = (fateOf (o .reading) ≡ turnedDown) ⊎ SaysOpened (o .reading) (shownBy (o .reading) (o .datagram)) e (asHanded x)
+  typed-over : (l : RecvKeys) (a : Ask) (n t len : ℕ) → 15 < b .readings → outBy l (typed b a n (inner.Found t len)) d .reading ≡ says.TooMany
+  unfolding typed counted
+  typed-over l a n t len high = ap (λ (s : Step). s .reading) (if-true _ _ (le-leb 16 (b .readings) (omega arith)))
 
-  pub open-due : (p : Opening) → FairOpen sealed (y .account .waits) d p → (a : Trial) (e : ℕ) (x : Sealed) → UnderIn sealed a e x y
-      → Ends e x (openOut (y .state) p d)
-  open-due p fair a e x u = go (u .ongoing)
+  typed-fate : (l : RecvKeys) (a : Ask) (n : ℕ) (v : Inner) → fateOf (outBy l (typed b a n v) d .reading) ≡ settled
+  unfolding typed counted
+  typed-fate l a n inner.Nothing = refl
+  typed-fate l a n (inner.Found t len) = by-test (λ (s : Step). fateOf (s .reading) ≡ settled) (λ f. refl) (λ f. refl)
+
+  abbrev Last : Trial → ℕ → Sealed → Out → Type 0
+  Last a e x o =
+      (fateOf (o .reading) ≡ turnedDown) ⊎ ((fateOf (o .reading) ≡ settled) × Ending a e x (o .reading) (shownBy (o .reading) (o .datagram)))
+
+  open-known : (p : Opening) → FairOpen sealed (y .account .waits) d p → (a : Trial) (e : ℕ) (x : Sealed) → UnderIn sealed a e x y
+      → Last a e x (openOut (y .state) p d)
+  open-known p fair a e x u = go (u .ongoing)
     where
       inside : List ℕ
       inside = x .content ++ (x .type ∷ [])
@@ -556,11 +633,17 @@ module _ (masks : Masks) (sealed : ℕ → List Sealed) (shaped : Shaped masks s
       five : length (x .header) ≡ sealedHead
       five = ap length (shaped e x (u .mem) .header) ∙ (unfold unifiedHeader in refl)
 
-      by : (p : Opening) → b .question ≡ question.Opening (askFor e x) (x .num)
-          → FairOpen sealed (anOpening e (x .num) (b .at) (x .header) (x .cipher)) d p → Ends e x (openOut (y .state) p d)
-      by reply.No q fair =
+      low : a .count ≤ 15 → b .readings ≤ 15
+      low h = omega (arith, u .count)
+
+      high : 15 < a .count → 15 < b .readings
+      high h = omega (arith, u .count)
+
+      by : (p : Opening) → b .question ≡ question.Opening (askFor e x) (x .num) → IsNew a e x
+          → FairOpen sealed (anOpening e (x .num) (b .at) (x .header) (x .cipher)) d p → Last a e x (openOut (y .state) p d)
+      by reply.No q new fair =
           some≢none (sym (fair tt inside .1 (x, u .mem, record { number = refl; header = refl; cipher = refl; plaintext = refl })))
-      by (reply.Yes len) q fair =
+      by (reply.Yes len) q new fair =
           is-found k e _ refl (held-open k b in-range (askFor e x) (x .num) q .1 .installed) λ h f.
           test-cases (eqb (len + tagSize) (length (x .cipher)))
           (λ t.
@@ -568,15 +651,19 @@ module _ (masks : Masks) (sealed : ℕ → List Sealed) (shaped : Shaped masks s
           let plain : part (b .at + sealedHead) len d ≡ inside =
           ap (λ (n : ℕ). part (b .at + n) len d) (sym five)
           ∙ some-inj (fair right inside .1 (x, u .mem, record { number = refl; header = refl; cipher = refl; plaintext = refl })) in
-          inr
-          (subst (λ m. SaysOpened (opensTo m .reading) (shownBy (opensTo m .reading) d) e (asHanded x))
+          subst (λ m. Last a e x (opensTo m))
           (sym (open-right (askFor e x) (x .num) len h q f right (x .content) (x .type) plain (shaped e x (u .mem) .typed)))
-          (typed-opened (marked k h (x .num)) (askFor e x) (x .num) (x .content) (x .type) (u .count) (content-is (b .at + sealedHead) len (x .content) (x .type) plain))))
+          (inr (
+            typed-fate (marked k h (x .num)) (askFor e x) (x .num) (inner.Found (x .type) (length (x .content))),
+            as-new new
+                (λ l. typed-opened (marked k h (x .num)) (askFor e x) (x .num) (x .content) (x .type) (low l) (content-is (b .at + sealedHead) len (x .content) (x .type) plain))
+                (λ l. typed-over (marked k h (x .num)) (askFor e x) (x .num) (x .type) (length (x .content)) (high l)),
+          )))
           (λ t. inl (ap (λ (m : Marked). fateOf (m .step .reading)) (open-wrong (askFor e x) (x .num) len h q f (eqb-false _ _ t))))
 
-      go : Ongoing a e x b d (y .used) (y .account .waits) → Ends e x (openOut (y .state) p d)
+      go : Ongoing a e x b d (y .used) (y .account .waits) → Last a e x (openOut (y .state) p d)
       go (at-mask q same z w) = inl (ap (λ (m : Marked). fateOf (m .step .reading)) (open-masked y i p (askFor e x) q))
-      go (at-open q w) = by p q (subst (λ v. FairOpen sealed v d p) w fair)
+      go (at-open q w new) = by p q new (subst (λ v. FairOpen sealed v d p) w fair)
 
   pub open-trials : Trials sealed y → (p : Opening) → FairOpen sealed (y .account .waits) d p → Trials sealed (afterOpen y p)
   unfolding afterOpen
@@ -588,6 +675,5 @@ module _ (masks : Masks) (sealed : ℕ → List Sealed) (shaped : Shaped masks s
         refl,
         ap (λ (g : Fate). spent (useOf (y .account .waits) p g) (y .used)) f ∙ ap (λ (u : Use). spent u (y .used)) (use-down (y .account .waits) p),
       ))
-      (λ f a q e x due.
-      ⊎-elim (λ z. down≢ (sym z ∙ f)) (λ z. underway≢settled (sym f ∙ says-settled (shownBy (o .reading) (o .datagram)) e (asHanded x) (o .reading) z)) (open-due p fair a e x (j .under a q e x due)))
-      (λ f a q e x due. ⊎-elim (λ z. down≢settled (sym z ∙ f)) (λ z. z) (open-due p fair a e x (j .under a q e x due)))
+      (λ f a q e x known. ⊎-elim (λ z. down≢ (sym z ∙ f)) (λ z. underway≢settled (sym f ∙ z .0)) (open-known p fair a e x (j .under a q e x known)))
+      (λ f a q e x known. ⊎-elim (λ z. down≢settled (sym z ∙ f)) (λ z. z .1) (open-known p fair a e x (j .under a q e x known)))

@@ -16,6 +16,7 @@ use Rattle.base.specs.Parts.{part, splice}
 use Rattle.base.specs.Bits.{bit}
 use Rattle.datagram.specs.Datagram.{askSound, askKeyed, openingSound, questionSound, isSound, counted}
 use Rattle.datagram.specs.declared.Reading.the-variants as says
+use Rattle.datagram.specs.declared.Reason.the-variants as reason
 use Rattle.datagram.specs.declared.Reading.{Reading}
 use Rattle.dtls_aead.specs.Nonce.{nonceOf}
 use Rattle.incoming.specs.Inner.{innerOf}
@@ -29,9 +30,9 @@ use Rattle.recv_keys.specs.Keys.{fits, lastFit, find, orElse, two, resolve, was
 use Rattle.sealing.specs.Sealing.{maskedHeader}
 use Rattle.sequence.specs.Sequence.{own, below, above, nearest}
 use Rattle.window.specs.Used.{expected, above as aboveUsed}
-use Rattle.window.specs.Window.{isFresh, marking}
+use Rattle.window.specs.Window.{verdict, marking}
 use Rattle.history_theorem.specs.Account.{tagSize, upd, keyOwed, keys, resolvesTo, sealedSize, plainSize, recordSize, goodPlain}
-use Rattle.history_theorem.specs.Claim.{Masks, Opens, windowMarks, reachOf, Due, PlainDue, UnopenedDue}
+use Rattle.history_theorem.specs.Claim.{Masks, Opens, windowMarks, reachOf, Due, Known, PlainDue, UnopenedDue}
 use Rattle.history_theorem.specs.Half.{Shape, Event, here·, far·, Half, fresh-half, run, Honest}
 use Rattle.history_theorem.specs.Lists.{some-inj, mem-by, some≢none}
 use Rattle.history_theorem.specs.Receiver.{
@@ -81,10 +82,12 @@ arrives r c rest =
 doubled : Sealed → List Event → List Event
 doubled r rest = here· (begin· (r .wire)) ∷ here· read· ∷ here· (mask· (1 ∷ 2 ∷ [])) ∷ rest
 
--- an invented record under number 9
+-- an invented record under a number, and one under number 9 that the cipher does not open
+invented : ℕ → List Event → List Event
+invented n rest = here· (begin· (maskedHeader 2 n 18 (1 ∷ 2 ∷ []) ++ replicate 18 5)) ∷ here· read· ∷ here· (mask· (1 ∷ 2 ∷ [])) ∷ rest
+
 forged : List Event → List Event
-forged rest =
-    here· (begin· (maskedHeader 2 9 18 (1 ∷ 2 ∷ []) ++ replicate 18 5)) ∷ here· read· ∷ here· (mask· (1 ∷ 2 ∷ [])) ∷ here· (open· reply.No) ∷ rest
+forged rest = invented 9 (here· (open· reply.No) ∷ rest)
 
 -- ---- premises that are met
 
@@ -181,11 +184,11 @@ mixed =
 -- handed over in the order of arrival (the last first), each once
 mixed-hands : run (fresh-half 16) mixed .end .into .handed 2
     ≡ record { num = 1; type = 23; content = 11 ∷ [] } ∷ record { num = 0; type = 23; content = 10 ∷ [] } ∷ record { num = 2; type = 23; content = 12 ∷ [] } ∷ []
-unfolding mixed sealedAs arrives doubled forged choose both either splice bit askSound askKeyed openingSound questionSound isSound counted nonceOf innerOf unmasked rebuilt judged maskedAt maskedBy masking maskStep typed openedAt openedBy openings openedStep cancelledAsk cancelled freshOf keyOf leaving removedBy removeOf encryptOf releaseOf beginOf headerLen fragmentLen partialOf parseCiphertext isType isVersion isPlaintext plaintextHeader parsePlaintext parsed unifiedHeader lockedStep sealedStep stepOf openingAsked askedAgain asking readStep fits lastFit find orElse two resolve wasFound isKeyed marked appOne apps windowsSound keysSound isFull installed leftAt left maskedHeader own below above nearest expected isFresh marking upd keyOwed keys resolvesTo sealedSize plainSize recordSize goodPlain removedFrom removed removeOwed begun beginOwed afterRead afterMask afterOpen
+unfolding mixed sealedAs arrives doubled invented forged choose both either splice bit askSound askKeyed openingSound questionSound isSound counted nonceOf innerOf unmasked rebuilt judged maskedAt maskedBy masking maskStep typed openedAt openedBy openings openedStep cancelledAsk cancelled freshOf keyOf leaving removedBy removeOf encryptOf releaseOf beginOf headerLen fragmentLen partialOf parseCiphertext isType isVersion isPlaintext plaintextHeader parsePlaintext parsed unifiedHeader lockedStep sealedStep stepOf openingAsked askedAgain asking readStep fits lastFit find orElse two resolve wasFound isKeyed marked appOne apps windowsSound keysSound isFull installed leftAt left maskedHeader own below above nearest expected verdict marking upd keyOwed keys resolvesTo sealedSize plainSize recordSize goodPlain removedFrom removed removeOwed begun beginOwed afterRead afterMask afterOpen
 mixed-hands = refl
 
 mixed-honest : Honest oneMask (fresh-half 16) mixed
-unfolding oneMask mixed sealedAs arrives doubled forged choose both either splice bit askSound askKeyed openingSound questionSound isSound counted nonceOf innerOf unmasked rebuilt judged maskedAt maskedBy masking maskStep typed openedAt openedBy openings openedStep cancelledAsk cancelled freshOf keyOf leaving removedBy removeOf encryptOf releaseOf beginOf headerLen fragmentLen partialOf parseCiphertext isType isVersion isPlaintext plaintextHeader parsePlaintext parsed unifiedHeader lockedStep sealedStep stepOf openingAsked askedAgain asking readStep fits lastFit find orElse two resolve wasFound isKeyed marked appOne apps windowsSound keysSound isFull installed leftAt left maskedHeader own below above nearest expected isFresh marking upd keyOwed keys resolvesTo sealedSize plainSize recordSize goodPlain removedFrom removed removeOwed begun beginOwed afterRead afterMask afterOpen
+unfolding oneMask mixed sealedAs arrives doubled invented forged choose both either splice bit askSound askKeyed openingSound questionSound isSound counted nonceOf innerOf unmasked rebuilt judged maskedAt maskedBy masking maskStep typed openedAt openedBy openings openedStep cancelledAsk cancelled freshOf keyOf leaving removedBy removeOf encryptOf releaseOf beginOf headerLen fragmentLen partialOf parseCiphertext isType isVersion isPlaintext plaintextHeader parsePlaintext parsed unifiedHeader lockedStep sealedStep stepOf openingAsked askedAgain asking readStep fits lastFit find orElse two resolve wasFound isKeyed marked appOne apps windowsSound keysSound isFull installed leftAt left maskedHeader own below above nearest expected verdict marking upd keyOwed keys resolvesTo sealedSize plainSize recordSize goodPlain removedFrom removed removeOwed begun beginOwed afterRead afterMask afterOpen
 mixed-honest = (tt, (tt, (shape 2 0 10 (omega arith), (shape 2 1 11 (omega arith), (shape 2 2 12 (omega arith), (tt, (tt, ((refl, λ s. refl), (tt, (λ right. yes-fair (sealedAs 2 2 12 ∷ sealedAs 2 1 11 ∷ sealedAs 2 0 10 ∷ []) (sealedAs 2 2 12) (here refl) refl _ refl, (tt, (tt, ((refl, λ s. refl), (tt, (λ right. yes-fair (sealedAs 2 2 12 ∷ sealedAs 2 1 11 ∷ sealedAs 2 0 10 ∷ []) (sealedAs 2 0 10) (there (there (here refl))) refl _ refl, (tt, (tt, ((refl, λ s. refl), (tt, (tt, ((refl, λ s. refl), (λ right. no-fair (sealedAs 2 2 12 ∷ sealedAs 2 1 11 ∷ sealedAs 2 0 10 ∷ []) 9 _ _ refl, (tt, (tt, ((refl, λ s. refl), (tt, (λ right. yes-fair (sealedAs 2 2 12 ∷ sealedAs 2 1 11 ∷ sealedAs 2 0 10 ∷ []) (sealedAs 2 1 11) (there (here refl)) refl _ refl, tt)))))))))))))))))))))))))))
 
 -- ---- a doubled record in front of a new one
@@ -201,7 +204,7 @@ behind =
 -- the mask reply that shows 0 as doubled leaves 1 as it arrived, and 1 is handed over
 behind-hands : run (fresh-half 16) behind .end .into .handed 2
     ≡ record { num = 1; type = 23; content = 11 ∷ [] } ∷ record { num = 0; type = 23; content = 10 ∷ [] } ∷ []
-unfolding behind arrives sealedAs choose both either splice bit askSound askKeyed openingSound questionSound isSound counted nonceOf innerOf unmasked rebuilt judged maskedAt maskedBy masking maskStep typed openedAt openedBy openings openedStep cancelledAsk cancelled freshOf keyOf leaving removedBy removeOf encryptOf releaseOf beginOf headerLen fragmentLen partialOf parseCiphertext isType isVersion isPlaintext plaintextHeader parsePlaintext parsed unifiedHeader lockedStep sealedStep stepOf openingAsked askedAgain asking readStep fits lastFit find orElse two resolve wasFound isKeyed marked appOne apps windowsSound keysSound isFull installed leftAt left maskedHeader own below above nearest expected isFresh marking upd keyOwed keys resolvesTo sealedSize plainSize recordSize goodPlain removedFrom removed removeOwed begun beginOwed afterRead afterMask afterOpen
+unfolding behind arrives sealedAs choose both either splice bit askSound askKeyed openingSound questionSound isSound counted nonceOf innerOf unmasked rebuilt judged maskedAt maskedBy masking maskStep typed openedAt openedBy openings openedStep cancelledAsk cancelled freshOf keyOf leaving removedBy removeOf encryptOf releaseOf beginOf headerLen fragmentLen partialOf parseCiphertext isType isVersion isPlaintext plaintextHeader parsePlaintext parsed unifiedHeader lockedStep sealedStep stepOf openingAsked askedAgain asking readStep fits lastFit find orElse two resolve wasFound isKeyed marked appOne apps windowsSound keysSound isFull installed leftAt left maskedHeader own below above nearest expected verdict marking upd keyOwed keys resolvesTo sealedSize plainSize recordSize goodPlain removedFrom removed removeOwed begun beginOwed afterRead afterMask afterOpen
 behind-hands = refl
 
 -- and 1 was due: the last record that the cut came to
@@ -210,11 +213,11 @@ lastOf [] z = z
 lastOf (t ∷ ts) z = t
 
 behind-due : (z : Tried) → Due (lastOf (run (fresh-half 16) behind .end .into .tried) z .trial) 2 (sealedAs 2 1 11)
-unfolding behind arrives sealedAs choose both either splice bit askSound askKeyed openingSound questionSound isSound counted nonceOf innerOf unmasked rebuilt judged maskedAt maskedBy masking maskStep typed openedAt openedBy openings openedStep cancelledAsk cancelled freshOf keyOf leaving removedBy removeOf encryptOf releaseOf beginOf headerLen fragmentLen partialOf parseCiphertext isType isVersion isPlaintext plaintextHeader parsePlaintext parsed unifiedHeader lockedStep sealedStep stepOf openingAsked askedAgain asking readStep fits lastFit find orElse two resolve wasFound isKeyed marked appOne apps windowsSound keysSound isFull installed leftAt left maskedHeader own below above nearest expected isFresh marking upd keyOwed keys resolvesTo sealedSize plainSize recordSize goodPlain removedFrom removed removeOwed begun beginOwed afterRead afterMask afterOpen
+unfolding behind arrives sealedAs choose both either splice bit askSound askKeyed openingSound questionSound isSound counted nonceOf innerOf unmasked rebuilt judged maskedAt maskedBy masking maskStep typed openedAt openedBy openings openedStep cancelledAsk cancelled freshOf keyOf leaving removedBy removeOf encryptOf releaseOf beginOf headerLen fragmentLen partialOf parseCiphertext isType isVersion isPlaintext plaintextHeader parsePlaintext parsed unifiedHeader lockedStep sealedStep stepOf openingAsked askedAgain asking readStep fits lastFit find orElse two resolve wasFound isKeyed marked appOne apps windowsSound keysSound isFull installed leftAt left maskedHeader own below above nearest expected verdict marking upd keyOwed keys resolvesTo sealedSize plainSize recordSize goodPlain removedFrom removed removeOwed begun beginOwed afterRead afterMask afterOpen
 behind-due z = due-after (0 ∷ []) _ 2 (sealedAs 2 1 11) refl (here refl) refl refl (omega arith) refl refl (omega arith) (omega arith)
 
 behind-honest : Honest oneMask (fresh-half 16) behind
-unfolding oneMask behind arrives sealedAs choose both either splice bit askSound askKeyed openingSound questionSound isSound counted nonceOf innerOf unmasked rebuilt judged maskedAt maskedBy masking maskStep typed openedAt openedBy openings openedStep cancelledAsk cancelled freshOf keyOf leaving removedBy removeOf encryptOf releaseOf beginOf headerLen fragmentLen partialOf parseCiphertext isType isVersion isPlaintext plaintextHeader parsePlaintext parsed unifiedHeader lockedStep sealedStep stepOf openingAsked askedAgain asking readStep fits lastFit find orElse two resolve wasFound isKeyed marked appOne apps windowsSound keysSound isFull installed leftAt left maskedHeader own below above nearest expected isFresh marking upd keyOwed keys resolvesTo sealedSize plainSize recordSize goodPlain removedFrom removed removeOwed begun beginOwed afterRead afterMask afterOpen
+unfolding oneMask behind arrives sealedAs choose both either splice bit askSound askKeyed openingSound questionSound isSound counted nonceOf innerOf unmasked rebuilt judged maskedAt maskedBy masking maskStep typed openedAt openedBy openings openedStep cancelledAsk cancelled freshOf keyOf leaving removedBy removeOf encryptOf releaseOf beginOf headerLen fragmentLen partialOf parseCiphertext isType isVersion isPlaintext plaintextHeader parsePlaintext parsed unifiedHeader lockedStep sealedStep stepOf openingAsked askedAgain asking readStep fits lastFit find orElse two resolve wasFound isKeyed marked appOne apps windowsSound keysSound isFull installed leftAt left maskedHeader own below above nearest expected verdict marking upd keyOwed keys resolvesTo sealedSize plainSize recordSize goodPlain removedFrom removed removeOwed begun beginOwed afterRead afterMask afterOpen
 behind-honest = (tt, (tt, (shape 2 0 10 (omega arith), (shape 2 1 11 (omega arith), (tt, (tt, ((refl, λ s. refl), (tt, (λ right. yes-fair (sealedAs 2 1 11 ∷ sealedAs 2 0 10 ∷ []) (sealedAs 2 0 10) (there (here refl)) refl _ refl, (tt, (tt, ((refl, λ s. refl), (tt, ((refl, λ s. refl), (tt, (λ right. yes-fair (sealedAs 2 1 11 ∷ sealedAs 2 0 10 ∷ []) (sealedAs 2 1 11) (here refl) refl _ refl, tt))))))))))))))))
 
 -- ---- a removal under a question
@@ -231,11 +234,11 @@ removal-hands : (run (fresh-half 16) removal .end .into .handed 7 ≡ [])
     × (epochsOf (run (fresh-half 16) removal .end .into .lost) ≡ 7 ∷ [])
     × (answersOf (run (fresh-half 16) removal .end .told) ≡ 6 ∷ 0 ∷ 0 ∷ 0 ∷ 0 ∷ [])
     × (owedOf (run (fresh-half 16) removal .end .told) ≡ 6 ∷ 0 ∷ 0 ∷ 0 ∷ 0 ∷ [])
-unfolding removal sealedAs choose both either splice bit askSound askKeyed openingSound questionSound isSound counted nonceOf innerOf unmasked rebuilt judged maskedAt maskedBy masking maskStep typed openedAt openedBy openings openedStep cancelledAsk cancelled freshOf keyOf leaving removedBy removeOf encryptOf releaseOf beginOf headerLen fragmentLen partialOf parseCiphertext isType isVersion isPlaintext plaintextHeader parsePlaintext parsed unifiedHeader lockedStep sealedStep stepOf openingAsked askedAgain asking readStep fits lastFit find orElse two resolve wasFound isKeyed marked appOne apps windowsSound keysSound isFull installed leftAt left maskedHeader own below above nearest expected isFresh marking upd keyOwed keys resolvesTo sealedSize plainSize recordSize goodPlain removedFrom removed removeOwed begun beginOwed afterRead afterMask afterOpen
+unfolding removal sealedAs choose both either splice bit askSound askKeyed openingSound questionSound isSound counted nonceOf innerOf unmasked rebuilt judged maskedAt maskedBy masking maskStep typed openedAt openedBy openings openedStep cancelledAsk cancelled freshOf keyOf leaving removedBy removeOf encryptOf releaseOf beginOf headerLen fragmentLen partialOf parseCiphertext isType isVersion isPlaintext plaintextHeader parsePlaintext parsed unifiedHeader lockedStep sealedStep stepOf openingAsked askedAgain asking readStep fits lastFit find orElse two resolve wasFound isKeyed marked appOne apps windowsSound keysSound isFull installed leftAt left maskedHeader own below above nearest expected verdict marking upd keyOwed keys resolvesTo sealedSize plainSize recordSize goodPlain removedFrom removed removeOwed begun beginOwed afterRead afterMask afterOpen
 removal-hands = (refl, refl, refl, refl, refl)
 
 removal-honest : Honest oneMask (fresh-half 16) removal
-unfolding oneMask removal sealedAs choose both either splice bit askSound askKeyed openingSound questionSound isSound counted nonceOf innerOf unmasked rebuilt judged maskedAt maskedBy masking maskStep typed openedAt openedBy openings openedStep cancelledAsk cancelled freshOf keyOf leaving removedBy removeOf encryptOf releaseOf beginOf headerLen fragmentLen partialOf parseCiphertext isType isVersion isPlaintext plaintextHeader parsePlaintext parsed unifiedHeader lockedStep sealedStep stepOf openingAsked askedAgain asking readStep fits lastFit find orElse two resolve wasFound isKeyed marked appOne apps windowsSound keysSound isFull installed leftAt left maskedHeader own below above nearest expected isFresh marking upd keyOwed keys resolvesTo sealedSize plainSize recordSize goodPlain removedFrom removed removeOwed begun beginOwed afterRead afterMask afterOpen
+unfolding oneMask removal sealedAs choose both either splice bit askSound askKeyed openingSound questionSound isSound counted nonceOf innerOf unmasked rebuilt judged maskedAt maskedBy masking maskStep typed openedAt openedBy openings openedStep cancelledAsk cancelled freshOf keyOf leaving removedBy removeOf encryptOf releaseOf beginOf headerLen fragmentLen partialOf parseCiphertext isType isVersion isPlaintext plaintextHeader parsePlaintext parsed unifiedHeader lockedStep sealedStep stepOf openingAsked askedAgain asking readStep fits lastFit find orElse two resolve wasFound isKeyed marked appOne apps windowsSound keysSound isFull installed leftAt left maskedHeader own below above nearest expected verdict marking upd keyOwed keys resolvesTo sealedSize plainSize recordSize goodPlain removedFrom removed removeOwed begun beginOwed afterRead afterMask afterOpen
 removal-honest = (tt, (tt, (tt, (shape 7 0 20 (omega arith), (shape 3 0 30 (omega arith), (tt, (tt, (tt, (tt, ((refl, λ s. refl), (tt, (λ right. yes-fair (sealedAs 3 0 30 ∷ []) (sealedAs 3 0 30) (here refl) refl _ refl, tt))))))))))))
 
 -- ---- a sixteenth and a seventeenth reading
@@ -260,11 +263,11 @@ seventeen =
 -- the sixteenth is handed over; the seventeenth ends the datagram, its number used
 seventeen-hands : (run (fresh-half 16) seventeen .end .into .handed 2 ≡ record { num = 0; type = 23; content = 10 ∷ [] } ∷ [])
     × (run (fresh-half 16) seventeen .end .into .used 2 ≡ 1 ∷ 0 ∷ [])
-unfolding seventeen sealedAs choose both either splice bit askSound askKeyed openingSound questionSound isSound counted nonceOf innerOf unmasked rebuilt judged maskedAt maskedBy masking maskStep typed openedAt openedBy openings openedStep cancelledAsk cancelled freshOf keyOf leaving removedBy removeOf encryptOf releaseOf beginOf headerLen fragmentLen partialOf parseCiphertext isType isVersion isPlaintext plaintextHeader parsePlaintext parsed unifiedHeader lockedStep sealedStep stepOf openingAsked askedAgain asking readStep fits lastFit find orElse two resolve wasFound isKeyed marked appOne apps windowsSound keysSound isFull installed leftAt left maskedHeader own below above nearest expected isFresh marking upd keyOwed keys resolvesTo sealedSize plainSize recordSize goodPlain removedFrom removed removeOwed begun beginOwed afterRead afterMask afterOpen
+unfolding seventeen sealedAs choose both either splice bit askSound askKeyed openingSound questionSound isSound counted nonceOf innerOf unmasked rebuilt judged maskedAt maskedBy masking maskStep typed openedAt openedBy openings openedStep cancelledAsk cancelled freshOf keyOf leaving removedBy removeOf encryptOf releaseOf beginOf headerLen fragmentLen partialOf parseCiphertext isType isVersion isPlaintext plaintextHeader parsePlaintext parsed unifiedHeader lockedStep sealedStep stepOf openingAsked askedAgain asking readStep fits lastFit find orElse two resolve wasFound isKeyed marked appOne apps windowsSound keysSound isFull installed leftAt left maskedHeader own below above nearest expected verdict marking upd keyOwed keys resolvesTo sealedSize plainSize recordSize goodPlain removedFrom removed removeOwed begun beginOwed afterRead afterMask afterOpen
 seventeen-hands = (refl, refl)
 
 seventeen-honest : Honest oneMask (fresh-half 16) seventeen
-unfolding oneMask seventeen sealedAs choose both either splice bit askSound askKeyed openingSound questionSound isSound counted nonceOf innerOf unmasked rebuilt judged maskedAt maskedBy masking maskStep typed openedAt openedBy openings openedStep cancelledAsk cancelled freshOf keyOf leaving removedBy removeOf encryptOf releaseOf beginOf headerLen fragmentLen partialOf parseCiphertext isType isVersion isPlaintext plaintextHeader parsePlaintext parsed unifiedHeader lockedStep sealedStep stepOf openingAsked askedAgain asking readStep fits lastFit find orElse two resolve wasFound isKeyed marked appOne apps windowsSound keysSound isFull installed leftAt left maskedHeader own below above nearest expected isFresh marking upd keyOwed keys resolvesTo sealedSize plainSize recordSize goodPlain removedFrom removed removeOwed begun beginOwed afterRead afterMask afterOpen
+unfolding oneMask seventeen sealedAs choose both either splice bit askSound askKeyed openingSound questionSound isSound counted nonceOf innerOf unmasked rebuilt judged maskedAt maskedBy masking maskStep typed openedAt openedBy openings openedStep cancelledAsk cancelled freshOf keyOf leaving removedBy removeOf encryptOf releaseOf beginOf headerLen fragmentLen partialOf parseCiphertext isType isVersion isPlaintext plaintextHeader parsePlaintext parsed unifiedHeader lockedStep sealedStep stepOf openingAsked askedAgain asking readStep fits lastFit find orElse two resolve wasFound isKeyed marked appOne apps windowsSound keysSound isFull installed leftAt left maskedHeader own below above nearest expected verdict marking upd keyOwed keys resolvesTo sealedSize plainSize recordSize goodPlain removedFrom removed removeOwed begun beginOwed afterRead afterMask afterOpen
 seventeen-honest = (tt, (tt, (shape 2 0 10 (omega arith), (shape 2 1 11 (omega arith), (tt, (tt, (tt, (tt, (tt, (tt, (tt, (tt, (tt, (tt, (tt, (tt, (tt, (tt, (tt, (tt, (tt, ((refl, λ s. refl), (tt, (λ right. yes-fair (sealedAs 2 1 11 ∷ sealedAs 2 0 10 ∷ []) (sealedAs 2 0 10) (there (here refl)) refl _ refl, (tt, ((refl, λ s. refl), (tt, (λ right. yes-fair (sealedAs 2 1 11 ∷ sealedAs 2 0 10 ∷ []) (sealedAs 2 1 11) (here refl) refl _ refl, tt))))))))))))))))))))))))))))
 
 -- ---- a plaintext record and an unopened one
@@ -280,7 +283,7 @@ earlier (t ∷ ts) = ts
 
 plainly-due : (z : Tried) → PlainDue (lastOf (earlier (run (fresh-half 16) plainly .end .into .tried)) z .trial)
     × UnopenedDue (lastOf (run (fresh-half 16) plainly .end .into .tried) z .trial)
-unfolding plainly sealedAs choose both either splice bit askSound askKeyed openingSound questionSound isSound counted nonceOf innerOf unmasked rebuilt judged maskedAt maskedBy masking maskStep typed openedAt openedBy openings openedStep cancelledAsk cancelled freshOf keyOf leaving removedBy removeOf encryptOf releaseOf beginOf headerLen fragmentLen partialOf parseCiphertext isType isVersion isPlaintext plaintextHeader parsePlaintext parsed unifiedHeader lockedStep sealedStep stepOf openingAsked askedAgain asking readStep fits lastFit find orElse two resolve wasFound isKeyed marked appOne apps windowsSound keysSound isFull installed leftAt left maskedHeader own below above nearest expected isFresh marking upd keyOwed keys resolvesTo sealedSize plainSize recordSize goodPlain removedFrom removed removeOwed begun beginOwed afterRead afterMask afterOpen
+unfolding plainly sealedAs choose both either splice bit askSound askKeyed openingSound questionSound isSound counted nonceOf innerOf unmasked rebuilt judged maskedAt maskedBy masking maskStep typed openedAt openedBy openings openedStep cancelledAsk cancelled freshOf keyOf leaving removedBy removeOf encryptOf releaseOf beginOf headerLen fragmentLen partialOf parseCiphertext isType isVersion isPlaintext plaintextHeader parsePlaintext parsed unifiedHeader lockedStep sealedStep stepOf openingAsked askedAgain asking readStep fits lastFit find orElse two resolve wasFound isKeyed marked appOne apps windowsSound keysSound isFull installed leftAt left maskedHeader own below above nearest expected verdict marking upd keyOwed keys resolvesTo sealedSize plainSize recordSize goodPlain removedFrom removed removeOwed begun beginOwed afterRead afterMask afterOpen
 plainly-due z = (
   record { in-order = refl; whole = omega arith; among-16 = omega arith },
   record {
@@ -301,11 +304,11 @@ readsOf (t ∷ ts) = (t .reading, t .shown) ∷ readsOf ts
 
 plainly-reads : readsOf (run (fresh-half 16) plainly .end .into .tried)
     ≡ (says.Unopened 2 258 21 18, sealedAs 2 0 10 .cipher) ∷ (says.Plaintext 22 5 13 3, 1 ∷ 2 ∷ 3 ∷ []) ∷ []
-unfolding plainly sealedAs choose both either splice bit askSound askKeyed openingSound questionSound isSound counted nonceOf innerOf unmasked rebuilt judged maskedAt maskedBy masking maskStep typed openedAt openedBy openings openedStep cancelledAsk cancelled freshOf keyOf leaving removedBy removeOf encryptOf releaseOf beginOf headerLen fragmentLen partialOf parseCiphertext isType isVersion isPlaintext plaintextHeader parsePlaintext parsed unifiedHeader lockedStep sealedStep stepOf openingAsked askedAgain asking readStep fits lastFit find orElse two resolve wasFound isKeyed marked appOne apps windowsSound keysSound isFull installed leftAt left maskedHeader own below above nearest expected isFresh marking upd keyOwed keys resolvesTo sealedSize plainSize recordSize goodPlain removedFrom removed removeOwed begun beginOwed afterRead afterMask afterOpen
+unfolding plainly sealedAs choose both either splice bit askSound askKeyed openingSound questionSound isSound counted nonceOf innerOf unmasked rebuilt judged maskedAt maskedBy masking maskStep typed openedAt openedBy openings openedStep cancelledAsk cancelled freshOf keyOf leaving removedBy removeOf encryptOf releaseOf beginOf headerLen fragmentLen partialOf parseCiphertext isType isVersion isPlaintext plaintextHeader parsePlaintext parsed unifiedHeader lockedStep sealedStep stepOf openingAsked askedAgain asking readStep fits lastFit find orElse two resolve wasFound isKeyed marked appOne apps windowsSound keysSound isFull installed leftAt left maskedHeader own below above nearest expected verdict marking upd keyOwed keys resolvesTo sealedSize plainSize recordSize goodPlain removedFrom removed removeOwed begun beginOwed afterRead afterMask afterOpen
 plainly-reads = refl
 
 plainly-honest : Honest oneMask (fresh-half 16) plainly
-unfolding oneMask plainly sealedAs choose both either splice bit askSound askKeyed openingSound questionSound isSound counted nonceOf innerOf unmasked rebuilt judged maskedAt maskedBy masking maskStep typed openedAt openedBy openings openedStep cancelledAsk cancelled freshOf keyOf leaving removedBy removeOf encryptOf releaseOf beginOf headerLen fragmentLen partialOf parseCiphertext isType isVersion isPlaintext plaintextHeader parsePlaintext parsed unifiedHeader lockedStep sealedStep stepOf openingAsked askedAgain asking readStep fits lastFit find orElse two resolve wasFound isKeyed marked appOne apps windowsSound keysSound isFull installed leftAt left maskedHeader own below above nearest expected isFresh marking upd keyOwed keys resolvesTo sealedSize plainSize recordSize goodPlain removedFrom removed removeOwed begun beginOwed afterRead afterMask afterOpen
+unfolding oneMask plainly sealedAs choose both either splice bit askSound askKeyed openingSound questionSound isSound counted nonceOf innerOf unmasked rebuilt judged maskedAt maskedBy masking maskStep typed openedAt openedBy openings openedStep cancelledAsk cancelled freshOf keyOf leaving removedBy removeOf encryptOf releaseOf beginOf headerLen fragmentLen partialOf parseCiphertext isType isVersion isPlaintext plaintextHeader parsePlaintext parsed unifiedHeader lockedStep sealedStep stepOf openingAsked askedAgain asking readStep fits lastFit find orElse two resolve wasFound isKeyed marked appOne apps windowsSound keysSound isFull installed leftAt left maskedHeader own below above nearest expected verdict marking upd keyOwed keys resolvesTo sealedSize plainSize recordSize goodPlain removedFrom removed removeOwed begun beginOwed afterRead afterMask afterOpen
 plainly-honest = (tt, (tt, (tt, tt)))
 
 -- ---- an alert that is told
@@ -320,11 +323,11 @@ alerted =
 -- the read behind the alert finds the end; the sealed record is handed over
 alerted-reads : readsOf (run (fresh-half 16) alerted .end .into .tried)
     ≡ (says.Opened 2 0 23 5 1, 10 ∷ []) ∷ (says.End, []) ∷ (says.Plaintext 21 5 13 2, 2 ∷ 40 ∷ []) ∷ []
-unfolding alerted sealedAs choose both either splice bit askSound askKeyed openingSound questionSound isSound counted nonceOf innerOf unmasked rebuilt judged maskedAt maskedBy masking maskStep typed openedAt openedBy openings openedStep cancelledAsk cancelled freshOf keyOf leaving removedBy removeOf encryptOf releaseOf beginOf headerLen fragmentLen partialOf parseCiphertext isType isVersion isPlaintext plaintextHeader parsePlaintext parsed unifiedHeader lockedStep sealedStep stepOf openingAsked askedAgain asking readStep fits lastFit find orElse two resolve wasFound isKeyed marked appOne apps windowsSound keysSound isFull installed leftAt left maskedHeader own below above nearest expected isFresh marking upd keyOwed keys resolvesTo sealedSize plainSize recordSize goodPlain removedFrom removed removeOwed begun beginOwed afterRead afterMask afterOpen
+unfolding alerted sealedAs choose both either splice bit askSound askKeyed openingSound questionSound isSound counted nonceOf innerOf unmasked rebuilt judged maskedAt maskedBy masking maskStep typed openedAt openedBy openings openedStep cancelledAsk cancelled freshOf keyOf leaving removedBy removeOf encryptOf releaseOf beginOf headerLen fragmentLen partialOf parseCiphertext isType isVersion isPlaintext plaintextHeader parsePlaintext parsed unifiedHeader lockedStep sealedStep stepOf openingAsked askedAgain asking readStep fits lastFit find orElse two resolve wasFound isKeyed marked appOne apps windowsSound keysSound isFull installed leftAt left maskedHeader own below above nearest expected verdict marking upd keyOwed keys resolvesTo sealedSize plainSize recordSize goodPlain removedFrom removed removeOwed begun beginOwed afterRead afterMask afterOpen
 alerted-reads = refl
 
 alerted-honest : Honest oneMask (fresh-half 16) alerted
-unfolding oneMask alerted sealedAs choose both either splice bit askSound askKeyed openingSound questionSound isSound counted nonceOf innerOf unmasked rebuilt judged maskedAt maskedBy masking maskStep typed openedAt openedBy openings openedStep cancelledAsk cancelled freshOf keyOf leaving removedBy removeOf encryptOf releaseOf beginOf headerLen fragmentLen partialOf parseCiphertext isType isVersion isPlaintext plaintextHeader parsePlaintext parsed unifiedHeader lockedStep sealedStep stepOf openingAsked askedAgain asking readStep fits lastFit find orElse two resolve wasFound isKeyed marked appOne apps windowsSound keysSound isFull installed leftAt left maskedHeader own below above nearest expected isFresh marking upd keyOwed keys resolvesTo sealedSize plainSize recordSize goodPlain removedFrom removed removeOwed begun beginOwed afterRead afterMask afterOpen
+unfolding oneMask alerted sealedAs choose both either splice bit askSound askKeyed openingSound questionSound isSound counted nonceOf innerOf unmasked rebuilt judged maskedAt maskedBy masking maskStep typed openedAt openedBy openings openedStep cancelledAsk cancelled freshOf keyOf leaving removedBy removeOf encryptOf releaseOf beginOf headerLen fragmentLen partialOf parseCiphertext isType isVersion isPlaintext plaintextHeader parsePlaintext parsed unifiedHeader lockedStep sealedStep stepOf openingAsked askedAgain asking readStep fits lastFit find orElse two resolve wasFound isKeyed marked appOne apps windowsSound keysSound isFull installed leftAt left maskedHeader own below above nearest expected verdict marking upd keyOwed keys resolvesTo sealedSize plainSize recordSize goodPlain removedFrom removed removeOwed begun beginOwed afterRead afterMask afterOpen
 alerted-honest = (tt, (tt, (tt, (tt, (tt, (tt, (shape 2 0 10 (omega arith), (tt, (tt, (tt, ((refl, λ s. refl), (tt, (tt, (λ right. yes-fair (sealedAs 2 0 10 ∷ []) (sealedAs 2 0 10) (here refl) refl _ refl, tt))))))))))))))
 
 -- ---- keys refused
@@ -337,11 +340,11 @@ refusals =
 
 refusals-told : (answersOf (run (fresh-half 16) refusals .end .told) ≡ 0 ∷ 13 ∷ 0 ∷ 13 ∷ 23 ∷ 0 ∷ 0 ∷ 0 ∷ 0 ∷ 13 ∷ 0 ∷ [])
     × (owedOf (run (fresh-half 16) refusals .end .told) ≡ 0 ∷ 13 ∷ 0 ∷ 13 ∷ 23 ∷ 0 ∷ 0 ∷ 0 ∷ 0 ∷ 13 ∷ 0 ∷ [])
-unfolding refusals sealedAs choose both either splice bit askSound askKeyed openingSound questionSound isSound counted nonceOf innerOf unmasked rebuilt judged maskedAt maskedBy masking maskStep typed openedAt openedBy openings openedStep cancelledAsk cancelled freshOf keyOf leaving removedBy removeOf encryptOf releaseOf beginOf headerLen fragmentLen partialOf parseCiphertext isType isVersion isPlaintext plaintextHeader parsePlaintext parsed unifiedHeader lockedStep sealedStep stepOf openingAsked askedAgain asking readStep fits lastFit find orElse two resolve wasFound isKeyed marked appOne apps windowsSound keysSound isFull installed leftAt left maskedHeader own below above nearest expected isFresh marking upd keyOwed keys resolvesTo sealedSize plainSize recordSize goodPlain removedFrom removed removeOwed begun beginOwed afterRead afterMask afterOpen
+unfolding refusals sealedAs choose both either splice bit askSound askKeyed openingSound questionSound isSound counted nonceOf innerOf unmasked rebuilt judged maskedAt maskedBy masking maskStep typed openedAt openedBy openings openedStep cancelledAsk cancelled freshOf keyOf leaving removedBy removeOf encryptOf releaseOf beginOf headerLen fragmentLen partialOf parseCiphertext isType isVersion isPlaintext plaintextHeader parsePlaintext parsed unifiedHeader lockedStep sealedStep stepOf openingAsked askedAgain asking readStep fits lastFit find orElse two resolve wasFound isKeyed marked appOne apps windowsSound keysSound isFull installed leftAt left maskedHeader own below above nearest expected verdict marking upd keyOwed keys resolvesTo sealedSize plainSize recordSize goodPlain removedFrom removed removeOwed begun beginOwed afterRead afterMask afterOpen
 refusals-told = (refl, refl)
 
 refusals-honest : Honest oneMask (fresh-half 16) refusals
-unfolding oneMask refusals sealedAs choose both either splice bit askSound askKeyed openingSound questionSound isSound counted nonceOf innerOf unmasked rebuilt judged maskedAt maskedBy masking maskStep typed openedAt openedBy openings openedStep cancelledAsk cancelled freshOf keyOf leaving removedBy removeOf encryptOf releaseOf beginOf headerLen fragmentLen partialOf parseCiphertext isType isVersion isPlaintext plaintextHeader parsePlaintext parsed unifiedHeader lockedStep sealedStep stepOf openingAsked askedAgain asking readStep fits lastFit find orElse two resolve wasFound isKeyed marked appOne apps windowsSound keysSound isFull installed leftAt left maskedHeader own below above nearest expected isFresh marking upd keyOwed keys resolvesTo sealedSize plainSize recordSize goodPlain removedFrom removed removeOwed begun beginOwed afterRead afterMask afterOpen
+unfolding oneMask refusals sealedAs choose both either splice bit askSound askKeyed openingSound questionSound isSound counted nonceOf innerOf unmasked rebuilt judged maskedAt maskedBy masking maskStep typed openedAt openedBy openings openedStep cancelledAsk cancelled freshOf keyOf leaving removedBy removeOf encryptOf releaseOf beginOf headerLen fragmentLen partialOf parseCiphertext isType isVersion isPlaintext plaintextHeader parsePlaintext parsed unifiedHeader lockedStep sealedStep stepOf openingAsked askedAgain asking readStep fits lastFit find orElse two resolve wasFound isKeyed marked appOne apps windowsSound keysSound isFull installed leftAt left maskedHeader own below above nearest expected verdict marking upd keyOwed keys resolvesTo sealedSize plainSize recordSize goodPlain removedFrom removed removeOwed begun beginOwed afterRead afterMask afterOpen
 refusals-honest = (tt, (tt, (tt, (tt, (tt, (tt, (tt, (tt, (tt, (tt, (tt, tt)))))))))))
 
 -- ---- the edges of the reach
@@ -358,7 +361,7 @@ edges =
 edges-hands : run (fresh-half 16) edges .end .into .handed 2
     ≡ record { num = 65636; type = 23; content = 6 ∷ [] } ∷ record { num = 32868; type = 23; content = 4 ∷ [] }
     ∷ record { num = 37; type = 23; content = 2 ∷ [] } ∷ record { num = 100; type = 23; content = 1 ∷ [] } ∷ []
-unfolding edges sealedAs arrives doubled choose both either splice bit askSound askKeyed openingSound questionSound isSound counted nonceOf innerOf unmasked rebuilt judged maskedAt maskedBy masking maskStep typed openedAt openedBy openings openedStep cancelledAsk cancelled freshOf keyOf leaving removedBy removeOf encryptOf releaseOf beginOf headerLen fragmentLen partialOf parseCiphertext isType isVersion isPlaintext plaintextHeader parsePlaintext parsed unifiedHeader lockedStep sealedStep stepOf openingAsked askedAgain asking readStep fits lastFit find orElse two resolve wasFound isKeyed marked appOne apps windowsSound keysSound isFull installed leftAt left maskedHeader own below above nearest expected isFresh marking upd keyOwed keys resolvesTo sealedSize plainSize recordSize goodPlain removedFrom removed removeOwed begun beginOwed afterRead afterMask afterOpen
+unfolding edges sealedAs arrives doubled choose both either splice bit askSound askKeyed openingSound questionSound isSound counted nonceOf innerOf unmasked rebuilt judged maskedAt maskedBy masking maskStep typed openedAt openedBy openings openedStep cancelledAsk cancelled freshOf keyOf leaving removedBy removeOf encryptOf releaseOf beginOf headerLen fragmentLen partialOf parseCiphertext isType isVersion isPlaintext plaintextHeader parsePlaintext parsed unifiedHeader lockedStep sealedStep stepOf openingAsked askedAgain asking readStep fits lastFit find orElse two resolve wasFound isKeyed marked appOne apps windowsSound keysSound isFull installed leftAt left maskedHeader own below above nearest expected verdict marking upd keyOwed keys resolvesTo sealedSize plainSize recordSize goodPlain removedFrom removed removeOwed begun beginOwed afterRead afterMask afterOpen
 edges-hands = refl
 
 -- 65,636 and 37 were due; 65,637 would be, were it in reach, and 36, were it not too old
@@ -368,7 +371,7 @@ edges-due : (z : Tried) → Due (lastOf (run (fresh-half 16) edges .end .into .t
     × (aboveUsed (37 ∷ 100 ∷ []) ≤ 36 + windowMarks
     → Due (lastOf (earlier (earlier (earlier (run (fresh-half 16) edges .end .into .tried)))) z .trial) 2 (sealedAs 2 36 3))
     × Due (lastOf (earlier (earlier (earlier (earlier (run (fresh-half 16) edges .end .into .tried))))) z .trial) 2 (sealedAs 2 37 2)
-unfolding edges sealedAs arrives doubled choose both either splice bit askSound askKeyed openingSound questionSound isSound counted nonceOf innerOf unmasked rebuilt judged maskedAt maskedBy masking maskStep typed openedAt openedBy openings openedStep cancelledAsk cancelled freshOf keyOf leaving removedBy removeOf encryptOf releaseOf beginOf headerLen fragmentLen partialOf parseCiphertext isType isVersion isPlaintext plaintextHeader parsePlaintext parsed unifiedHeader lockedStep sealedStep stepOf openingAsked askedAgain asking readStep fits lastFit find orElse two resolve wasFound isKeyed marked appOne apps windowsSound keysSound isFull installed leftAt left maskedHeader own below above nearest expected isFresh marking upd keyOwed keys resolvesTo sealedSize plainSize recordSize goodPlain removedFrom removed removeOwed begun beginOwed afterRead afterMask afterOpen
+unfolding edges sealedAs arrives doubled choose both either splice bit askSound askKeyed openingSound questionSound isSound counted nonceOf innerOf unmasked rebuilt judged maskedAt maskedBy masking maskStep typed openedAt openedBy openings openedStep cancelledAsk cancelled freshOf keyOf leaving removedBy removeOf encryptOf releaseOf beginOf headerLen fragmentLen partialOf parseCiphertext isType isVersion isPlaintext plaintextHeader parsePlaintext parsed unifiedHeader lockedStep sealedStep stepOf openingAsked askedAgain asking readStep fits lastFit find orElse two resolve wasFound isKeyed marked appOne apps windowsSound keysSound isFull installed leftAt left maskedHeader own below above nearest expected verdict marking upd keyOwed keys resolvesTo sealedSize plainSize recordSize goodPlain removedFrom removed removeOwed begun beginOwed afterRead afterMask afterOpen
 edges-due z = (
   due-after (32868 ∷ 37 ∷ 100 ∷ []) _ 2 (sealedAs 2 65636 6) refl (here refl) refl refl (omega arith) refl refl (omega arith) (omega arith),
   λ near. due-after (32868 ∷ 37 ∷ 100 ∷ []) _ 2 (sealedAs 2 65637 5) refl (there (here refl)) refl refl (omega arith) refl refl (omega arith) near,
@@ -377,8 +380,57 @@ edges-due z = (
 )
 
 edges-honest : Honest oneMask (fresh-half 16) edges
-unfolding oneMask edges sealedAs arrives doubled choose both either splice bit askSound askKeyed openingSound questionSound isSound counted nonceOf innerOf unmasked rebuilt judged maskedAt maskedBy masking maskStep typed openedAt openedBy openings openedStep cancelledAsk cancelled freshOf keyOf leaving removedBy removeOf encryptOf releaseOf beginOf headerLen fragmentLen partialOf parseCiphertext isType isVersion isPlaintext plaintextHeader parsePlaintext parsed unifiedHeader lockedStep sealedStep stepOf openingAsked askedAgain asking readStep fits lastFit find orElse two resolve wasFound isKeyed marked appOne apps windowsSound keysSound isFull installed leftAt left maskedHeader own below above nearest expected isFresh marking upd keyOwed keys resolvesTo sealedSize plainSize recordSize goodPlain removedFrom removed removeOwed begun beginOwed afterRead afterMask afterOpen
+unfolding oneMask edges sealedAs arrives doubled choose both either splice bit askSound askKeyed openingSound questionSound isSound counted nonceOf innerOf unmasked rebuilt judged maskedAt maskedBy masking maskStep typed openedAt openedBy openings openedStep cancelledAsk cancelled freshOf keyOf leaving removedBy removeOf encryptOf releaseOf beginOf headerLen fragmentLen partialOf parseCiphertext isType isVersion isPlaintext plaintextHeader parsePlaintext parsed unifiedHeader lockedStep sealedStep stepOf openingAsked askedAgain asking readStep fits lastFit find orElse two resolve wasFound isKeyed marked appOne apps windowsSound keysSound isFull installed leftAt left maskedHeader own below above nearest expected verdict marking upd keyOwed keys resolvesTo sealedSize plainSize recordSize goodPlain removedFrom removed removeOwed begun beginOwed afterRead afterMask afterOpen
 edges-honest = (tt, (tt, (shape 2 100 1 (omega arith), (shape 2 37 2 (omega arith), (shape 2 36 3 (omega arith), (shape 2 32868 4 (omega arith), (shape 2 65637 5 (omega arith), (shape 2 65636 6 (omega arith), (tt, (tt, ((refl, λ s. refl), (tt, (λ right. yes-fair (sealedAs 2 65636 6 ∷ sealedAs 2 65637 5 ∷ sealedAs 2 32868 4 ∷ sealedAs 2 36 3 ∷ sealedAs 2 37 2 ∷ sealedAs 2 100 1 ∷ []) (sealedAs 2 100 1) (there (there (there (there (there (here refl)))))) refl _ refl, (tt, (tt, ((refl, λ s. refl), (tt, (λ right. yes-fair (sealedAs 2 65636 6 ∷ sealedAs 2 65637 5 ∷ sealedAs 2 32868 4 ∷ sealedAs 2 36 3 ∷ sealedAs 2 37 2 ∷ sealedAs 2 100 1 ∷ []) (sealedAs 2 37 2) (there (there (there (there (here refl))))) refl _ refl, (tt, (tt, ((refl, λ s. refl), (tt, (tt, ((refl, λ s. refl), (tt, (λ right. yes-fair (sealedAs 2 65636 6 ∷ sealedAs 2 65637 5 ∷ sealedAs 2 32868 4 ∷ sealedAs 2 36 3 ∷ sealedAs 2 37 2 ∷ sealedAs 2 100 1 ∷ []) (sealedAs 2 32868 4) (there (there (here refl))) refl _ refl, (tt, (tt, ((refl, λ s. refl), (tt, (tt, ((refl, λ s. refl), (tt, (λ right. yes-fair (sealedAs 2 65636 6 ∷ sealedAs 2 65637 5 ∷ sealedAs 2 32868 4 ∷ sealedAs 2 36 3 ∷ sealedAs 2 37 2 ∷ sealedAs 2 100 1 ∷ []) (sealedAs 2 65636 6) (here refl) refl _ refl, tt))))))))))))))))))))))))))))))))))
+
+-- ---- late and doubled
+
+-- after 5 and 68: 5 again, 63 below, and an invented record under 5; 4, 64 below and never used; then 69, and 5 once more, now 64 below; and 6, 63
+-- below and not used
+late : List Event
+late =
+    here· (key· 2 (replicate 12 0)) ∷ here· encrypt· ∷ far· 2 (sealedAs 2 4 4) ∷ far· 2 (sealedAs 2 5 5) ∷ far· 2 (sealedAs 2 6 6) ∷ far· 2 (sealedAs 2 68 7)
+    ∷ far· 2 (sealedAs 2 69 8)
+    ∷ arrives (sealedAs 2 5 5) 5
+    (arrives (sealedAs 2 68 7) 7
+    (doubled (sealedAs 2 5 5)
+    (invented 5 (doubled (sealedAs 2 4 4) (arrives (sealedAs 2 69 8) 8 (doubled (sealedAs 2 5 5) (arrives (sealedAs 2 6 6) 6 [])))))))
+
+abbrev saidOf : List Tried → List Reading
+saidOf [] = []
+saidOf (d ∷ ds) = d .reading ∷ saidOf ds
+
+-- the last first: what was used and is not too old is seen, what is 64 below is too old, used or not
+late-said : saidOf (run (fresh-half 16) late .end .into .tried)
+    ≡ says.Opened 2 6 23 5 1 ∷ says.Dropped reason.TooOld ∷ says.Opened 2 69 23 5 1 ∷ says.Dropped reason.TooOld ∷ says.Dropped reason.Seen
+    ∷ says.Dropped reason.Seen ∷ says.Opened 2 68 23 5 1 ∷ says.Opened 2 5 23 5 1 ∷ []
+unfolding late sealedAs arrives doubled invented choose both either splice bit askSound askKeyed openingSound questionSound isSound counted nonceOf innerOf unmasked rebuilt judged maskedAt maskedBy masking maskStep typed openedAt openedBy openings openedStep cancelledAsk cancelled freshOf keyOf leaving removedBy removeOf encryptOf releaseOf beginOf headerLen fragmentLen partialOf parseCiphertext isType isVersion isPlaintext plaintextHeader parsePlaintext parsed unifiedHeader lockedStep sealedStep stepOf openingAsked askedAgain asking readStep fits lastFit find orElse two resolve wasFound isKeyed marked appOne apps windowsSound keysSound isFull installed leftAt left maskedHeader own below above nearest expected verdict marking upd keyOwed keys resolvesTo sealedSize plainSize recordSize goodPlain removedFrom removed removeOwed begun beginOwed afterRead afterMask afterOpen
+late-said = refl
+
+-- a record's number is brought back, condition by condition, where these numbers are used
+known-after : (used : List ℕ) (t : Trial) (e : ℕ) (r : Sealed) → t .used e ≡ used → Mem r (t .sealed e) → take (length (r .wire)) (t .rest) ≡ r .wire
+    → t .encrypted ≡ true → t .resolved ≡ some e → r .num < reachOf used → aboveUsed used < r .num + 32768 → Known t e r
+known-after used t e r u sent same on found near enough = record {
+  sealed-then = sent;
+  undamaged = same;
+  encryption-on = on;
+  resolved = found;
+  in-reach = subst (λ (l : List ℕ). r .num < reachOf l) (sym u) near;
+  near-enough = subst (λ (l : List ℕ). aboveUsed l < r .num + 32768) (sym u) enough;
+}
+
+-- so it was of 5 once more, and of 4
+late-known : (z : Tried) → Known (lastOf (earlier (run (fresh-half 16) late .end .into .tried)) z .trial) 2 (sealedAs 2 5 5)
+    × Known (lastOf (earlier (earlier (earlier (run (fresh-half 16) late .end .into .tried)))) z .trial) 2 (sealedAs 2 4 4)
+unfolding late sealedAs arrives doubled invented choose both either splice bit askSound askKeyed openingSound questionSound isSound counted nonceOf innerOf unmasked rebuilt judged maskedAt maskedBy masking maskStep typed openedAt openedBy openings openedStep cancelledAsk cancelled freshOf keyOf leaving removedBy removeOf encryptOf releaseOf beginOf headerLen fragmentLen partialOf parseCiphertext isType isVersion isPlaintext plaintextHeader parsePlaintext parsed unifiedHeader lockedStep sealedStep stepOf openingAsked askedAgain asking readStep fits lastFit find orElse two resolve wasFound isKeyed marked appOne apps windowsSound keysSound isFull installed leftAt left maskedHeader own below above nearest expected verdict marking upd keyOwed keys resolvesTo sealedSize plainSize recordSize goodPlain removedFrom removed removeOwed begun beginOwed afterRead afterMask afterOpen
+late-known z = (
+  known-after (69 ∷ 68 ∷ 5 ∷ []) _ 2 (sealedAs 2 5 5) refl (there (there (there (here refl)))) refl refl refl (omega arith) (omega arith),
+  known-after (68 ∷ 5 ∷ []) _ 2 (sealedAs 2 4 4) refl (there (there (there (there (here refl))))) refl refl refl (omega arith) (omega arith),
+)
+
+late-honest : Honest oneMask (fresh-half 16) late
+unfolding oneMask late sealedAs arrives doubled invented choose both either splice bit askSound askKeyed openingSound questionSound isSound counted nonceOf innerOf unmasked rebuilt judged maskedAt maskedBy masking maskStep typed openedAt openedBy openings openedStep cancelledAsk cancelled freshOf keyOf leaving removedBy removeOf encryptOf releaseOf beginOf headerLen fragmentLen partialOf parseCiphertext isType isVersion isPlaintext plaintextHeader parsePlaintext parsed unifiedHeader lockedStep sealedStep stepOf openingAsked askedAgain asking readStep fits lastFit find orElse two resolve wasFound isKeyed marked appOne apps windowsSound keysSound isFull installed leftAt left maskedHeader own below above nearest expected verdict marking upd keyOwed keys resolvesTo sealedSize plainSize recordSize goodPlain removedFrom removed removeOwed begun beginOwed afterRead afterMask afterOpen
+late-honest = (tt, (tt, (shape 2 4 4 (omega arith), (shape 2 5 5 (omega arith), (shape 2 6 6 (omega arith), (shape 2 68 7 (omega arith), (shape 2 69 8 (omega arith), (tt, (tt, ((refl, λ s. refl), (tt, (λ right. yes-fair (sealedAs 2 69 8 ∷ sealedAs 2 68 7 ∷ sealedAs 2 6 6 ∷ sealedAs 2 5 5 ∷ sealedAs 2 4 4 ∷ []) (sealedAs 2 5 5) (there (there (there (here refl)))) refl _ refl, (tt, (tt, ((refl, λ s. refl), (tt, (λ right. yes-fair (sealedAs 2 69 8 ∷ sealedAs 2 68 7 ∷ sealedAs 2 6 6 ∷ sealedAs 2 5 5 ∷ sealedAs 2 4 4 ∷ []) (sealedAs 2 68 7) (there (here refl)) refl _ refl, (tt, (tt, ((refl, λ s. refl), (tt, (tt, ((refl, λ s. refl), (tt, (tt, ((refl, λ s. refl), (tt, (tt, ((refl, λ s. refl), (tt, (λ right. yes-fair (sealedAs 2 69 8 ∷ sealedAs 2 68 7 ∷ sealedAs 2 6 6 ∷ sealedAs 2 5 5 ∷ sealedAs 2 4 4 ∷ []) (sealedAs 2 69 8) (here refl) refl _ refl, (tt, (tt, ((refl, λ s. refl), (tt, (tt, ((refl, λ s. refl), (tt, (λ right. yes-fair (sealedAs 2 69 8 ∷ sealedAs 2 68 7 ∷ sealedAs 2 6 6 ∷ sealedAs 2 5 5 ∷ sealedAs 2 4 4 ∷ []) (sealedAs 2 6 6) (there (there (here refl))) refl _ refl, tt)))))))))))))))))))))))))))))))))))))))
 
 -- ---- the first records of an epoch after a gap
 
@@ -397,14 +449,14 @@ gap =
 gap-hands : (run (fresh-half 16) gap .end .into .handed 2 ≡ record { num = 40000; type = 23; content = 1 ∷ [] } ∷ [])
     × (run (fresh-half 16) gap .end .into .handed 3 ≡ record { num = 65535; type = 23; content = 2 ∷ [] } ∷ [])
     × (run (fresh-half 16) gap .end .into .handed 4 ≡ [])
-unfolding gap sealedAs arrives refused choose both either splice bit askSound askKeyed openingSound questionSound isSound counted nonceOf innerOf unmasked rebuilt judged maskedAt maskedBy masking maskStep typed openedAt openedBy openings openedStep cancelledAsk cancelled freshOf keyOf leaving removedBy removeOf encryptOf releaseOf beginOf headerLen fragmentLen partialOf parseCiphertext isType isVersion isPlaintext plaintextHeader parsePlaintext parsed unifiedHeader lockedStep sealedStep stepOf openingAsked askedAgain asking readStep fits lastFit find orElse two resolve wasFound isKeyed marked appOne apps windowsSound keysSound isFull installed leftAt left maskedHeader own below above nearest expected isFresh marking upd keyOwed keys resolvesTo sealedSize plainSize recordSize goodPlain removedFrom removed removeOwed begun beginOwed afterRead afterMask afterOpen
+unfolding gap sealedAs arrives refused choose both either splice bit askSound askKeyed openingSound questionSound isSound counted nonceOf innerOf unmasked rebuilt judged maskedAt maskedBy masking maskStep typed openedAt openedBy openings openedStep cancelledAsk cancelled freshOf keyOf leaving removedBy removeOf encryptOf releaseOf beginOf headerLen fragmentLen partialOf parseCiphertext isType isVersion isPlaintext plaintextHeader parsePlaintext parsed unifiedHeader lockedStep sealedStep stepOf openingAsked askedAgain asking readStep fits lastFit find orElse two resolve wasFound isKeyed marked appOne apps windowsSound keysSound isFull installed leftAt left maskedHeader own below above nearest expected verdict marking upd keyOwed keys resolvesTo sealedSize plainSize recordSize goodPlain removedFrom removed removeOwed begun beginOwed afterRead afterMask afterOpen
 gap-hands = (refl, refl, refl)
 
 -- and so they were due; 65,536 would be, were it in reach
 gap-due : (z : Tried) → Due (lastOf (earlier (run (fresh-half 16) gap .end .into .tried)) z .trial) 2 (sealedAs 2 40000 1)
     × Due (lastOf (run (fresh-half 16) gap .end .into .tried) z .trial) 3 (sealedAs 3 65535 2)
     × (65536 < reachOf [] → Due (lastOf (earlier (earlier (run (fresh-half 16) gap .end .into .tried))) z .trial) 4 (sealedAs 4 65536 3))
-unfolding gap sealedAs arrives refused choose both either splice bit askSound askKeyed openingSound questionSound isSound counted nonceOf innerOf unmasked rebuilt judged maskedAt maskedBy masking maskStep typed openedAt openedBy openings openedStep cancelledAsk cancelled freshOf keyOf leaving removedBy removeOf encryptOf releaseOf beginOf headerLen fragmentLen partialOf parseCiphertext isType isVersion isPlaintext plaintextHeader parsePlaintext parsed unifiedHeader lockedStep sealedStep stepOf openingAsked askedAgain asking readStep fits lastFit find orElse two resolve wasFound isKeyed marked appOne apps windowsSound keysSound isFull installed leftAt left maskedHeader own below above nearest expected isFresh marking upd keyOwed keys resolvesTo sealedSize plainSize recordSize goodPlain removedFrom removed removeOwed begun beginOwed afterRead afterMask afterOpen
+unfolding gap sealedAs arrives refused choose both either splice bit askSound askKeyed openingSound questionSound isSound counted nonceOf innerOf unmasked rebuilt judged maskedAt maskedBy masking maskStep typed openedAt openedBy openings openedStep cancelledAsk cancelled freshOf keyOf leaving removedBy removeOf encryptOf releaseOf beginOf headerLen fragmentLen partialOf parseCiphertext isType isVersion isPlaintext plaintextHeader parsePlaintext parsed unifiedHeader lockedStep sealedStep stepOf openingAsked askedAgain asking readStep fits lastFit find orElse two resolve wasFound isKeyed marked appOne apps windowsSound keysSound isFull installed leftAt left maskedHeader own below above nearest expected verdict marking upd keyOwed keys resolvesTo sealedSize plainSize recordSize goodPlain removedFrom removed removeOwed begun beginOwed afterRead afterMask afterOpen
 gap-due z = (
   due-after [] _ 2 (sealedAs 2 40000 1) refl (here refl) refl refl (omega arith) refl refl (omega arith) (omega arith),
   due-after [] _ 3 (sealedAs 3 65535 2) refl (here refl) refl refl (omega arith) refl refl (omega arith) (omega arith),
@@ -412,5 +464,5 @@ gap-due z = (
 )
 
 gap-honest : Honest oneMask (fresh-half 16) gap
-unfolding oneMask gap sealedAs arrives refused choose both either splice bit askSound askKeyed openingSound questionSound isSound counted nonceOf innerOf unmasked rebuilt judged maskedAt maskedBy masking maskStep typed openedAt openedBy openings openedStep cancelledAsk cancelled freshOf keyOf leaving removedBy removeOf encryptOf releaseOf beginOf headerLen fragmentLen partialOf parseCiphertext isType isVersion isPlaintext plaintextHeader parsePlaintext parsed unifiedHeader lockedStep sealedStep stepOf openingAsked askedAgain asking readStep fits lastFit find orElse two resolve wasFound isKeyed marked appOne apps windowsSound keysSound isFull installed leftAt left maskedHeader own below above nearest expected isFresh marking upd keyOwed keys resolvesTo sealedSize plainSize recordSize goodPlain removedFrom removed removeOwed begun beginOwed afterRead afterMask afterOpen
+unfolding oneMask gap sealedAs arrives refused choose both either splice bit askSound askKeyed openingSound questionSound isSound counted nonceOf innerOf unmasked rebuilt judged maskedAt maskedBy masking maskStep typed openedAt openedBy openings openedStep cancelledAsk cancelled freshOf keyOf leaving removedBy removeOf encryptOf releaseOf beginOf headerLen fragmentLen partialOf parseCiphertext isType isVersion isPlaintext plaintextHeader parsePlaintext parsed unifiedHeader lockedStep sealedStep stepOf openingAsked askedAgain asking readStep fits lastFit find orElse two resolve wasFound isKeyed marked appOne apps windowsSound keysSound isFull installed leftAt left maskedHeader own below above nearest expected verdict marking upd keyOwed keys resolvesTo sealedSize plainSize recordSize goodPlain removedFrom removed removeOwed begun beginOwed afterRead afterMask afterOpen
 gap-honest = (tt, (tt, (tt, (tt, (shape 2 40000 1 (omega arith), (shape 3 65535 2 (omega arith), (shape 4 65536 3 (omega arith), (tt, (tt, ((refl, λ s. refl), (λ right. no-fair (sealedAs 4 65536 3 ∷ []) 0 _ _ refl, (tt, (tt, ((refl, λ s. refl), (tt, (λ right. yes-fair (sealedAs 2 40000 1 ∷ []) (sealedAs 2 40000 1) (here refl) refl _ refl, (tt, (tt, ((refl, λ s. refl), (tt, (λ right. yes-fair (sealedAs 3 65535 2 ∷ []) (sealedAs 3 65535 2) (here refl) refl _ refl, tt)))))))))))))))))))))

@@ -7,6 +7,7 @@ pub mod Table
 pub mod Cut
 pub mod Sound
 pub mod Reads
+pub mod Judging
 pub mod Opening
 pub mod Reading
 pub mod Calls

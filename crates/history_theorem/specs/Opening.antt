@@ -22,8 +22,9 @@ use Rattle.recv_keys.specs.Keys.{entryAt, find, marked}
 use Rattle.recv_keys.specs.Laws.{found-keyed}
 use Rattle.recv_keys.specs.declared.Found.the-variants as found
 use Rattle.recv_keys.specs.declared.RecvKeys.{RecvKeys}
-use Rattle.window.specs.Used.{fresh-unused}
-use Rattle.window.specs.Window.{isFresh}
+use Rattle.window.specs.Used.{tells}
+use Rattle.window.specs.Window.{verdict}
+use Rattle.window.specs.declared.Verdict.the-variants.{Fresh}
 use Rattle.history_theorem.specs.Account.{upd}
 use Rattle.history_theorem.specs.Claim.{Real, Shows, There, Ends, RightNonce}
 use Rattle.history_theorem.specs.Reads.{outBy}
@@ -105,7 +106,7 @@ module _ (k : RecvKeys) (used ivs : ℕ → List ℕ) (tab : Table k used ivs) (
       subst (λ (x : ℕ). Table (marked k i n) (upd used x (n ∷ used x)) ivs) (found-epoch (k .entries) e (k .count) i f)
       (marked-table k used ivs tab i n long count within)
 
-  pub yes-new : isFresh (entryAt k i .replay) n ≡ true → Mem n (used e) → ⊥
+  pub yes-new : verdict (entryAt k i .replay) n ≡ Fresh → Mem n (used e) → ⊥
   yes-new fresh m =
-      fresh-unused (tab .agrees i within) n fresh
+      tells (tab .agrees i within) n Fresh .0 fresh .0
       (subst (λ (x : ℕ). Mem n (used x)) (sym (found-epoch (k .entries) e (k .count) i f)) m)

@@ -9,6 +9,9 @@ use Rattle.history_theorem.specs.Claim.{Masks, FairCall, Moved, Turned, 
 use Rattle.history_theorem.specs.Direction.{
   Shaped,
   AsSealed,
+  due-known,
+  ending-opened,
+  ending-told,
   Trials,
   trials-grow,
   as-sealed-grows,
@@ -184,7 +187,9 @@ module _ (masks : Masks) (sealed : ℕ → List Sealed) (i : Inbound) (l : Link 
     once = l .sound .hands .once e;
     as-sealed = l .as-sealed e;
     none-left-out = λ d m r due. l .trials .handed d m e r due;
-    due-opened = λ d m r due. l .trials .says d m e r due;
+    due-opened = λ d m r due. ending-opened _ e r _ _ due (l .trials .says d m e r (due-known _ e r due));
+    late-told = λ d m r known. ending-told _ e r _ _ (l .trials .says d m e r known);
+    judged = l .sound .judged;
     moved-nothing = λ k none-accepted m o z. moved-unused m (m .spends) (none-accepted m o z) (l .moves m o);
     each-call = l .moves;
     real-readings = l .sound .real;

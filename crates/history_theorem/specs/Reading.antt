@@ -23,7 +23,7 @@ use Rattle.datagram.specs.declared.Step.{Step}
 use Rattle.dtls_aead.specs.Nonce.{nonceOf}
 use Rattle.incoming.specs.Inner.{innerOf}
 use Rattle.incoming.specs.declared.Inner.{Inner}
-use Rattle.mask_reply.specs.Leads.{mask-asks}
+use Rattle.mask_reply.specs.Leads.{by-judged, mask-asks}
 use Rattle.mask_reply.specs.Mask.{unmasked, judged, maskedAt, maskedBy, masking, maskStep}
 use Rattle.opening_reply.specs.Leads.{opened-asks}
 use Rattle.opening_reply.specs.Opening.{still, typed, openedAt, openedBy, openings, openedStep, shownBy}
@@ -38,14 +38,18 @@ use Rattle.records.specs.Leads.{read-asks}
 use Rattle.records.specs.Records.{stepOf, openingAsked, askedAgain, asking, readStep}
 use Rattle.recv_keys.specs.Keeps.{found-epoch}
 use Rattle.recv_keys.specs.Keys.{entryAt, find, resolve, wasFound, isKeyed, marked}
-use Rattle.recv_keys.specs.Laws.{found-keyed}
+use Rattle.recv_keys.specs.Laws.{found-keyed, window-at}
 use Rattle.recv_keys.specs.declared.Found.the-variants as found
 use Rattle.recv_keys.specs.declared.Found.{Found}
 use Rattle.recv_keys.specs.declared.RecvEpochEntry.{RecvEpochEntry}
 use Rattle.recv_keys.specs.declared.RecvKeys.{RecvKeys}
-use Rattle.window.specs.Window.{isFresh}
+use Rattle.sequence.specs.Laws.{Nearest}
+use Rattle.window.specs.Used.{above, Agrees, expects}
+use Rattle.window.specs.Window.{verdict}
+use Rattle.window.specs.declared.Verdict.the-variants.{Fresh}
 use Rattle.history_theorem.specs.Account.{upd, Shown, nothing, aMask, anOpening, Account, resolvesTo, recordSize, goodPlain}
-use Rattle.history_theorem.specs.Claim.{Real, Shows, There, Ends, Proper, RightNonce, NumberByte, Spares}
+use Rattle.history_theorem.specs.Claim.{Real, Shows, There, Ends, Proper, RightNonce, NumberByte, Spares, Tells, TellsNeither, bitsUnder, blockIn, Judged}
+use Rattle.history_theorem.specs.Judging.{isRuled, neither, read-unruled, typed-unruled, judged-told, stands-for}
 use Rattle.history_theorem.specs.Cut.{cut, finds, nonce-own}
 use Rattle.history_theorem.specs.Lists.{by-both, drops-on}
 use Rattle.history_theorem.specs.Opening.{Settles, typed-settles, typed-hands, yes-keys, yes-table, yes-new}
@@ -103,6 +107,7 @@ use Rattle.history_theorem.specs.Sound.{
   more-proper,
   more-nonces,
   more-spared,
+  more-judged,
   none-written,
   step-intact,
   settle-intact,
@@ -116,8 +121,9 @@ abbrev pub refusal : Receiver → Out
 refusal y = record { state = y .state; datagram = y .datagram; reading = says.Reply; nonce = zeros }
 
 pub down-sound : (y : Receiver) → Sound y → (t : Option Trial) (w : Shown) (deed : Deed) → Proper deed (y .account .waits) says.Reply
+    → Judged deed (y .account .waits) (restOf y) (y .used) says.Reply
     → Sound (after y (refusal y) t unused w deed)
-down-sound y i t w deed p = record {
+down-sound y i t w deed p j = record {
   made = i .made;
   table = i .table;
   asked = i .asked;
@@ -129,6 +135,7 @@ down-sound y i t w deed p = record {
   proper = more-proper y i deed (refusal y) p;
   nonces = more-nonces y i deed (refusal y) tt;
   spared = more-spared y i deed (refusal y) (none-written y deed (refusal y) refl);
+  judged = more-judged y i deed (refusal y) j;
   lost = i .lost;
   real = i .real;
   shows = i .shows;
@@ -143,8 +150,8 @@ sameAgain y x v = record { state = y .state; datagram = y .datagram; reading = x
 
 again-sound : (y : Receiver) → Sound y → (x : Reading) (v : List ℕ) (w : Shown) → fateOf x ≡ underway
     → handedBy x (shownBy x (y .datagram)) (y .handed) ≡ y .handed → w ≡ y .account .waits → Proper aRead (y .account .waits) x
-    → RightNonce x (y .account .ivs) v → Sound (after y (sameAgain y x v) (y .trial) unused w aRead)
-again-sound y i x v w f h q p n = rw (f, q) (record {
+    → RightNonce x (y .account .ivs) v → isRuled x ≡ false → Sound (after y (sameAgain y x v) (y .trial) unused w aRead)
+again-sound y i x v w f h q p n j = rw (f, q) (record {
   made = i .made;
   table = i .table;
   asked = i .asked;
@@ -156,6 +163,7 @@ again-sound y i x v w f h q p n = rw (f, q) (record {
   proper = more-proper y i aRead (sameAgain y x v) p;
   nonces = more-nonces y i aRead (sameAgain y x v) n;
   spared = more-spared y i aRead (sameAgain y x v) (none-written y aRead (sameAgain y x v) refl);
+  judged = more-judged y i aRead (sameAgain y x v) (neither x j);
   lost = i .lost;
   real = i .real;
   shows = i .shows;
@@ -174,22 +182,20 @@ is-found k x found.Nothing q t g = absurd (false≢true (ap wasFound (sym q) ∙
 
 -- a mask reply asks no mask
 judged-next : (e : RecvEpochEntry) (b : Datagram) (a : Ask) (n x s : ℕ) → judged e b a n .reading ≡ says.Mask x s → ⊥
-unfolding judged openingAsked
+unfolding openingAsked
 judged-next e b a n x s =
-    by-test (λ (t : Step). t .reading ≡ says.Mask x s → ⊥) (λ u g. let z : _≡_ {A = ℕ} 0 1 = cc in omega arith)
-    (λ u. by-test (λ (t : Step). t .reading ≡ says.Mask x s → ⊥) (λ v g. let z : _≡_ {A = ℕ} 0 1 = cc in omega arith)
-    (λ v g. let z : _≡_ {A = ℕ} 0 1 = cc in omega arith))
+    by-judged e b a n (λ (t : Step). t .reading ≡ says.Mask x s → ⊥) (λ r g. let z : _≡_ {A = ℕ} 0 1 = cc in omega arith)
+    (λ small fresh g. let z : _≡_ {A = ℕ} 0 1 = cc in omega arith)
 
 masked-next : (j x s : ℕ) (k : RecvKeys) (b : Datagram) (a : Ask) (m d : List ℕ) → maskedBy (found.At j) k b a m d .0 .reading ≡ says.Mask x s → ⊥
 unfolding maskedBy maskedAt
 masked-next j x s k b a m d = judged-next (entryAt k j) b a _ x s
 
 judged-quits : (e : RecvEpochEntry) (b : Datagram) (a : Ask) (n : ℕ) (x : Ask) → judged e b a n .datagram .question ≡ question.Mask x → ⊥
-unfolding judged openingAsked
+unfolding openingAsked
 judged-quits e b a n x =
-    by-test (λ (t : Step). t .datagram .question ≡ question.Mask x → ⊥) (λ u g. let z : _≡_ {A = ℕ} 0 1 = cc in omega arith)
-    (λ u. by-test (λ (t : Step). t .datagram .question ≡ question.Mask x → ⊥) (λ v g. let z : _≡_ {A = ℕ} 0 1 = cc in omega arith)
-    (λ v g. let z : _≡_ {A = ℕ} 0 1 = cc in omega arith))
+    by-judged e b a n (λ (t : Step). t .datagram .question ≡ question.Mask x → ⊥) (λ r g. let z : _≡_ {A = ℕ} 0 1 = cc in omega arith)
+    (λ small fresh g. let z : _≡_ {A = ℕ} 0 1 = cc in omega arith)
 
 masked-quits : (j : ℕ) (x : Ask) (k : RecvKeys) (b : Datagram) (a : Ask) (m d : List ℕ) → maskedBy (found.At j) k b a m d .0 .datagram .question ≡ question.Mask x → ⊥
 unfolding maskedBy maskedAt
@@ -205,9 +211,8 @@ masked-flag j first k b a m d = not-mask-flag _ first (λ x. masked-quits j x k 
 
 -- nor does it read
 judged-shows : (e : RecvEpochEntry) (b : Datagram) (a : Ask) (n : ℕ) (rest shown : List ℕ) → Shows (judged e b a n .reading) rest shown
-unfolding judged openingAsked
-judged-shows e b a n rest shown =
-    by-test (λ (t : Step). Shows (t .reading) rest shown) (λ u. tt) (λ u. by-test (λ (t : Step). Shows (t .reading) rest shown) (λ v. tt) (λ v. tt))
+unfolding openingAsked
+judged-shows e b a n rest shown = by-judged e b a n (λ (t : Step). Shows (t .reading) rest shown) (λ r. tt) (λ small fresh. tt)
 
 masked-shows : (j : ℕ) (k : RecvKeys) (b : Datagram) (a : Ask) (m d rest shown : List ℕ) → Shows (maskedBy (found.At j) k b a m d .0 .reading) rest shown
 unfolding maskedBy maskedAt
@@ -215,9 +220,8 @@ masked-shows j k b a m d rest shown = judged-shows (entryAt k j) b a _ rest show
 
 -- nor does it end the datagram
 judged-stops : (e : RecvEpochEntry) (b : Datagram) (a : Ask) (n : ℕ) (rest : List ℕ) (m : ℕ) → There rest → Ends (judged e b a n .reading) rest m
-unfolding judged openingAsked
-judged-stops e b a n rest m w =
-    by-test (λ (t : Step). Ends (t .reading) rest m) (λ u. w) (λ u. by-test (λ (t : Step). Ends (t .reading) rest m) (λ v. w) (λ v. w))
+unfolding openingAsked
+judged-stops e b a n rest m w = by-judged e b a n (λ (t : Step). Ends (t .reading) rest m) (λ r. w) (λ small fresh. w)
 
 masked-stops : (j : ℕ) (k : RecvKeys) (b : Datagram) (a : Ask) (m d rest : List ℕ) (n : ℕ) → There rest → Ends (maskedBy (found.At j) k b a m d .0 .reading) rest n
 unfolding maskedBy maskedAt
@@ -329,6 +333,12 @@ module _ (y : Receiver) (i : Sound y) where
       (subst (λ (l : List ℕ). Ends (readsOut k (stepOf (parsed l) k b) d .reading) (restOf y) (b .readings)) (rest-idle q)
       (read-stops k (y .used) (y .account .ivs) (i .table) b d (i .made .ready) (i .whole) none 0 true true (restOf y) (parsed (restOf y)) (finds (restOf y)))))
 
+  idle-judged : (sealed : ℕ → List Sealed) → b .question ≡ question.Nothing → TellsNeither (readOut (y .state) d .reading)
+  unfolding asking
+  idle-judged sealed q =
+      subst (λ (s : Step). TellsNeither (readsOut k s d .reading)) (sym (read-asks k b d question.Nothing in-range (i .whole) q))
+      (neither _ (read-unruled k b (parsed (drop (b .at) d))))
+
   read-made : Made (readOut (y .state) d .state)
   read-made = after-made (reading d) (y .state) (i .made)
 
@@ -340,7 +350,7 @@ module _ (y : Receiver) (i : Sound y) where
       step-sound y i o (reached y sealed) unused aRead (c .moves) same-keys read-made (i .table) (c .asked)
       (subst (λ f. Hands (y .used) f) (sym (c .hands (shownBy (o .reading) d) (y .handed))) (i .hands))
       (subst (λ w. Proper aRead w (o .reading)) (sym z) (moves-on (c .moves))) (c .nonce) (c .real) (idle-intact sealed q) (none-written y aRead o refl)
-      (idle-shows sealed q) (idle-said sealed q) (idle-stops sealed q) refl
+      (idle-judged sealed q) (idle-shows sealed q) (idle-said sealed q) (idle-stops sealed q) refl
 
   -- the mask question again
   pub masks-again : (a : Ask) → b .question ≡ question.Mask a
@@ -355,7 +365,7 @@ module _ (y : Receiver) (i : Sound y) where
       subst (λ v. Sound (readBy y sealed v (readOut (y .state) d))) (sym w)
       (subst (λ o. Sound (readBy y sealed (aMask (a .epoch) (b .at + a .«header_len»)) o)) (sym (masks-again a q))
       (again-sound y i (says.Mask (a .epoch) (b .at + a .«header_len»)) zeros (aMask (a .epoch) (b .at + a .«header_len»)) refl refl (sym w)
-      (subst (λ v. Proper aRead v (says.Mask (a .epoch) (b .at + a .«header_len»))) (sym w) refl) tt))
+      (subst (λ v. Proper aRead v (says.Mask (a .epoch) (b .at + a .«header_len»))) (sym w) refl) tt refl))
 
   -- the opening question again
   pub again-is : (a : Ask) (n j : ℕ) → b .question ≡ question.Opening a n → find (k .entries) (a .epoch) (k .count) ≡ found.At j
@@ -387,7 +397,7 @@ module _ (y : Receiver) (i : Sound y) where
       (ap (λ (v : List ℕ). nonceOf v n)
       (i .table .iv j (found-keyed (k .entries) (a .epoch) (k .count) j f)
       ∙ ap (y .account .ivs) (found-epoch (k .entries) (a .epoch) (k .count) j f))
-      ∙ nonce-own (y .account .ivs (a .epoch)) n)))
+      ∙ nonce-own (y .account .ivs (a .epoch)) n) refl))
 
   reads : (sealed : ℕ → List Sealed) (q : Question) → b .question ≡ q → UnderWay q (b .at) (y .account .waits) (y .trial)
       → Sound (readBy y sealed (y .account .waits) (readOut (y .state) d))
@@ -410,9 +420,9 @@ module _ (y : Receiver) (i : Sound y) where
   unfolding masking
   mask-opening m a n q = mask-asks k b m d (question.Opening a n) in-range (i .whole) q
 
-  mask-down : (m : List ℕ) → maskStep k b m d ≡ (told b says.Reply, d) → Proper aMaskReply (y .account .waits) says.Reply
-      → Sound (maskBy y (maskOut (y .state) m d))
-  mask-down m e p = subst (λ x. Sound (maskBy y (maskedOut k x))) (sym e) (down-sound y i (y .trial) nothing aMaskReply p)
+  mask-down : (m : List ℕ) → maskStep k b m d ≡ (told b says.Reply, d) → Proper (aMaskReply m) (y .account .waits) says.Reply
+      → Judged (aMaskReply m) (y .account .waits) (restOf y) (y .used) says.Reply → Sound (maskBy y m (maskOut (y .state) m d))
+  mask-down m e p j = subst (λ x. Sound (maskBy y m (maskedOut k x))) (sym e) (down-sound y i (y .trial) nothing (aMaskReply m) p j)
 
   module _ (m : List ℕ) (a : Ask) (q : b .question ≡ question.Mask a) where
     masked-is : maskStep k b m d ≡ maskedBy (find (k .entries) (a .epoch) (k .count)) k b a m d
@@ -450,7 +460,7 @@ module _ (y : Receiver) (i : Sound y) where
         subst (λ (n : ℕ). a .«s_flag» ≡ eqb (getD (drop n (y .arrived)) 0 0 / 8 % 2) 1) (sym (i .tally .place))
         (subst (λ (x : Question). FlagAsked x (getD (drop (b .at) (y .arrived)) 0 0)) q (i .intact .flag))
 
-    mask-spares : y .account .waits ≡ aMask (a .epoch) (b .at + a .«header_len») → Spares (spokenBy y aMaskReply (maskOut (y .state) m d))
+    mask-spares : y .account .waits ≡ aMask (a .epoch) (b .at + a .«header_len») → Spares (spokenBy y (aMaskReply m) (maskOut (y .state) m d))
     mask-spares w = record {
       long = ap length bytes-are ∙ masked-long k (y .used) (y .account .ivs) (i .table) b d (i .made .ready) (i .whole) none 0 true true a m (held-mask k b in-range a q);
       bytes = λ j off.
@@ -458,36 +468,54 @@ module _ (y : Receiver) (i : Sound y) where
           ∙ masked-other k (y .used) (y .account .ivs) (i .table) b d (i .made .ready) (i .whole) none 0 true true a m (held-mask k b in-range a q)
           (getD (restOf y) 0 0) flagged j
           (λ l u.
-          off (subst (λ v. NumberByte aMaskReply v (y .account .place) (getD (restOf y) 0 0) j) (sym w) (omega (arith, i .tally .place), omega (arith, i .tally .place))));
+          off (subst (λ v. NumberByte (aMaskReply m) v (y .account .place) (getD (restOf y) 0 0) j) (sym w) (omega (arith, i .tally .place), omega (arith, i .tally .place))));
     }
 
-    mask-on : UnderWay (question.Mask a) (b .at) (y .account .waits) (y .trial) → Sound (maskBy y (maskOut (y .state) m d))
+    -- it is told 9 or 26 by the number that its bits stand for
+    mask-judged : (n : ℕ) → Nearest (blockIn (restOf y)) (bitsUnder m (restOf y)) (above (y .used (a .epoch))) n
+        → Tells (maskOut (y .state) m d .reading) (y .used (a .epoch)) n
+    unfolding maskedBy maskedAt
+    mask-judged n near =
+        let h = held-mask k b in-range a q in
+        is-found k (a .epoch) _ refl (h .installed) λ j f.
+        let within = found-keyed (k .entries) (a .epoch) (k .count) j f in
+        let agrees : Agrees (entryAt k j .replay) (y .used (a .epoch)) =
+        subst (λ l. Agrees (entryAt k j .replay) l) (ap (y .used) (found-epoch (k .entries) (a .epoch) (k .count) j f)) (i .table .agrees j within) in
+        let low = window-at (k .entries) (k .count) j (i .made .ready .keys .windows) within in
+        let is = stands-for d m (restOf y) (b .at) (above (y .used (a .epoch))) n (omega (arith, h .head, h .tag, h .fits, h .two, i .whole, i .made .ready .at))
+        (rest-masked a q) (entryAt k j .replay) (a .«s_flag») flagged (expects (y .used (a .epoch)) agrees) (omega (arith, agrees .highest, low)) near in
+        subst (λ p. Tells (p .0 .reading) (y .used (a .epoch)) n) (sym (masked-is ∙ ap (λ (x : Found). maskedBy x k b a m d) f))
+        (subst (λ x. Tells (judged (entryAt k j) b a x .reading) (y .used (a .epoch)) n) is (judged-told (entryAt k j) b a n (y .used (a .epoch)) agrees low))
+
+    mask-on : UnderWay (question.Mask a) (b .at) (y .account .waits) (y .trial) → Sound (maskBy y m (maskOut (y .state) m d))
     mask-on z =
         let t = z .0 in
         let c = masked-quiet (t .resolved) (t .ends) (t .plain) (t .encrypted) (z .2 .1) (z .2 .2) in
         let o = maskOut (y .state) m d in
-        subst (λ v. Sound (after y o v unused (questionIn (o .reading) (o .datagram)) aMaskReply)) (sym (z .1))
-        (step-sound y i o t unused aMaskReply (c .moves) same-keys (after-made (answering m d) (y .state) (i .made)) (i .table) (c .asked)
+        subst (λ v. Sound (after y o v unused (questionIn (o .reading) (o .datagram)) (aMaskReply m))) (sym (z .1))
+        (step-sound y i o t unused (aMaskReply m) (c .moves) same-keys (after-made (answering m d) (y .state) (i .made)) (i .table) (c .asked)
         (subst (λ f. Hands (y .used) f) (sym (c .hands (shownBy (o .reading) (o .datagram)) (y .handed))) (i .hands))
-        (subst (λ w. Proper aMaskReply w (o .reading)) (sym (z .2 .0)) (moves-on (c .moves), no-mask)) (c .nonce) (c .real)
+        (subst (λ w. Proper (aMaskReply m) w (o .reading)) (sym (z .2 .0)) (moves-on (c .moves), no-mask)) (c .nonce) (c .real)
         (step-intact (c .moves) (y .arrived) (i .intact .long) (endAsked b a) behind (omega (arith, z .2 .2))
         (let h = held-mask k b in-range a q in omega (arith, h .head, h .fits, i .whole, i .made .ready .at))
         (λ x e. absurd (masked-by (λ p. p .0 .datagram .question ≡ question.Mask x → ⊥) (λ j. masked-quits j x k b a m d) e))
         (masked-by (λ p. FlagAsked (p .0 .datagram .question) (getD (drop (b .at) (y .arrived)) 0 0)) (λ j. masked-flag j _ k b a m d)))
-        (mask-spares (z .2 .0))
+        (mask-spares (z .2 .0)) (subst (λ w. Judged (aMaskReply m) w (restOf y) (y .used) (o .reading)) (sym (z .2 .0)) mask-judged)
         (masked-by (λ p. Shows (p .0 .reading) (t .rest) (shownBy (p .0 .reading) (maskedOut k p .datagram))) (λ j. masked-shows j k b a m d (t .rest) _))
         (i .later t (z .1) (o .reading))
         (masked-by (λ p. Ends (p .0 .reading) (t .rest) (t .count)) (λ j. masked-stops j k b a m d (t .rest) (t .count) (i .waits t (z .1) .there)))
         (i .waits t (z .1) .count))
 
-  masks : (m : List ℕ) (q : Question) → b .question ≡ q → UnderWay q (b .at) (y .account .waits) (y .trial) → Sound (maskBy y (maskOut (y .state) m d))
+  masks : (m : List ℕ) (q : Question) → b .question ≡ q → UnderWay q (b .at) (y .account .waits) (y .trial) → Sound (maskBy y m (maskOut (y .state) m d))
   masks m question.Nothing q z =
       mask-down m (mask-idle m q)
-      (subst (λ w. Proper aMaskReply w says.Reply) (sym (z .0)) refl)
+      (subst (λ w. Proper (aMaskReply m) w says.Reply) (sym (z .0)) refl)
+      (subst (λ w. Judged (aMaskReply m) w (restOf y) (y .used) says.Reply) (sym (z .0)) (neither says.Reply refl))
   masks m (question.Mask a) q z = mask-on m a q z
   masks m (question.Opening a n) q z =
       mask-down m (mask-opening m a n q)
-      (subst (λ w. Proper aMaskReply w says.Reply) (sym (z .2 .2)) refl)
+      (subst (λ w. Proper (aMaskReply m) w says.Reply) (sym (z .2 .2)) refl)
+      (subst (λ w. Judged (aMaskReply m) w (restOf y) (y .used) says.Reply) (sym (z .2 .2)) (neither says.Reply refl))
 
   -- one that is refused writes nothing
   refused-bytes : (m : List ℕ) (q : Question) → b .question ≡ q → UnderWay q (b .at) (y .account .waits) (y .trial)
@@ -522,7 +550,7 @@ module _ (y : Receiver) (i : Sound y) where
   open-down p e x =
       subst (λ m. Sound (openBy y p (opensTo m))) (sym e)
       (subst (λ u. Sound (after y (refusal y) (y .trial) u nothing (anOpenReply p))) (sym (use-down (y .account .waits) p))
-      (down-sound y i (y .trial) nothing (anOpenReply p) x))
+      (down-sound y i (y .trial) nothing (anOpenReply p) x (neither says.Reply refl)))
 
   module _ (a : Ask) (n : ℕ) (q : b .question ≡ question.Opening a n) (z : UnderWay (question.Opening a n) (b .at) (y .account .waits) (y .trial)) where
     abbrev pub t : Trial
@@ -562,7 +590,7 @@ module _ (y : Receiver) (i : Sound y) where
         (subst (λ v. Sound (after y (opensTo m) v unused nothing (anOpenReply reply.No))) (sym (z .1))
         (step-sound y i (opensTo m) t unused (anOpenReply reply.No) (c .moves) same-keys (opened-made reply.No m e) (i .table) tt (i .hands)
         (subst (λ w. Proper (anOpenReply reply.No) w (says.Dropped reason.NotOpened)) (sym waits-is) refl) tt tt
-        (settled-intact (opensTo m) (c .moves) refl refl) (none-written y (anOpenReply reply.No) (opensTo m) refl) tt
+        (settled-intact (opensTo m) (c .moves) refl refl) (none-written y (anOpenReply reply.No) (opensTo m) refl) (neither (says.Dropped reason.NotOpened) refl) tt
         (i .later t (z .1) (says.Dropped reason.NotOpened)) (i .waits t (z .1) .there) (i .waits t (z .1) .count)))
 
     module _ (len j : ℕ) (f : find (k .entries) (a .epoch) (k .count) ≡ found.At j) where
@@ -588,12 +616,14 @@ module _ (y : Receiver) (i : Sound y) where
       same-place : fresh-one .0 ≡ j
       same-place = let g = fresh-one .1 in let e : found.At (fresh-one .0) ≡ found.At j = sym g ∙ f in cc
 
+      pub still-fresh : verdict (entryAt k j .replay) n ≡ Fresh
+      still-fresh = subst (λ (x : ℕ). verdict (entryAt k x .replay) n ≡ Fresh) same-place (fresh-one .2)
+
       yes-sound : openedStep k b (reply.Yes len) d ≡ m → len + tagSize ≡ a .length → Sound (openBy y (reply.Yes len) (openOut (y .state) (reply.Yes len) d))
       yes-sound e right =
           let long = i .made .long in
           let count = i .made .ready .keys .count in
-          let fresh = subst (λ (x : ℕ). isFresh (entryAt k x .replay) n ≡ true) same-place (fresh-one .2) in
-          let new = yes-new k (y .used) (y .account .ivs) (i .table) (a .epoch) j n long count f fresh in
+          let new = yes-new k (y .used) (y .account .ivs) (i .table) (a .epoch) j n long count f still-fresh in
           subst (λ x. Sound (openBy y (reply.Yes len) (opensTo x))) (sym e)
           (subst (λ v. Sound (after y o v used-by (questionIn (o .reading) (o .datagram)) (anOpenReply (reply.Yes len)))) (sym (z .1))
           (step-sound y i o t used-by (anOpenReply (reply.Yes len)) (settles .moves)
@@ -606,7 +636,7 @@ module _ (y : Receiver) (i : Sound y) where
           (subst (λ w. Proper (anOpenReply (reply.Yes len)) w (o .reading)) (sym waits-is)
           (λ r. settles .fate, λ wrong. absurd (wrong (right ∙ sym (z .2 .4)))))
           (settles .nonce) (settles .real (t .plain) (t .encrypted)) (settled-intact o (settles .moves) (settles .fate) refl)
-          (none-written y (anOpenReply (reply.Yes len)) o refl) (settles .shows (t .rest) _) (i .later t (z .1) (o .reading))
+          (none-written y (anOpenReply (reply.Yes len)) o refl) (neither (o .reading) (typed-unruled k b a n _)) (settles .shows (t .rest) _) (i .later t (z .1) (o .reading))
           (subst (λ (x : ℕ). Ends (o .reading) (t .rest) x) (sym (i .waits t (z .1) .count ∙ i .tally .readings)) (settles .stops (t .rest) (i .waits t (z .1) .there)))
           (i .waits t (z .1) .count)))
 

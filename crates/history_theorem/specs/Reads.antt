@@ -23,6 +23,7 @@ use Rattle.datagram.specs.declared.Reading.{Reading}
 use Rattle.datagram.specs.declared.Reason.{Reason}
 use Rattle.datagram.specs.declared.Step.{Step}
 use Rattle.dtls_aead.specs.Nonce.{nonceOf}
+use Rattle.mask_reply.specs.Leads.{by-judged}
 use Rattle.mask_reply.specs.Mask.{maskBytes, unmasked, judged, maskedAt, maskedBy}
 use Rattle.receiving.specs.Receiving.{stepped}
 use Rattle.opening_reply.specs.Opening.{shownBy}
@@ -320,13 +321,12 @@ module _ (k : RecvKeys) (used ivs : ℕ → List ℕ) (tab : Table k used ivs) (
   judged-quiet : (d : List ℕ) → length d ≡ length d₀ → (a : Ask) (i n : ℕ) → Held k a (b .size - b .at)
       → find (k .entries) (a .epoch) (k .count) ≡ found.At i → to ≡ some (a .epoch) → end ≡ endAsked b a
       → Calm (maskedOut k (judged (entryAt k i) b a n, d))
-  unfolding judged openingAsked
+  unfolding openingAsked
   judged-quiet d same a i n h f to-is e =
-      by-test (λ t. Calm (maskedOut k (t, d))) (λ u. passed-quiet d same _ _ e)
-      (λ u. by-test (λ t. Calm (maskedOut k (t, d)))
-      (λ v. record {
+      by-judged (entryAt k i) b a n (λ t. Calm (maskedOut k (t, d))) (λ x. passed-quiet d same _ _ e)
+      (λ small fresh. record {
         keys = refl;
-        asked = (i, f, v);
+        asked = (i, f, fresh);
         hands = λ s g. refl;
         real = tt;
         nonce = ap (λ (x : List ℕ). nonceOf x n)
@@ -349,7 +349,6 @@ module _ (k : RecvKeys) (used ivs : ℕ → List ℕ) (tab : Table k used ivs) (
           );
         };
       })
-      (λ v. passed-quiet d same _ _ e))
 
   pub mask-quiet : (a : Ask) (m : List ℕ) → Held k a (b .size - b .at) → to ≡ some (a .epoch) → end ≡ endAsked b a
       → (f : Found) → find (k .entries) (a .epoch) (k .count) ≡ f → Calm (maskedOut k (maskedBy f k b a m d₀))

@@ -21,7 +21,8 @@ use Rattle.recv_keys.specs.declared.RecvKeys.{RecvKeys}
 use Rattle.receiving.specs.Receiving.{answerNumber, freshOf, keyOf, removeOf, encryptOf, releaseOf, beginOf, readOf, maskOf, openedOf}
 use Rattle.receiving.specs.declared.Read.{Read}
 use Rattle.receiving.specs.declared.Receiving.{Receiving}
-use Rattle.window.specs.Window.{isFresh}
+use Rattle.window.specs.Window.{verdict}
+use Rattle.window.specs.declared.Verdict.{Verdict}
 use Rattle.history_theorem.specs.Account.{upd, Shown, nothing, aMask, anOpening, Account, newAccount, isIn, without, keyOwed, keys, resolvesTo, recordSize, goodPlain}
 
 -- ---- what the history holds
@@ -61,20 +62,22 @@ pub record Tried : Type 0 where
   pub reading : Reading
   pub shown : List ℕ
 
--- a reading call: what the host did, the question that waited, the IVs by then, and the answer; where the cut stood, the byte that arrived
--- there, and the bytes of the datagram as they were lent and left
+-- a reading call: what the host did, the question that waited, the IVs and the numbers used by then, and the answer; where the cut stood, the
+-- bytes that arrived from there on, and the bytes of the datagram as they were lent and left
 pub data Deed : Type 0 where
-  aRead aMaskReply : Deed
+  aRead : Deed
+  aMaskReply : List ℕ → Deed
   anOpenReply : Opening → Deed
 
 pub record Spoken : Type 0 where
   pub deed : Deed
   pub waited : Shown
   pub ivs : ℕ → List ℕ
+  pub used : ℕ → List ℕ
   pub reading : Reading
   pub nonce : List ℕ
   pub place : ℕ
-  pub first : ℕ
+  pub rest : List ℕ
   pub lent : List ℕ
   pub left : List ℕ
 
@@ -397,10 +400,11 @@ spokenBy y deed o = record {
   deed = deed;
   waited = y .account .waits;
   ivs = y .account .ivs;
+  used = y .used;
   reading = o .reading;
   nonce = o .nonce;
   place = y .account .place;
-  first = getD (restOf y) 0 0;
+  rest = restOf y;
   lent = y .datagram;
   left = o .datagram;
 }
@@ -456,8 +460,8 @@ readOut s d = readTo (readOf s d) d
 unfoldable pub afterRead : Receiver → (ℕ → List Sealed) → Receiver
 afterRead y sealed = readBy y sealed (y .account .waits) (readOut (y .state) (y .datagram))
 
-abbrev pub maskBy : Receiver → Out → Receiver
-maskBy y o = after y o (y .trial) unused (questionIn (o .reading) (o .datagram)) aMaskReply
+abbrev pub maskBy : Receiver → List ℕ → Out → Receiver
+maskBy y m o = after y o (y .trial) unused (questionIn (o .reading) (o .datagram)) (aMaskReply m)
 
 abbrev pub maskedTo : Read × List ℕ → Out
 maskedTo p = outOf (p .0) (p .1)
@@ -466,7 +470,7 @@ abbrev pub maskOut : Receiving → List ℕ → List ℕ → Out
 maskOut s m d = maskedTo (maskOf s m d)
 
 unfoldable pub afterMask : Receiver → List ℕ → Receiver
-afterMask y m = maskBy y (maskOut (y .state) m (y .datagram))
+afterMask y m = maskBy y m (maskOut (y .state) m (y .datagram))
 
 abbrev pub openOut : Receiving → Opening → List ℕ → Out
 openOut s o d = outOf (openedOf s o d) d
@@ -483,12 +487,12 @@ useIn y p = useOf (y .account .waits) p (fateOf (openedOf (y .state) p (y .datag
 
 -- ---- windows, and calls over other bytes
 
--- the verdict on a number in an epoch: none where it is not keyed, else whether it is fresh
-abbrev pub verdictBy : Found → RecvKeys → ℕ → Option Bool
+-- the verdict on a number in an epoch: none where it is not keyed
+abbrev pub verdictBy : Found → RecvKeys → ℕ → Option Verdict
 verdictBy found.Nothing k n = none
-verdictBy (found.At i) k n = some (isFresh (entryAt k i .replay) n)
+verdictBy (found.At i) k n = some (verdict (entryAt k i .replay) n)
 
-unfoldable pub verdictOf : RecvKeys → ℕ → ℕ → Option Bool
+unfoldable pub verdictOf : RecvKeys → ℕ → ℕ → Option Verdict
 verdictOf k e n = verdictBy (find (k .entries) e (k .count)) k n
 
 -- what a call that reads a datagram did to the windows: the datagram, the number used, the keys before and behind it

@@ -21,9 +21,10 @@ use Rattle.receiving.specs.declared.Receiving.{Receiving}
 use Rattle.recv_keys.specs.Keys.{entryAt, find}
 use Rattle.recv_keys.specs.declared.Found.the-variants as found
 use Rattle.recv_keys.specs.declared.RecvKeys.{RecvKeys}
-use Rattle.window.specs.Window.{isFresh}
+use Rattle.window.specs.Window.{verdict}
+use Rattle.window.specs.declared.Verdict.the-variants.{Fresh}
 use Rattle.history_theorem.specs.Account.{upd, Shown, nothing, aMask, anOpening, Account}
-use Rattle.history_theorem.specs.Claim.{Once, Real, PlainDue, UnopenedDue, SaysPlaintext, SaysUnopened, Shows, There, Ends, Proper, RightNonce, Spares}
+use Rattle.history_theorem.specs.Claim.{Once, Real, PlainDue, UnopenedDue, SaysPlaintext, SaysUnopened, Shows, There, Ends, Proper, RightNonce, Spares, Judged}
 use Rattle.history_theorem.specs.Lists.{upd-same, upd-other, upd-by, some-inj, some≢none, mem-by, drops-on}
 use Rattle.history_theorem.specs.Receiver.{
   Sealed,
@@ -83,7 +84,7 @@ abbrev pub FreshAsked : RecvKeys → Question → Type 0
 FreshAsked k question.Nothing = Unit {0}
 FreshAsked k (question.Mask a) = Unit {0}
 FreshAsked k (question.Opening a n) =
-    (i : ℕ) × (find (k .entries) (a .epoch) (k .count) ≡ found.At i) × (isFresh (entryAt k i .replay) n ≡ true)
+    (i : ℕ) × (find (k .entries) (a .epoch) (k .count) ≡ found.At i) × (verdict (entryAt k i .replay) n ≡ Fresh)
 
 -- what was handed over has a number that was used, and no two have one
 pub record Hands (used : ℕ → List ℕ) (handed : ℕ → List Handed) : Type 0 where
@@ -120,6 +121,9 @@ pub record Waits (t : Trial) (readings : ℕ) : Type 0 where
   pub there : There (t .rest)
   pub count : t .count ≡ readings
 
+abbrev pub Judges : Spoken → Type 0
+Judges c = Judged (c .deed) (c .waited) (c .rest) (c .used) (c .reading)
+
 pub record Sound (y : Receiver) : Type 0 where
   pub made : Made (y .state)
   pub table : Table (y .state .keys) (y .used) (y .account .ivs)
@@ -132,6 +136,7 @@ pub record Sound (y : Receiver) : Type 0 where
   pub proper : (c : Spoken) → Mem c (y .spoken) → Proper (c .deed) (c .waited) (c .reading)
   pub nonces : (c : Spoken) → Mem c (y .spoken) → RightNonce (c .reading) (c .ivs) (c .nonce)
   pub spared : (c : Spoken) → Mem c (y .spoken) → Spares c
+  pub judged : (c : Spoken) → Mem c (y .spoken) → Judges c
   pub lost : (l : Lost) → Mem l (y .lost) → l .trial .resolved ≡ some (l .epoch)
   pub real : (d : Tried) → Mem d (y .tried) → Real (d .reading) (d .trial .plain) (d .trial .encrypted)
   pub shows : (d : Tried) → Mem d (y .tried) → Shows (d .reading) (d .trial .rest) (d .shown)
@@ -263,6 +268,9 @@ module _ (y : Receiver) (i : Sound y) (deed : Deed) (o : Out) where
   pub more-spared : Spares (spokenBy y deed o) → (c : Spoken) → Mem c (spokenBy y deed o ∷ y .spoken) → Spares c
   more-spared p = more-spoken Spares (spokenBy y deed o) (y .spoken) p (i .spared)
 
+  pub more-judged : Judges (spokenBy y deed o) → (c : Spoken) → Mem c (spokenBy y deed o ∷ y .spoken) → Judges c
+  more-judged p = more-spoken Judges (spokenBy y deed o) (y .spoken) p (i .judged)
+
 -- a call that writes nothing
 pub none-written : (y : Receiver) (deed : Deed) (o : Out) → o .datagram ≡ y .datagram → Spares (spokenBy y deed o)
 none-written y deed o e = record { long = ap length e; bytes = λ j off. ap (λ (l : List ℕ). getD l j 0) e }
@@ -330,7 +338,7 @@ module _ (y : Receiver) (i : Sound y) (o : Out) (t : Trial) (u : Use) (deed : De
     (han : Hands (spent u (y .used)) (handedBy (o .reading) (shownBy (o .reading) (o .datagram)) (y .handed)))
     (pro : Proper deed (y .account .waits) (o .reading)) (non : RightNonce (o .reading) (y .account .ivs) (o .nonce))
     (rea : Real (o .reading) (t .plain) (t .encrypted)) (int : Intact (o .state .datagram) (o .datagram) (y .arrived))
-    (spa : Spares (spokenBy y deed o)) (sho : Shows (o .reading) (t .rest) (shownBy (o .reading) (o .datagram)))
+    (spa : Spares (spokenBy y deed o)) (jud : Judges (spokenBy y deed o)) (sho : Shows (o .reading) (t .rest) (shownBy (o .reading) (o .datagram)))
     (sai : Said t (o .reading)) (sto : Ends (o .reading) (t .rest) (t .count)) (cou : t .count ≡ y .account .readings) where
   fate-sound : (f : Fate) → fateOf (o .reading) ≡ f → Goes (y .state .datagram) (length (y .datagram)) (t .resolved) (t .ends) f o → Sound (record {
     state = o .state;
@@ -365,6 +373,7 @@ module _ (y : Receiver) (i : Sound y) (o : Out) (t : Trial) (u : Use) (deed : De
     proper = more-proper y i deed o pro;
     nonces = more-nonces y i deed o non;
     spared = more-spared y i deed o spa;
+    judged = more-judged y i deed o jud;
     lost = i .lost;
     real = i .real;
     shows = i .shows;
@@ -394,6 +403,7 @@ module _ (y : Receiver) (i : Sound y) (o : Out) (t : Trial) (u : Use) (deed : De
     proper = more-proper y i deed o pro;
     nonces = more-nonces y i deed o non;
     spared = more-spared y i deed o spa;
+    judged = more-judged y i deed o jud;
     lost = i .lost;
     real = λ d m.
         mem-by m

@@ -18,18 +18,20 @@ use Rattle.datagram.specs.declared.Ask.{Ask}
 use Rattle.datagram.specs.declared.Datagram.{Datagram}
 use Rattle.datagram.specs.declared.Question.the-variants as question
 use Rattle.datagram.specs.declared.Reading.the-variants as says
-use Rattle.mask_reply.specs.Mask.{maskBytes, unmasked, maskStep}
-use Rattle.mask_reply.specs.Undamaged.{header-unmasked, mask-opens}
+use Rattle.mask_reply.specs.Mask.{maskBytes, unmasked, ruled, maskStep}
+use Rattle.mask_reply.specs.Undamaged.{header-unmasked, mask-rules}
 use Rattle.record.specs.Record.{sealedHead, unifiedHeader}
-use Rattle.records.specs.Records.{openingAsked, readStep}
+use Rattle.records.specs.Records.{readStep}
 use Rattle.records.specs.Undamaged.{sealed as laidSealed, sealed-asks}
 use Rattle.recv_keys.specs.Keys.{entryAt, find, resolve}
 use Rattle.recv_keys.specs.declared.Found.the-variants as found
 use Rattle.recv_keys.specs.declared.Found.{Found}
 use Rattle.recv_keys.specs.declared.RecvKeys.{RecvKeys}
 use Rattle.sealing.specs.Sealing.{maskedHeader}
-use Rattle.window.specs.Used.{above, Agrees, unused-fresh, expects}
-use Rattle.history_theorem.specs.Claim.{Masks, windowMarks, reachOf}
+use Rattle.window.specs.Used.{above, Agrees, expects}
+use Rattle.window.specs.Window.{verdict}
+use Rattle.window.specs.declared.Verdict.{Verdict}
+use Rattle.history_theorem.specs.Claim.{Masks, reachOf}
 use Rattle.history_theorem.specs.Half.{Shape}
 use Rattle.history_theorem.specs.Lists.{some-inj, some≢none}
 use Rattle.history_theorem.specs.Receiver.{Sealed}
@@ -154,12 +156,12 @@ module _ (masks : Masks) (e : ℕ) (x : Sealed) (shape : Shape masks e x) where
           ≡ getD ((0x2C + e % 4) ∷ bitXor (x .num / 256 % 256) (getD m 0 0) ∷ bitXor (x .num % 256) (getD m 1 0) ∷ be 2 (length (x .cipher))) i 0
       number-byte i h = sym (part-at (b .at) sealedHead d i h) ∙ ap (λ (l : List ℕ). getD l i 0) laid-so
 
-      -- the sender's mask brings its number back, and its opening is asked
+      -- the sender's mask brings its number back, and it is ruled on by that number's verdict
       pub mask-is : (i : ℕ) → b .question ≡ question.Mask (askFor e x) → find (k .entries) e (k .count) ≡ found.At i
-          → (used : List ℕ) → Agrees (entryAt k i .replay) used → (Mem (x .num) used → ⊥) → above used ≤ x .num + windowMarks
-          → x .num < reachOf used
-          → maskStep k b m d ≡ (openingAsked (entryAt k i) b (askFor e x) (x .num), unmasked d (b .at) true m)
-      mask-is i q f used a new near reach =
+          → (used : List ℕ) → Agrees (entryAt k i .replay) used → above used < x .num + 32768 → x .num < reachOf used
+          → (v : Verdict) → verdict (entryAt k i .replay) (x .num) ≡ v
+          → maskStep k b m d ≡ (ruled v (entryAt k i) b (askFor e x) (x .num), unmasked d (b .at) true m)
+      mask-is i q f used a near reach =
           let up = expects used a in
-          mask-opens k b (askFor e x) i (x .num) m d sound whole q f refl (omega (arith, lies-in d (b .at) same)) (number-byte 1 (omega arith))
-          (number-byte 2 (omega arith)) (shape .number) (omega arith) (omega arith) (unused-fresh a (x .num) new near)
+          mask-rules k b (askFor e x) i (x .num) m d sound whole q f refl (omega (arith, lies-in d (b .at) same)) (number-byte 1 (omega arith))
+          (number-byte 2 (omega arith)) (shape .number) (omega arith) (omega arith)

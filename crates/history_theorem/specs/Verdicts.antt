@@ -33,10 +33,11 @@ use Rattle.recv_keys.specs.declared.Found.the-variants as found
 use Rattle.recv_keys.specs.declared.Found.{Found}
 use Rattle.recv_keys.specs.declared.RecvEpochEntry.{RecvEpochEntry}
 use Rattle.recv_keys.specs.declared.RecvKeys.{RecvKeys}
-use Rattle.window.specs.Laws.{spent as marked-stale}
-use Rattle.window.specs.Window.{isFresh}
+use Rattle.window.specs.Laws.{after, verdict-is, spent}
+use Rattle.window.specs.Window.{verdict}
+use Rattle.window.specs.declared.Verdict.the-variants.{Fresh, Seen}
 use Rattle.history_theorem.specs.Claim.{SameVerdicts, Moved, Turned, OtherLength}
-use Rattle.history_theorem.specs.Reading.{is-found, open-idle, open-masked, opened-is, use-down, uses-it}
+use Rattle.history_theorem.specs.Reading.{is-found, open-idle, open-masked, opened-is, use-down, uses-it, still-fresh}
 use Rattle.history_theorem.specs.Receiver.{
   Sealed,
   Receiver,
@@ -86,7 +87,7 @@ module _ (k : RecvKeys) (e h n : ℕ) (long : length (k .entries) ≡ 5) (count 
   other-at : (x j : ℕ) → (x ≡ e → ⊥) → (g : Found) → find (k .entries) x (k .count) ≡ g → verdictBy g (marked k h n) j ≡ verdictBy g k j
   other-at x j ne found.Nothing q = refl
   other-at x j ne (found.At m) q =
-      ap (λ (r : RecvEpochEntry). some (isFresh (r .replay) j))
+      ap (λ (r : RecvEpochEntry). some (verdict (r .replay) j))
       (marked-other k h n long count within m
       (λ z.
       ne
@@ -96,12 +97,13 @@ module _ (k : RecvKeys) (e h n : ℕ) (long : length (k .entries) ≡ 5) (count 
   unfolding verdictOf
   others-same x ne j = ap (λ (g : Found). verdictBy g (marked k h n) j) (find-marked x) ∙ other-at x j ne _ refl
 
-  pub now-stale : verdictOf (marked k h n) e n ≡ some false
+  -- a fresh number is seen once it is used
+  pub now-seen : verdict (entryAt k h .replay) n ≡ Fresh → verdictOf (marked k h n) e n ≡ some Seen
   unfolding verdictOf
-  now-stale =
+  now-seen fresh =
       ap (λ (g : Found). verdictBy g (marked k h n) n) (find-marked e ∙ f)
-      ∙ ap (λ (r : RecvEpochEntry). some (isFresh (r .replay) n)) (marked-here k h n long count within)
-      ∙ ap some (marked-stale (entryAt k h .replay) n)
+      ∙ ap (λ (r : RecvEpochEntry). some (verdict (r .replay) n)) (marked-here k h n long count within)
+      ∙ ap some (spent (entryAt k h .replay) n (omega (arith, after (entryAt k h .replay) n .highest, verdict-is (entryAt k h .replay) n Fresh .0 fresh .0)))
 
 -- ---- the calls that read
 
@@ -167,7 +169,7 @@ module _ (y : Receiver) (i : Sound y) (s : ℕ) where
         let long = i .made .long in
         let count = i .made .ready .keys .count in
         subst (λ u. Moved (moveBy s u k (marked k h n)) u) (sym (uses-it y i a n q z len h f))
-        (others-same k (a .epoch) h n long count f, now-stale k (a .epoch) h n long count f))
+        (others-same k (a .epoch) h n long count f, now-seen k (a .epoch) h n long count f (still-fresh y i a n q z len h f)))
         (λ t. refused-moved (reply.Yes len) (still k (told b says.Reply)) refl refl)
 
   moved-by : (p : Opening) (q : Question) → b .question ≡ q → UnderWay q (b .at) (y .account .waits) (y .trial) → OpenMoved p (openedStep k b p d)

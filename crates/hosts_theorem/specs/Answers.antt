@@ -32,6 +32,7 @@ use Rattle.recv_keys.specs.declared.Found.{Found}
 use Rattle.recv_keys.specs.declared.RecvEpochEntry.{RecvEpochEntry}
 use Rattle.recv_keys.specs.declared.RecvKeys.{RecvKeys}
 use Rattle.records.specs.Records.{lockedStep, sealedStep, stepOf, openingAsked, askedAgain, asking, readStep}
+use Rattle.mask_reply.specs.Leads.{by-judged}
 use Rattle.mask_reply.specs.Mask.{judged, maskedAt, maskedBy, masking, maskStep}
 use Rattle.opening_reply.specs.Opening.{typed, openedAt, openedBy, openings, openedStep}
 use Rattle.opening_reply.specs.declared.Marked.{Marked}
@@ -60,7 +61,8 @@ reason-back reason.EarlyBits = refl
 reason-back reason.NoKeys = refl
 reason-back reason.TooShort = refl
 reason-back reason.TooHigh = refl
-reason-back reason.Replayed = refl
+reason-back reason.Seen = refl
+reason-back reason.TooOld = refl
 reason-back reason.NotOpened = refl
 reason-back reason.NoContentType = refl
 
@@ -87,7 +89,8 @@ reason-same reason.EarlyBits = refl
 reason-same reason.NoKeys = refl
 reason-same reason.TooShort = refl
 reason-same reason.TooHigh = refl
-reason-same reason.Replayed = refl
+reason-same reason.Seen = refl
+reason-same reason.TooOld = refl
 reason-same reason.NotOpened = refl
 reason-same reason.NoContentType = refl
 
@@ -118,8 +121,8 @@ Shown t = flatReading (t .reading) (t .nonce) .nonce ≡ t .nonce
 
 module _ (k : RecvKeys) (b : Datagram) where
   nonce-judged : (e : RecvEpochEntry) (a : Ask) (n : ℕ) → Shown (judged e b a n)
-  unfolding judged openingAsked
-  nonce-judged e a n = by-test Shown (λ t. refl) (λ t. by-test Shown (λ u. refl) (λ u. refl))
+  unfolding openingAsked
+  nonce-judged e a n = by-judged e b a n Shown (λ r. refl) (λ small fresh. refl)
 
   nonce-masked : (f : Found) (a : Ask) (m d : List ℕ) → Shown (maskedBy f k b a m d .0)
   unfolding maskedBy maskedAt

@@ -266,7 +266,7 @@ OwedIn i («husk_receiving_release_application_data» r v) = r ≡ 0
 OwedIn i («husk_receiving_begin» r v d) = r ≡ beginOwed d
 OwedIn i («husk_receiving_begin_read» r v d) = (16384 < length d → r ≡ refusedTold 1) × (length d ≤ 16384 → Proper aRead nothing (readingOf r) × Whole r)
 OwedIn i («husk_receiving_read» r v) = Proper aRead (i .into .account .waits) (readingOf r) × Whole r
-OwedIn i («husk_receiving_mask» r v m n e) = Proper aMaskReply (i .into .account .waits) (readingOf r) × Whole r
+OwedIn i («husk_receiving_mask» r v m n e) = Proper (aMaskReply (m ∷ n ∷ [])) (i .into .account .waits) (readingOf r) × Whole r
 OwedIn i («husk_receiving_opened» r v o len) =
     (o ≤ 1 → Proper (anOpenReply (openingOf o len)) (i .into .account .waits) (readingOf r)) × (1 < o → r ≡ refusedTold 12) × Whole r
 OwedIn i («husk_receiving_read_over» r v d) = (readingOf r ≡ says.Reply) × Whole r

@@ -73,7 +73,7 @@ use Rattle.hosts_theorem.specs.Proof.{every-list-of-calls}
 
 -- every definition that the list computes with
 opened : Unit {0}
-unfolding base-bits.bit base-choose.choose base-choose.both base-choose.either base-parts.splice window-used.expected window-window.isFresh window-window.marking sequence-sequence.own sequence-sequence.below sequence-sequence.above sequence-sequence.nearest record-record.headerLen record-record.fragmentLen record-record.partialOf record-record.parseCiphertext record-record.isType record-record.parsed record-record.unifiedHeader dtls-aead-nonce.nonceOf incoming-inner.innerOf recv-keys-keys.fits recv-keys-keys.lastFit recv-keys-keys.find recv-keys-keys.orElse recv-keys-keys.two recv-keys-keys.resolve recv-keys-keys.wasFound recv-keys-keys.isKeyed recv-keys-keys.marked recv-keys-keys.appOne recv-keys-keys.apps recv-keys-keys.windowsSound recv-keys-keys.keysSound recv-keys-keys.isFull recv-keys-keys.installed datagram-datagram.askSound datagram-datagram.askKeyed datagram-datagram.openingSound datagram-datagram.questionSound datagram-datagram.isSound datagram-datagram.counted records-records.lockedStep records-records.sealedStep records-records.stepOf records-records.openingAsked records-records.askedAgain records-records.asking records-records.readStep mask-reply-mask.unmasked mask-reply-mask.rebuilt mask-reply-mask.judged mask-reply-mask.maskedAt mask-reply-mask.maskedBy mask-reply-mask.masking mask-reply-mask.maskStep opening-reply-opening.typed opening-reply-opening.openedAt opening-reply-opening.openedBy opening-reply-opening.openings opening-reply-opening.openedStep receiving-receiving.freshOf receiving-receiving.keyOf receiving-receiving.encryptOf receiving-receiving.beginOf queue-laid.trailerOf queue-laid.recordLen queue-laid.recordBytes queue-queue.isSetting queue-queue.isSound queue-queue.isReady queue-queue.slotOf queue-queue.lastLen queue-queue.tailOf queue-queue.placeOf queue-queue.grown queue-queue.laid queue-queue.startOf send-keys-keys.noEpoch send-keys-keys.noKeys send-keys-keys.isUsable send-keys-keys.isKeyed send-keys-keys.nextOf send-keys-keys.ivOf send-keys-keys.used send-keys-keys.sealedUpTo send-keys-keys.keyAnswer send-keys-keys.keyed outgoing-send.waitsBehind outgoing-send.laidState outgoing-send.laidMemory outgoing-send.sendAnswer outgoing-send.sendState outgoing-send.sendMemory outgoing-state.noWaiting outgoing-state.freshSending outgoing-state.started outgoing-state.isContentType outgoing-state.isAllowed outgoing-state.keyingState sealing-sealing.isSpan sealing-sealing.isHeld sealing-sealing.isAsked sealing-sealing.partStart sealing-sealing.questionOf sealing-sealing.maskedHeader sealing-sealing.behindOldest sealing-sealing.sealAnswer sealing-sealing.sealedState sealing-sealing.sealedMemory sealing-seek.nthOf sealing-seek.beyond sealing-seek.passed sealing-seek.foundAt sealing-seek.stepOf sealing-seek.seekStep sealing-seek.seek sealing-take.nextSlot sealing-take.takeAnswer sealing-take.takeState sealing-take.takeBuffer packed.ivOf recv-words.entriesOf recv-words.questionOf recv-words.isFlat send-words.lowsFrom send-words.isFlat recv-calls.firstReading recv-calls.firstState recv-flat.openingOf history-account.upd history-account.keyOwed history-account.keys history-account.resolvesTo history-account.sealedSize history-account.plainSize history-account.recordSize history-account.goodPlain history-receiver.beginOwed ends-sender.lends ends-ledger.joins ends-ledger.lays ends-ledger.isOld ends-ledger.keyNumber ends-ledger.keyed ends-ledger.isUsable ends-ledger.isType ends-ledger.isAllowed ends-ledger.hasKeys ends-ledger.queueNumber ends-ledger.sendNumber ends-ledger.after ends-ledger.sentBy hosts-log.reasonIn hosts-log.readingOf hosts-log.classVerdict hosts-log.replyIn flight-words.entriesOf flight-words.flatTo classify.isInside classify.isSound classify.isAfter classify.isBeyond classify.isGuarded classify.byType classify.classOf classify.classified classify-calls.notedBy classify-calls.heeded classify-calls.classIn classify-account.isPast classify-account.isDropped classify-account.typeOwed classify-account.sealedOwed classify-account.readingOwed
+unfolding base-bits.bit base-choose.choose base-choose.both base-choose.either base-parts.splice window-used.expected window-window.verdict window-window.marking sequence-sequence.own sequence-sequence.below sequence-sequence.above sequence-sequence.nearest record-record.headerLen record-record.fragmentLen record-record.partialOf record-record.parseCiphertext record-record.isType record-record.parsed record-record.unifiedHeader dtls-aead-nonce.nonceOf incoming-inner.innerOf recv-keys-keys.fits recv-keys-keys.lastFit recv-keys-keys.find recv-keys-keys.orElse recv-keys-keys.two recv-keys-keys.resolve recv-keys-keys.wasFound recv-keys-keys.isKeyed recv-keys-keys.marked recv-keys-keys.appOne recv-keys-keys.apps recv-keys-keys.windowsSound recv-keys-keys.keysSound recv-keys-keys.isFull recv-keys-keys.installed datagram-datagram.askSound datagram-datagram.askKeyed datagram-datagram.openingSound datagram-datagram.questionSound datagram-datagram.isSound datagram-datagram.counted records-records.lockedStep records-records.sealedStep records-records.stepOf records-records.openingAsked records-records.askedAgain records-records.asking records-records.readStep mask-reply-mask.unmasked mask-reply-mask.rebuilt mask-reply-mask.judged mask-reply-mask.maskedAt mask-reply-mask.maskedBy mask-reply-mask.masking mask-reply-mask.maskStep opening-reply-opening.typed opening-reply-opening.openedAt opening-reply-opening.openedBy opening-reply-opening.openings opening-reply-opening.openedStep receiving-receiving.freshOf receiving-receiving.keyOf receiving-receiving.encryptOf receiving-receiving.beginOf queue-laid.trailerOf queue-laid.recordLen queue-laid.recordBytes queue-queue.isSetting queue-queue.isSound queue-queue.isReady queue-queue.slotOf queue-queue.lastLen queue-queue.tailOf queue-queue.placeOf queue-queue.grown queue-queue.laid queue-queue.startOf send-keys-keys.noEpoch send-keys-keys.noKeys send-keys-keys.isUsable send-keys-keys.isKeyed send-keys-keys.nextOf send-keys-keys.ivOf send-keys-keys.used send-keys-keys.sealedUpTo send-keys-keys.keyAnswer send-keys-keys.keyed outgoing-send.waitsBehind outgoing-send.laidState outgoing-send.laidMemory outgoing-send.sendAnswer outgoing-send.sendState outgoing-send.sendMemory outgoing-state.noWaiting outgoing-state.freshSending outgoing-state.started outgoing-state.isContentType outgoing-state.isAllowed outgoing-state.keyingState sealing-sealing.isSpan sealing-sealing.isHeld sealing-sealing.isAsked sealing-sealing.partStart sealing-sealing.questionOf sealing-sealing.maskedHeader sealing-sealing.behindOldest sealing-sealing.sealAnswer sealing-sealing.sealedState sealing-sealing.sealedMemory sealing-seek.nthOf sealing-seek.beyond sealing-seek.passed sealing-seek.foundAt sealing-seek.stepOf sealing-seek.seekStep sealing-seek.seek sealing-take.nextSlot sealing-take.takeAnswer sealing-take.takeState sealing-take.takeBuffer packed.ivOf recv-words.entriesOf recv-words.questionOf recv-words.isFlat send-words.lowsFrom send-words.isFlat recv-calls.firstReading recv-calls.firstState recv-flat.openingOf history-account.upd history-account.keyOwed history-account.keys history-account.resolvesTo history-account.sealedSize history-account.plainSize history-account.recordSize history-account.goodPlain history-receiver.beginOwed ends-sender.lends ends-ledger.joins ends-ledger.lays ends-ledger.isOld ends-ledger.keyNumber ends-ledger.keyed ends-ledger.isUsable ends-ledger.isType ends-ledger.isAllowed ends-ledger.hasKeys ends-ledger.queueNumber ends-ledger.sendNumber ends-ledger.after ends-ledger.sentBy hosts-log.reasonIn hosts-log.readingOf hosts-log.classVerdict hosts-log.replyIn flight-words.entriesOf flight-words.flatTo classify.isInside classify.isSound classify.isAfter classify.isBeyond classify.isGuarded classify.byType classify.classOf classify.classified classify-calls.notedBy classify-calls.heeded classify-calls.classIn classify-account.isPast classify-account.isDropped classify-account.typeOwed classify-account.sealedOwed classify-account.readingOwed
 opened = tt
 
 -- ---- the calls

@@ -165,10 +165,10 @@ module _ (h : Incoming) (i : Inbound) (a : StandsIn h i) where
   read-square sealed r v m = ap (reads sealed i) (sym (at-own (outBy r v)) ∙ read-out r v (h .datagram) m ∙ at-own (readOut (y .state)))
 
   mask-square : (sealed : ℕ → List Sealed) (r : HuskReading) (v : List ℕ) (n₀ n₁ : ℕ) (e : List ℕ) → receive.MaskCall r v w n₀ n₁ e (h .datagram)
-      → logs i (maskBy y (outBy r v e)) (i .serial) unused ≡ does sealed i (mask· (receive.masks n₀ n₁))
+      → logs i (maskBy y (receive.masks n₀ n₁) (outBy r v e)) (i .serial) unused ≡ does sealed i (mask· (receive.masks n₀ n₁))
   unfolding afterMask
   mask-square sealed r v n₀ n₁ e m =
-      ap (λ (o : Out). logs i (maskBy y o) (i .serial) unused) (mask-out r v n₀ n₁ e (h .datagram) m ∙ at-own (maskOut (y .state) (receive.masks n₀ n₁)))
+      ap (λ (o : Out). logs i (maskBy y (receive.masks n₀ n₁) o) (i .serial) unused) (mask-out r v n₀ n₁ e (h .datagram) m ∙ at-own (maskOut (y .state) (receive.masks n₀ n₁)))
 
   abbrev opensTo : Opening → Out → Inbound
   opensTo p o = logs i (openBy y p o) (i .serial) (useOf (y .account .waits) p (fateOf (o .reading)))

@@ -55,14 +55,15 @@ use Rattle.hosts_theorem.specs.Memory.{Incoming, Outgoing, InCall, «hus
 abbrev pub flatRead : Read → HuskReading
 flatRead k = flatReading (k .reading) (k .nonce)
 
--- 01's numbers of the refusals that drop one record
+-- the numbers of the refusals that drop one record, 01's and 02's
 unfoldable pub reasonIn : ℕ → Reason
 reasonIn n =
     choose (eqb n 4) reason.Invalid
     (choose (eqb n 5) reason.EarlyBits
     (choose (eqb n 6) reason.NoKeys
     (choose (eqb n 7) reason.TooShort
-    (choose (eqb n 8) reason.TooHigh (choose (eqb n 9) reason.Replayed (choose (eqb n 10) reason.NotOpened reason.NoContentType))))))
+    (choose (eqb n 8) reason.TooHigh
+    (choose (eqb n 9) reason.Seen (choose (eqb n 26) reason.TooOld (choose (eqb n 10) reason.NotOpened reason.NoContentType)))))))
 
 -- by its kind, as the header lists them: refused, the datagram's end, a record dropped, plaintext, unopened, opened; a mask or an opening asked
 unfoldable pub readingOf : HuskReading → Reading
@@ -78,14 +79,15 @@ readingOf r =
 
 -- ---- and how the header has each reading told, by its own numbers
 
--- 01's numbers of the refusals that drop one record
+-- the numbers of the refusals that drop one record, 01's and 02's
 abbrev pub reasonTold : Reason → ℕ
 reasonTold reason.Invalid = 4
 reasonTold reason.EarlyBits = 5
 reasonTold reason.NoKeys = 6
 reasonTold reason.TooShort = 7
 reasonTold reason.TooHigh = 8
-reasonTold reason.Replayed = 9
+reasonTold reason.Seen = 9
+reasonTold reason.TooOld = 26
 reasonTold reason.NotOpened = 10
 reasonTold reason.NoContentType = 11
 
@@ -185,7 +187,7 @@ enteredIn sealed i («husk_receiving_begin» r v d) = choose (eqb r 0) (accepted
 enteredIn sealed i («husk_receiving_begin_read» r v d) =
     choose (ltb 16384 (length d)) (refused i (stateOf v) (r .refusal) d) (reads sealed (accepted i (i .into .state) 0 d) (outBy r v d))
 enteredIn sealed i («husk_receiving_read» r v) = reads sealed i (outBy r v (i .into .datagram))
-enteredIn sealed i («husk_receiving_mask» r v m n e) = logs i (maskBy (i .into) (outBy r v e)) (i .serial) unused
+enteredIn sealed i («husk_receiving_mask» r v m n e) = logs i (maskBy (i .into) (m ∷ n ∷ []) (outBy r v e)) (i .serial) unused
 -- a reply is 0 or 1
 enteredIn sealed i («husk_receiving_opened» r v o len) =
     choose (leb o 1)

@@ -2,6 +2,8 @@
 use mathlib.Core.Bool.{true, false}
 use Prim.Native.Nat.{ℕ}
 use Rattle.window.specs.declared.ReplayWindow.{ReplayWindow}
+use Rattle.window.specs.declared.Verdict.the-variants as number
+use Rattle.window.specs.declared.Verdict.{Verdict}
 use Rattle.record.specs.declared.Ciphertext.{Ciphertext}
 use Rattle.record.specs.declared.Parsed.{Parsed}
 use Rattle.record.specs.declared.Plaintext.{Plaintext}
@@ -21,6 +23,11 @@ windowOf w = record { «max_seq» = w .«max_seq»; window = w .window }
 
 abbrev pub flatWindow : ReplayWindow → LeavesWindow
 flatWindow w = record { «max_seq» = w .«max_seq»; window = w .window }
+
+abbrev pub verdictNumber : Verdict → ℕ
+verdictNumber number.Fresh = 0
+verdictNumber number.Seen = 1
+verdictNumber number.TooOld = 2
 
 -- a kind that has only a header and a length
 abbrev pub bare : ℕ → ℕ → ℕ → LeavesParsed

@@ -1,12 +1,12 @@
 // The leaves as C functions over flat structs: a static library for hosts and for comparing with the Rust.
 ghost use mathlib.Core.Path.{_≡_};
-ghost use Rattle.window.specs.Window.{unmarked, isFresh, marking};
+ghost use Rattle.window.specs.Window.{unmarked, verdict, marking};
 ghost use Rattle.sequence.specs.Sequence.{blockOf, nearest};
 ghost use Rattle.dtls_aead.specs.Nonce.{nonceOf};
 ghost use Rattle.record.specs.Record.{parsed, plaintextHeader, unifiedHeader};
 ghost use Rattle.handshake.specs.Header.{headerBytes, parseHeader};
 ghost use Rattle.incoming.specs.Inner.{innerOf};
-ghost use Rattle.leaves.specs.Flat.{windowOf, flatWindow, bare, flatPlaintext, flatCiphertext, flatParsed, flatHeader, flatInner};
+ghost use Rattle.leaves.specs.Flat.{windowOf, flatWindow, verdictNumber, bare, flatPlaintext, flatCiphertext, flatParsed, flatHeader, flatInner};
 use handshake::Header;
 use handshake::ParsedHeader;
 use incoming::Inner;
@@ -15,6 +15,7 @@ use record::PLAINTEXT_HEADER_LEN;
 use record::Parsed;
 use record::Plaintext;
 use window::ReplayWindow;
+use window::Verdict;
 
 #[repr(C)]
 pub struct LeavesWindow {
@@ -82,15 +83,26 @@ pub extern "C" fn leaves_window_new() -> LeavesWindow
     }
 }
 
+// 0 fresh, 1 seen, 2 too old.
+fn verdict_number(v: Verdict) -> u8
+    ensures { λ r. ⌜ r ≡ verdictNumber v ⌝ }
+{
+    match v {
+        Verdict::Fresh => 0,
+        Verdict::Seen => 1,
+        Verdict::TooOld => 2,
+    }
+}
+
 #[no_mangle]
-pub extern "C" fn leaves_window_check(w: LeavesWindow, seqno: u64) -> bool
-    ensures { λ r. ⌜ r ≡ isFresh (windowOf w) seqno ⌝ }
+pub extern "C" fn leaves_window_check(w: LeavesWindow, seqno: u64) -> u8
+    ensures { λ r. ⌜ r ≡ verdictNumber (verdict (windowOf w) seqno) ⌝ }
 {
     let v = ReplayWindow {
         max_seq: w.max_seq,
         window: w.window,
     };
-    v.check(seqno)
+    verdict_number(v.check(seqno))
 }
 
 #[no_mangle]

@@ -1,6 +1,5 @@
 -- A mask reply keeps the ranges, and where it is refused, 12 or 15, state and datagram. Assumes nothing.
 use Prim.Native.Nat.{ℕ, _-_}
-use borrow.Author.Tests.{ltb-false}
 use mathlib.Core.Bool.{true}
 use mathlib.Core.List.{List}
 use mathlib.Core.Path.{_≡_, refl}
@@ -18,18 +17,17 @@ use Rattle.recv_keys.specs.declared.Found.the-variants as found
 use Rattle.recv_keys.specs.declared.Found.{Found}
 use Rattle.recv_keys.specs.declared.RecvEpochEntry.{RecvEpochEntry}
 use Rattle.recv_keys.specs.declared.RecvKeys.{RecvKeys}
+use Rattle.mask_reply.specs.Leads.{by-judged}
 use Rattle.mask_reply.specs.Mask.{judged, maskedAt, maskedBy, masking, maskStep}
 
 -- ---- the mask
 
 module _ (k : RecvKeys) (b : Datagram) (a : Ask) (r : Ready k b) (h : Held k a (b .size - b .at)) where
   judged-keeps : (e : RecvEpochEntry) (n : ℕ) → Good k (judged e b a n)
-  unfolding judged openingAsked questionSound
+  unfolding openingAsked questionSound
   judged-keeps e n =
-      by-test (Good k) (λ t. passed-keeps k b _ r (end-fits k b a r h))
-      (λ t. by-test (Good k)
-      (λ u. question-keeps k b (question.Opening a n) r (is-held-opening k a n _ (ltb-false 0xFFFF_FFFF_FFFF n t) h))
-      (λ u. passed-keeps k b _ r (end-fits k b a r h)))
+      by-judged e b a n (Good k) (λ x. passed-keeps k b _ r (end-fits k b a r h))
+      (λ small fresh. question-keeps k b (question.Opening a n) r (is-held-opening k a n _ small h))
 
   masked-keeps : (m d : List ℕ) (f : Found) → Good k (maskedBy f k b a m d .0)
   unfolding maskedBy maskedAt
@@ -51,8 +49,8 @@ mask-keeps k b m d t =
     is-ready k _ (by-test P (λ u. by-test P (λ v. masking-keeps k b m d (b .question) r (r .question)) (λ v. r)) (λ u. r))
 
 pub judged-goes : (e : RecvEpochEntry) (b : Datagram) (a : Ask) (n : ℕ) → Goes (judged e b a n)
-unfolding judged openingAsked
-judged-goes e b a n = by-test Goes (λ t. refl) (λ t. by-test Goes (λ u. refl) (λ u. refl))
+unfolding openingAsked
+judged-goes e b a n = by-judged e b a n Goes (λ r. refl) (λ small fresh. refl)
 
 -- a mask that is refused writes nothing
 abbrev pub Rests : Datagram → List ℕ → Step × List ℕ → Type 0

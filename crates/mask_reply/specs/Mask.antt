@@ -1,4 +1,4 @@
--- The reply to a mask question (01, "Readings of an arriving datagram", refusals 8, 9 and 15; RFC 9147, sections 4.2.2, 4.2.3 and 4.5.1).
+-- The reply to a mask question (01, "Readings of an arriving datagram", refusals 8, 9 and 15; 02, 5, refusals 9 and 26; RFC 9147, sections 4.2.2, 4.2.3 and 4.5.1).
 use Prim.Native.Nat.{ℕ, _+_}
 use lib.Dec.{ltb, eqb}
 use lib.ListN.{length, getD, drop}
@@ -24,8 +24,10 @@ use Rattle.recv_keys.specs.declared.Found.{Found}
 use Rattle.recv_keys.specs.declared.RecvEpochEntry.{RecvEpochEntry}
 use Rattle.recv_keys.specs.declared.RecvKeys.{RecvKeys}
 use Rattle.sequence.specs.Sequence.{blockOf, nearest}
-use Rattle.window.specs.Window.{isFresh}
+use Rattle.window.specs.Window.{verdict}
 use Rattle.window.specs.declared.ReplayWindow.{ReplayWindow}
+use Rattle.window.specs.declared.Verdict.the-variants as number
+use Rattle.window.specs.declared.Verdict.{Verdict}
 
 -- ---- the mask
 
@@ -42,11 +44,17 @@ unmasked d at s m = splice (at + 1) (xors d (at + 1) (maskBytes s m)) d
 unfoldable pub rebuilt : ReplayWindow → ℕ → Bool → ℕ
 rebuilt w p s = nearest (blockOf s) p (expected w)
 
--- 8, 9, or the opening question
+-- by the window's verdict: the opening question; "9 now means seen and 26 means too old, in the same place"
+abbrev pub ruled : Verdict → RecvEpochEntry → Datagram → Ask → ℕ → Step
+ruled number.Fresh e b a n = openingAsked e b a n
+ruled number.Seen e b a n = passed b (endAsked b a) reason.Seen
+ruled number.TooOld e b a n = passed b (endAsked b a) reason.TooOld
+
+-- 8, then that verdict
 unfoldable pub judged : RecvEpochEntry → Datagram → Ask → ℕ → Step
 judged e b a n =
     choose (ltb 0xFFFF_FFFF_FFFF n) (passed b (endAsked b a) reason.TooHigh)
-    (choose (isFresh (e .replay) n) (openingAsked e b a n) (passed b (endAsked b a) reason.Replayed))
+    (ruled (verdict (e .replay) n) e b a n)
 
 unfoldable pub maskedAt : RecvEpochEntry → Datagram → Ask → List ℕ → List ℕ → Step × List ℕ
 maskedAt e b a m d = (

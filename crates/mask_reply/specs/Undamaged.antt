@@ -1,8 +1,7 @@
--- The mask that was put on asks the opening of an undamaged record under the number it was sealed with, if that number is within reach.
+-- The mask that was put on brings an undamaged record to the verdict on the number it was sealed with, if that number is within reach.
 -- Assumes nothing.
-use Prim.Native.Nat.{ℕ, zero, suc, _+_, _/_, _%_, _<_, _≤_, max}
+use Prim.Native.Nat.{ℕ, zero, suc, _+_, _*_, _/_, _%_, _<_, _≤_, max}
 use native.Mathlib.Nat.{div-one}
-use borrow.Author.Tests.{le-ltb}
 use lib.Bits.{bitXor}
 use lib.ListN.{length, getD, drop}
 use lib.Seq.{getD-drop, ext-getD}
@@ -20,7 +19,6 @@ use Rattle.datagram.specs.declared.Datagram.{Datagram}
 use Rattle.datagram.specs.declared.Question.the-variants as question
 use Rattle.datagram.specs.declared.Step.{Step}
 use Rattle.record.specs.Record.{sealedHead, partialOf, unifiedHeader}
-use Rattle.records.specs.Records.{openingAsked}
 use Rattle.recv_keys.specs.Keys.{entryAt, find}
 use Rattle.window.specs.Used.{expected}
 use Rattle.recv_keys.specs.declared.Found.the-variants as found
@@ -29,32 +27,56 @@ use Rattle.recv_keys.specs.declared.RecvEpochEntry.{RecvEpochEntry}
 use Rattle.recv_keys.specs.declared.RecvKeys.{RecvKeys}
 use Rattle.sequence.specs.Laws.{near}
 use Rattle.sequence.specs.Sequence.{blockOf}
-use Rattle.window.specs.Window.{isFresh}
+use Rattle.window.specs.Window.{verdict}
 use Rattle.window.specs.declared.ReplayWindow.{ReplayWindow}
-use Rattle.mask_reply.specs.Leads.{mask-asks}
-use Rattle.mask_reply.specs.Mask.{maskBytes, unmasked, rebuilt, judged, maskedAt, maskedBy, masking, maskStep}
+use Rattle.window.specs.declared.Verdict.{Verdict}
+use Rattle.mask_reply.specs.Leads.{mask-asks, judged-by}
+use Rattle.mask_reply.specs.Mask.{maskBytes, unmasked, rebuilt, ruled, judged, maskedAt, maskedBy, masking, maskStep}
 
 -- ---- the number bytes, unmasked
 
-module _ (d m : List ℕ) (at n : ℕ) (room : at + 2 < length d)
-    (high : getD d (at + 1) 0 ≡ bitXor (n / 256 % 256) (getD m 0 0)) (low : getD d (at + 2) 0 ≡ bitXor (n % 256) (getD m 1 0)) where
+module _ (d m : List ℕ) (at : ℕ) (room : at + 2 < length d) where
   byte-at : (i : ℕ) → i < 2 → getD (unmasked d at true m) (at + 1 + i) 0 ≡ getD (xors d (at + 1) (maskBytes true m)) i 0
   unfolding unmasked
   byte-at i h =
       sym (part-at (at + 1) 2 (unmasked d at true m) i h)
       ∙ ap (λ (l : List ℕ). getD l i 0) (splice-here (at + 1) (xors d (at + 1) (maskBytes true m)) d (omega arith))
 
-  first-byte : getD (drop at (unmasked d at true m)) 1 0 ≡ n / 256 % 256
-  first-byte =
+  first-under : getD (drop at (unmasked d at true m)) 1 0 ≡ bitXor (getD d (at + 1) 0) (getD m 0 0)
+  first-under =
       let e : at + 1 ≡ at + 1 + 0 = omega arith in
       getD-drop at (unmasked d at true m) 1 0 ∙ ap (λ (i : ℕ). getD (unmasked d at true m) i 0) e ∙ byte-at 0 (omega arith)
-      ∙ ap (λ (x : ℕ). bitXor x (getD m 0 0)) high ∙ xor-twice (n / 256 % 256) (getD m 0 0)
 
-  second-byte : getD (drop at (unmasked d at true m)) 2 0 ≡ n % 256
-  second-byte =
+  second-under : getD (drop at (unmasked d at true m)) 2 0 ≡ bitXor (getD d (at + 2) 0) (getD m 1 0)
+  second-under =
       let e : at + 2 ≡ at + 1 + 1 = omega arith in
       getD-drop at (unmasked d at true m) 2 0 ∙ ap (λ (i : ℕ). getD (unmasked d at true m) i 0) e ∙ byte-at 1 (omega arith)
-      ∙ ap (λ (i : ℕ). bitXor (getD d i 0) (getD m 1 0)) (sym e) ∙ ap (λ (x : ℕ). bitXor x (getD m 1 0)) low ∙ xor-twice (n % 256) (getD m 1 0)
+      ∙ ap (λ (i : ℕ). bitXor (getD d i 0) (getD m 1 0)) (sym e)
+
+  -- of any record: the bits that the mask brings out of two number bytes, and of one
+  pub two-under : partialOf (drop at (unmasked d at true m)) true ≡ bitXor (getD d (at + 1) 0) (getD m 0 0) * 256 + bitXor (getD d (at + 2) 0) (getD m 1 0)
+  unfolding partialOf
+  two-under = if-true _ _ refl ∙ pair
+    where
+      pair : beAt 2 (drop at (unmasked d at true m)) 1 ≡ bitXor (getD d (at + 1) 0) (getD m 0 0) * 256 + bitXor (getD d (at + 2) 0) (getD m 1 0)
+      pair = omega (arith, first-under, second-under)
+
+pub one-under : (d m : List ℕ) (at : ℕ) → at + 1 < length d → partialOf (drop at (unmasked d at false m)) false ≡ bitXor (getD d (at + 1) 0) (getD m 0 0)
+unfolding partialOf unmasked
+one-under d m at room =
+    let v : List ℕ = xors d (at + 1) (maskBytes false m) in
+    let e : at + 1 ≡ at + 1 + 0 = omega arith in
+    if-false _ _ refl ∙ getD-drop at (unmasked d at false m) 1 0 ∙ ap (λ (i : ℕ). getD (unmasked d at false m) i 0) e
+    ∙ sym (part-at (at + 1) 1 (unmasked d at false m) 0 (omega arith)) ∙ ap (λ (l : List ℕ). getD l 0 0) (splice-here (at + 1) v d (omega arith))
+
+-- of one that was sealed under n: the number's own
+module _ (d m : List ℕ) (at n : ℕ) (room : at + 2 < length d)
+    (high : getD d (at + 1) 0 ≡ bitXor (n / 256 % 256) (getD m 0 0)) (low : getD d (at + 2) 0 ≡ bitXor (n % 256) (getD m 1 0)) where
+  first-byte : getD (drop at (unmasked d at true m)) 1 0 ≡ n / 256 % 256
+  first-byte = first-under d m at room ∙ ap (λ (x : ℕ). bitXor x (getD m 0 0)) high ∙ xor-twice (n / 256 % 256) (getD m 0 0)
+
+  second-byte : getD (drop at (unmasked d at true m)) 2 0 ≡ n % 256
+  second-byte = second-under d m at room ∙ ap (λ (x : ℕ). bitXor x (getD m 1 0)) low ∙ xor-twice (n % 256) (getD m 1 0)
 
   -- they are the low 16 bits of the number
   pub number-bytes : partialOf (drop at (unmasked d at true m)) true ≡ n % 65536
@@ -67,13 +89,7 @@ module _ (d m : List ℕ) (at n : ℕ) (room : at + 2 < length d)
 -- a number of one byte: the low 8 bits
 pub number-byte : (d m : List ℕ) (at n : ℕ) → at + 1 < length d → getD d (at + 1) 0 ≡ bitXor (n % 256) (getD m 0 0)
     → partialOf (drop at (unmasked d at false m)) false ≡ n % 256
-unfolding partialOf unmasked
-number-byte d m at n room low =
-    let v : List ℕ = xors d (at + 1) (maskBytes false m) in
-    let e : at + 1 ≡ at + 1 + 0 = omega arith in
-    if-false _ _ refl ∙ getD-drop at (unmasked d at false m) 1 0 ∙ ap (λ (i : ℕ). getD (unmasked d at false m) i 0) e
-    ∙ sym (part-at (at + 1) 1 (unmasked d at false m) 0 (omega arith)) ∙ ap (λ (l : List ℕ). getD l 0 0) (splice-here (at + 1) v d (omega arith))
-    ∙ ap (λ (x : ℕ). bitXor x (getD m 0 0)) low ∙ xor-twice (n % 256) (getD m 0 0)
+number-byte d m at n room low = one-under d m at room ∙ ap (λ (x : ℕ). bitXor x (getD m 0 0)) low ∙ xor-twice (n % 256) (getD m 0 0)
 
 -- the header, unmasked, is the one that was sealed: the number in it is not masked
 module _ (d m : List ℕ) (at e n len : ℕ) (room : at + sealedHead ≤ length d)
@@ -132,23 +148,18 @@ pub rebuilt-near : (w : ReplayWindow) (s : Bool) (p n : ℕ) → p ≡ n % block
 unfolding rebuilt
 rebuilt-near w s p n e small above below = near s p (expected w) n (omega arith) (same-bits s p n e) above below
 
-judged-opens : (e : RecvEpochEntry) (b : Datagram) (a : Ask) (n : ℕ) → n ≤ 0xFFFF_FFFF_FFFF → isFresh (e .replay) n ≡ true
-    → judged e b a n ≡ openingAsked e b a n
-unfolding judged
-judged-opens e b a n small fresh = if-false _ _ (le-ltb 0xFFFF_FFFF_FFFF n small) ∙ if-true _ _ fresh
-
 module _ (k : RecvKeys) (b : Datagram) (a : Ask) (i n : ℕ) (m d : List ℕ) where
   -- number bytes of either width
-  opens : (s : Bool) → isSound k b ≡ true → length d ≡ b .size → b .question ≡ question.Mask a → find (k .entries) (a .epoch) (k .count) ≡ found.At i
+  rules : (s : Bool) → isSound k b ≡ true → length d ≡ b .size → b .question ≡ question.Mask a → find (k .entries) (a .epoch) (k .count) ≡ found.At i
       → a .«s_flag» ≡ s → partialOf (drop (b .at) (unmasked d (b .at) s m)) s ≡ n % blockOf s → n ≤ 0xFFFF_FFFF_FFFF
       → n < max (blockOf s) (expected (entryAt k i .replay) + blockOf s / 2) → expected (entryAt k i .replay) < n + blockOf s / 2
-      → isFresh (entryAt k i .replay) n ≡ true
-      → maskStep k b m d ≡ (openingAsked (entryAt k i) b a n, unmasked d (b .at) s m)
+      → (v : Verdict) → verdict (entryAt k i .replay) n ≡ v
+      → maskStep k b m d ≡ (ruled v (entryAt k i) b a n, unmasked d (b .at) s m)
   unfolding masking maskedBy maskedAt
-  opens s t l q f flag bits small above below fresh =
+  rules s t l q f flag bits small above below v is =
       mask-asks k b m d (question.Mask a) t l q ∙ ap (λ (x : Found). maskedBy x k b a m d) f ∙ ap (withFlag (entryAt k i) b a m d) flag
       ∙ ap (λ (x : ℕ). withNumber x) (rebuilt-near (entryAt k i .replay) s _ n bits small above below)
-      ∙ ap (λ (x : Step). withStep x) (judged-opens (entryAt k i) b a n small fresh)
+      ∙ ap (λ (x : Step). withStep x) (judged-by (entryAt k i) b a n v small is)
     where
       withNumber : ℕ → Step × List ℕ
       withNumber x = (judged (entryAt k i) b a x, unmasked d (b .at) s m)
@@ -157,18 +168,18 @@ module _ (k : RecvKeys) (b : Datagram) (a : Ask) (i n : ℕ) (m d : List ℕ) wh
       withStep x = (x, unmasked d (b .at) s m)
 
   -- two number bytes
-  pub mask-opens : isSound k b ≡ true → length d ≡ b .size → b .question ≡ question.Mask a → find (k .entries) (a .epoch) (k .count) ≡ found.At i
+  pub mask-rules : isSound k b ≡ true → length d ≡ b .size → b .question ≡ question.Mask a → find (k .entries) (a .epoch) (k .count) ≡ found.At i
       → a .«s_flag» ≡ true → b .at + 2 < length d
       → getD d (b .at + 1) 0 ≡ bitXor (n / 256 % 256) (getD m 0 0) → getD d (b .at + 2) 0 ≡ bitXor (n % 256) (getD m 1 0)
       → n ≤ 0xFFFF_FFFF_FFFF → n < max 65536 (expected (entryAt k i .replay) + 32768) → expected (entryAt k i .replay) < n + 32768
-      → isFresh (entryAt k i .replay) n ≡ true
-      → maskStep k b m d ≡ (openingAsked (entryAt k i) b a n, unmasked d (b .at) true m)
-  mask-opens t l q f s room high low = opens true t l q f s (number-bytes d m (b .at) n room high low)
+      → (v : Verdict) → verdict (entryAt k i .replay) n ≡ v
+      → maskStep k b m d ≡ (ruled v (entryAt k i) b a n, unmasked d (b .at) true m)
+  mask-rules t l q f s room high low = rules true t l q f s (number-bytes d m (b .at) n room high low)
 
   -- one number byte
-  pub mask-opens-short : isSound k b ≡ true → length d ≡ b .size → b .question ≡ question.Mask a → find (k .entries) (a .epoch) (k .count) ≡ found.At i
+  pub mask-rules-short : isSound k b ≡ true → length d ≡ b .size → b .question ≡ question.Mask a → find (k .entries) (a .epoch) (k .count) ≡ found.At i
       → a .«s_flag» ≡ false → b .at + 1 < length d → getD d (b .at + 1) 0 ≡ bitXor (n % 256) (getD m 0 0)
       → n ≤ 0xFFFF_FFFF_FFFF → n < max 256 (expected (entryAt k i .replay) + 128) → expected (entryAt k i .replay) < n + 128
-      → isFresh (entryAt k i .replay) n ≡ true
-      → maskStep k b m d ≡ (openingAsked (entryAt k i) b a n, unmasked d (b .at) false m)
-  mask-opens-short t l q f s room low = opens false t l q f s (number-byte d m (b .at) n room low)
+      → (v : Verdict) → verdict (entryAt k i .replay) n ≡ v
+      → maskStep k b m d ≡ (ruled v (entryAt k i) b a n, unmasked d (b .at) false m)
+  mask-rules-short t l q f s room low = rules false t l q f s (number-byte d m (b .at) n room low)

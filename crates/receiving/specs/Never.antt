@@ -49,7 +49,8 @@ reason-not reason.EarlyBits e = omega arith
 reason-not reason.NoKeys e = omega arith
 reason-not reason.TooShort e = omega arith
 reason-not reason.TooHigh e = omega arith
-reason-not reason.Replayed e = omega arith
+reason-not reason.Seen e = omega arith
+reason-not reason.TooOld e = omega arith
 reason-not reason.NotOpened e = omega arith
 reason-not reason.NoContentType e = omega arith
 

@@ -18,7 +18,7 @@ use Rattle.recv_keys.specs.Keys.{fits, lastFit, find, orElse, two, resolve, was
 use Rattle.recv_keys.specs.declared.Found.the-variants.{At, Nothing}
 use Rattle.sequence.specs.Sequence.{own, below, above, nearest}
 use Rattle.window.specs.Used.{expected}
-use Rattle.window.specs.Window.{isFresh}
+use Rattle.window.specs.Window.{verdict}
 use Rattle.receiving.specs.Receiving.{freshOf, keyOf, encryptOf, releaseOf, removeOf, removedBy, leaving, beginOf, readOf, maskOf}
 use Rattle.receiving.specs.declared.Receiving.{Receiving}
 
@@ -50,5 +50,5 @@ firstAsked d =
 -- 02, 1: its opening under the number that its bits are, 200 of one byte and 40,000 of two
 first-numbers :
     (firstAsked (0x23 ∷ 200 ∷ replicate 16 0) ≡ Opening 3 200 0 2 16) × (firstAsked (0x2B ∷ 0x9C ∷ 0x40 ∷ replicate 16 0) ≡ Opening 3 40000 0 3 16)
-unfolding choose both either splice bit askSound askKeyed openingSound questionSound isSound counted nonceOf unmasked rebuilt judged maskedAt maskedBy masking maskStep freshOf keyOf encryptOf beginOf headerLen fragmentLen partialOf parseCiphertext isType isVersion isPlaintext parsePlaintext parsed lockedStep sealedStep stepOf openingAsked askedAgain asking readStep fits lastFit find orElse two resolve wasFound isKeyed appOne apps windowsSound keysSound isFull installed own below above nearest expected isFresh
+unfolding choose both either splice bit askSound askKeyed openingSound questionSound isSound counted nonceOf unmasked rebuilt judged maskedAt maskedBy masking maskStep freshOf keyOf encryptOf beginOf headerLen fragmentLen partialOf parseCiphertext isType isVersion isPlaintext parsePlaintext parsed lockedStep sealedStep stepOf openingAsked askedAgain asking readStep fits lastFit find orElse two resolve wasFound isKeyed appOne apps windowsSound keysSound isFull installed own below above nearest expected verdict
 first-numbers = (refl, refl)

@@ -21,6 +21,7 @@ use Rattle.datagram.specs.declared.Step.{Step}
 use Rattle.incoming.specs.Inner.{innerOf, zeros, inner-holds}
 use Rattle.incoming.specs.declared.Inner.the-variants as inner
 use Rattle.incoming.specs.declared.Inner.{Inner}
+use Rattle.mask_reply.specs.Leads.{by-judged}
 use Rattle.mask_reply.specs.Mask.{judged, maskedAt, maskedBy, masking, maskStep}
 use Rattle.opening_reply.specs.Opening.{typed, openedAt, openedBy, openings, openedStep}
 use Rattle.opening_reply.specs.declared.Marked.{Marked}
@@ -128,9 +129,7 @@ read-within s d =
 
 module _ (k : RecvKeys) (b : Datagram) (r : Ready k b) (a : Ask) (h : Held k a (b .size - b .at)) where
   judged-lies : (e : RecvEpochEntry) (n : ℕ) → Lies (b .size) (judged e b a n)
-  unfolding judged
-  judged-lies e n =
-      by-test (Lies (b .size)) (λ t. tt) (λ t. by-test (Lies (b .size)) (λ u. opening-lies k b r a h e n) (λ u. tt))
+  judged-lies e n = by-judged e b a n (Lies (b .size)) (λ x. tt) (λ small fresh. opening-lies k b r a h e n)
 
   masked-lies : (m d : List ℕ) (f : Found) → Lies (b .size) (maskedBy f k b a m d .0)
   unfolding maskedBy maskedAt

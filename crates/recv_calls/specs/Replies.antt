@@ -9,7 +9,7 @@ use lib.Dec.{leb}
 use lib.ListN.{length, getD}
 use Rattle.base.specs.Choose.{by-test, if-true, if-false, both-true}
 use Rattle.base.specs.Parts.{part}
-use Rattle.datagram.specs.Datagram.{isSound, zeros, told, moved, counted, endAsked}
+use Rattle.datagram.specs.Datagram.{isSound, zeros, told, moved, passed, counted, endAsked}
 use Rattle.datagram.specs.Sound.{Held, Ready, held-mask, held-open, ready}
 use Rattle.datagram.specs.declared.Ask.{Ask}
 use Rattle.datagram.specs.declared.Datagram.{Datagram}
@@ -17,11 +17,14 @@ use Rattle.datagram.specs.declared.Question.the-variants as question
 use Rattle.datagram.specs.declared.Question.{Question}
 use Rattle.datagram.specs.declared.Reading.the-variants as says
 use Rattle.datagram.specs.declared.Reading.{Reading}
+use Rattle.datagram.specs.declared.Reason.the-variants as reason
+use Rattle.datagram.specs.declared.Reason.{Reason}
 use Rattle.datagram.specs.declared.Step.{Step}
 use Rattle.dtls_aead.specs.Nonce.{nonceOf}
 use Rattle.incoming.specs.Inner.{innerOf}
 use Rattle.incoming.specs.declared.Inner.the-variants as inner
 use Rattle.incoming.specs.declared.Inner.{Inner}
+use Rattle.mask_reply.specs.Leads.{judged-by}
 use Rattle.mask_reply.specs.Mask.{judged, masking, maskStep}
 use Rattle.opening_reply.specs.Opening.{still, typed, openedAt, openings, openedStep}
 use Rattle.opening_reply.specs.declared.Marked.{Marked}
@@ -34,10 +37,11 @@ use Rattle.recv_keys.specs.declared.RecvEpochEntry.{RecvEpochEntry}
 use Rattle.recv_keys.specs.declared.RecvKeys.{RecvKeys}
 use Rattle.recv_words.specs.Laws.{Marks, Lies, skipped, opening, entry-at}
 use Rattle.recv_words.specs.Words.{question-at, ivAt, keysOf, askOf, askNumber, questionOf, datagramOf, isFlat}
-use Rattle.window.specs.Window.{isFresh}
+use Rattle.window.specs.Window.{verdict}
+use Rattle.window.specs.declared.Verdict.the-variants as number
 use Rattle.words.specs.Packed.{ivOf}
 use Rattle.recv_calls.specs.Calls.{Stepped, masks, MaskCall, OpenedCall}
-use Rattle.recv_calls.specs.Flat.{bare, shown, asked, flatReading, openingOf}
+use Rattle.recv_calls.specs.Flat.{reasonOf, bare, shown, asked, flatReading, openingOf}
 use Rattle.recv_calls.specs.Laws.{state-by}
 use Rattle.recv_calls.specs.declared.HuskReading.{HuskReading}
 use Rattle.recv_calls.specs.declared.Reply.{Reply}
@@ -155,24 +159,32 @@ opens-as r v w o len d l f h = (
 -- ---- the number judged
 
 module _ (w v : List ℕ) (r : HuskReading) (i n : ℕ) (l : i < 5) (f : isFlat w ≡ true) where
-  -- 8
-  pub judged-high : 0xFFFF_FFFF_FFFF < n → r ≡ bare 2 8 → Lies (skipped w) w v → Stepped r v w (judged (entryAt (keysOf w) i) (datagramOf w) (askOf w) n)
-  unfolding judged
-  judged-high h e s = subst (Stepped r v w) (sym (if-true _ _ (lt-ltb _ _ h))) (e, s .keys, s .datagram, s .flat f)
+  abbrev Judges : Type 0
+  Judges = Stepped r v w (judged (entryAt (keysOf w) i) (datagramOf w) (askOf w) n)
 
-  -- 9
-  pub judged-replayed : n ≤ 0xFFFF_FFFF_FFFF → isFresh (entryAt (keysOf w) i .replay) n ≡ false → r ≡ bare 2 9 → Lies (skipped w) w v
-      → Stepped r v w (judged (entryAt (keysOf w) i) (datagramOf w) (askOf w) n)
-  unfolding judged
-  judged-replayed h t e s =
-      subst (Stepped r v w) (sym (if-false _ _ (le-ltb _ _ h) ∙ if-false _ _ t)) (e, s .keys, s .datagram, s .flat f)
+  -- what a dropped record leaves, with the refusal told
+  abbrev Left : ℕ → Type 0
+  Left refusal = (r ≡ bare 2 refusal) × Lies (skipped w) w v
 
-  -- the opening question
-  pub judged-fresh : n ≤ 0xFFFF_FFFF_FFFF → isFresh (entryAt (keysOf w) i .replay) n ≡ true → r ≡ askedAt w i n → Lies (opening w n) w v
-      → Stepped r v w (judged (entryAt (keysOf w) i) (datagramOf w) (askOf w) n)
-  unfolding judged openingAsked
-  judged-fresh h t e s =
-      subst (Stepped r v w) (sym (if-false _ _ (le-ltb _ _ h) ∙ if-true _ _ t)) (e ∙ asked-entry w i n l, s .keys, s .datagram, s .flat f)
+  left-by : (x : Reason) → judged (entryAt (keysOf w) i) (datagramOf w) (askOf w) n ≡ passed (datagramOf w) (endAsked (datagramOf w) (askOf w)) x
+      → Left (reasonOf x) → Judges
+  left-by x q s = subst (Stepped r v w) (sym q) (s .0, s .1 .keys, s .1 .datagram, s .1 .flat f)
+
+  pub judged-high : 0xFFFF_FFFF_FFFF < n → Left 8 → Judges
+  judged-high h s = left-by reason.TooHigh (unfold judged in (if-true _ _ (lt-ltb _ _ h))) s
+
+  module _ (h : n ≤ 0xFFFF_FFFF_FFFF) where
+    pub judged-seen : verdict (entryAt (keysOf w) i .replay) n ≡ number.Seen → Left 9 → Judges
+    judged-seen t s = left-by reason.Seen (judged-by _ _ _ n number.Seen h t) s
+
+    pub judged-old : verdict (entryAt (keysOf w) i .replay) n ≡ number.TooOld → Left 26 → Judges
+    judged-old t s = left-by reason.TooOld (judged-by _ _ _ n number.TooOld h t) s
+
+    -- the opening question
+    pub judged-fresh : verdict (entryAt (keysOf w) i .replay) n ≡ number.Fresh → (r ≡ askedAt w i n) × Lies (opening w n) w v → Judges
+    judged-fresh t s =
+        subst (Stepped r v w) (sym (judged-by _ _ _ n number.Fresh h t))
+        (unfold openingAsked in (s .0 ∙ asked-entry w i n l, s .1 .keys, s .1 .datagram, s .1 .flat f))
 
 -- refused: the words and the bytes as they were
 pub mask-refused : (r : HuskReading) (w m d : List ℕ) (g : Reading) → isFlat w ≡ true → r ≡ flatReading g zeros

@@ -10,6 +10,7 @@ ghost use Rattle.opening_reply.specs.Opening.{typed, openedAt, openedBy, opened
 ghost use Rattle.opening_reply.specs.declared.Opening.the-variants as Opening;
 ghost use Rattle.recv_keys.specs.Keys.{mostEpochs, entryAt, find};
 ghost use Rattle.recv_words.specs.Words.{entriesOf, keysOf, askOf, askNumber, datagramOf, isFlat};
+ghost use Rattle.recv_words.specs.Laws.{Lies, skipped, opening};
 ghost use Rattle.records.specs.Records.{readStep};
 ghost use Rattle.recv_steps.specs.Goes.{Goes};
 ghost use Rattle.recv_calls.specs.Replies.{MaskWaits, OpeningWaits, Fits, laid, askedAt, Marked-as};
@@ -50,11 +51,12 @@ use recv_words::QUESTION;
 use recv_words::READINGS;
 use recv_words::SIZE;
 use recv_words::WORDS;
+use window::Verdict;
 
 // What a call says of the record at the cursor, by kind:
 //   0 refused by 1, 12 or 15, and nothing has changed;
 //   1 the datagram ends, without a fault or by 2 or 3;
-//   2 a record is dropped by 4 to 11;
+//   2 a record is dropped by 4 to 11 or 26;
 //   3 a plaintext record: type, number, and where its content is;
 //   4 a sealed record, unopened: epoch bits in place of the epoch, number, and where its protected part is;
 //   5 an opened record: epoch, number, type, and where its content is;
@@ -113,7 +115,8 @@ fn reason_of(r: Reason) -> u8
         Reason::NoKeys => 6,
         Reason::TooShort => 7,
         Reason::TooHigh => 8,
-        Reason::Replayed => 9,
+        Reason::Seen => 9,
+        Reason::TooOld => 26,
         Reason::NotOpened => 10,
         Reason::NoContentType => 11,
     }
@@ -418,23 +421,39 @@ fn lay(r: Reply) -> HuskReading
     }
 }
 
+// The record at the cursor is dropped.
+fn leave(w: &mut [u64; WORDS], refusal: u8) -> Reply
+    requires { ⌜ Fits (now w) ⌝ }
+    ensures { λ r. ⌜ (laid r ≡ bare 2 refusal) × Lies (skipped (now (w .entry))) (now (w .entry)) (now (w .exit)) ⌝ }
+{
+    recv_words::skip(w);
+    no_reply(2, refusal)
+}
+
+// Its opening is asked for, and the question waits.
+fn ask(w: &mut [u64; WORDS], i: usize, number: u64) -> Reply
+    requires { ⌜ i < mostEpochs ⌝ }
+    ensures { λ r. ⌜ (laid r ≡ askedAt (now (w .entry)) i number) × Lies (opening (now (w .entry)) number) (now (w .entry)) (now (w .exit)) ⌝ }
+{
+    let r = open_question(w, i, number);
+    recv_words::ask_opening(w, number);
+    r
+}
+
 // The number, tested between mask and opening.
 fn judge(w: &mut [u64; WORDS], i: usize, number: u64) -> Reply
     requires { ⌜ (i < mostEpochs) × (isFlat (now w) ≡ true) × Fits (now w) ⌝ }
     ensures { λ r. ⌜ Stepped (laid r) (now (w .exit)) (now (w .entry)) (judged (entryAt (keysOf (now (w .entry))) i) (datagramOf (now (w .entry))) (askOf (now (w .entry))) number) ⌝ }
 {
     if 0xFFFF_FFFF_FFFF < number {
-        recv_words::skip(w);
-        return no_reply(2, 8);
+        return leave(w, 8);
     }
     let v = recv_words::window_at(w, i);
-    if v.check(number) {
-        let r = open_question(w, i, number);
-        recv_words::ask_opening(w, number);
-        return r;
+    match v.check(number) {
+        Verdict::Fresh => ask(w, i, number),
+        Verdict::Seen => leave(w, 9),
+        Verdict::TooOld => leave(w, 26),
     }
-    recv_words::skip(w);
-    no_reply(2, 9)
 }
 
 // The mask of a record of the entry at i.

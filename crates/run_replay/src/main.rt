@@ -6,15 +6,9 @@ use handshake::ParsedHeader;
 use incoming::Inner;
 use record::Parsed;
 use window::ReplayWindow;
+use window::Verdict;
 
-fn push_bool(out: &mut [u8], at: usize, b: bool) -> usize {
-    if b {
-        return run_lines::push(out, at, 1);
-    }
-    run_lines::push(out, at, 0)
-}
-
-// A step of a script over a window: 1 marks a number, 0 asks whether it is fresh.
+// A step of a script over a window: 1 marks a number, 0 asks for the verdict on it.
 fn stepped(w: ReplayWindow, op: u8, seqno: u64) -> ReplayWindow {
     if op == 1 {
         return w.update(seqno);
@@ -26,7 +20,11 @@ fn push_verdict(out: &mut [u8], at: usize, w: ReplayWindow, op: u8, seqno: u64) 
     if op == 1 {
         return at;
     }
-    push_bool(out, at, w.check(seqno))
+    match w.check(seqno) {
+        Verdict::Fresh => run_lines::push(out, at, 0),
+        Verdict::Seen => run_lines::push(out, at, 1),
+        Verdict::TooOld => run_lines::push(out, at, 2),
+    }
 }
 
 // A script of such steps over a new window, nine bytes each.

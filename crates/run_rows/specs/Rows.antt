@@ -16,13 +16,15 @@ use Rattle.outgoing.specs.State.{freshSending}
 use Rattle.messages.specs.Cut.{epochOf, overhead, pieceSize, cutBehind, cutNext, pieces}
 use Rattle.sequence.specs.Sequence.{blockOf, own, below, above, nearest}
 use Rattle.window.specs.declared.ReplayWindow.{ReplayWindow}
-use Rattle.window.specs.Window.{unmarked, isFresh, marking}
+use Rattle.window.specs.declared.Verdict.the-variants.{Fresh, Seen, TooOld}
+use Rattle.window.specs.declared.Verdict.{Verdict}
+use Rattle.window.specs.Window.{unmarked, verdict, marking}
 
 pub data Row : Type 0 where
   -- whether 16 bits were received (else 8), e, the bits; the number rebuilt
   rebuilt : Bool → ℕ → ℕ → ℕ → Row
-  -- the numbers marked in a new window, one asked; whether it is fresh
-  window : List ℕ → ℕ → Bool → Row
+  -- the numbers marked in a new window, one asked; the verdict on it
+  window : List ℕ → ℕ → Verdict → Row
   -- a sealed record's epoch, number, length of content, type and tag; the bytes of its header
   header : ℕ → ℕ → ℕ → List ℕ → Row
   -- a handshake type; the overhead of its pieces
@@ -53,12 +55,14 @@ table =
     ∷ rebuilt false 200 72 72
     ∷ rebuilt false 0 128 128
     ∷ rebuilt false 0 200 200
-    -- "* New window: 0 fresh; * marked, not fresh. * After 100: 37 fresh, * 36 not. * After 5 then 68: 5 not fresh"
-    ∷ window [] 0 true
-    ∷ window (0 ∷ []) 0 false
-    ∷ window (100 ∷ []) 37 true
-    ∷ window (100 ∷ []) 36 false
-    ∷ window (5 ∷ 68 ∷ []) 5 false
+    -- "* New window: 0 fresh; * marked, not fresh. * After 100: 37 fresh, * 36 not. * After 5 then 68: 5 not fresh"; 02, 5: "Row "36 after 100" is
+    -- too old; "5 after 5 then 68" is seen", and 64 or more below "too old even if it was used"
+    ∷ window [] 0 Fresh
+    ∷ window (0 ∷ []) 0 Seen
+    ∷ window (100 ∷ []) 37 Fresh
+    ∷ window (100 ∷ []) 36 TooOld
+    ∷ window (5 ∷ 68 ∷ []) 5 Seen
+    ∷ window (5 ∷ 69 ∷ []) 5 TooOld
     -- "* MTU 576, empty queue, epoch 2, body 1,000: pieces 542 and 458, datagrams 576 and 492. First record begins 0x2E, length 0x023B"
     ∷ over certificate 34
     ∷ cut 576 certificate [] 1000 (542 ∷ 458 ∷ [])
@@ -78,6 +82,17 @@ table =
 pub same : Bool → Bool → Bool
 same true b = b
 same false b = not b
+
+pub same-verdict : Verdict → Verdict → Bool
+same-verdict Fresh Fresh = true
+same-verdict Fresh Seen = false
+same-verdict Fresh TooOld = false
+same-verdict Seen Fresh = false
+same-verdict Seen Seen = true
+same-verdict Seen TooOld = false
+same-verdict TooOld Fresh = false
+same-verdict TooOld Seen = false
+same-verdict TooOld TooOld = true
 
 pub same-list : List ℕ → List ℕ → Bool
 same-list [] [] = true
@@ -109,7 +124,7 @@ behind mtu kind ns = sent kind ns (freshSending mtu 16 .queue)
 
 pub right : Row → Bool
 right (rebuilt s e p n) = eqb (nearest (blockOf s) p e) n
-right (window ns n t) = same (isFresh (marked ns unmarked) n) t
+right (window ns n v) = same-verdict (verdict (marked ns unmarked) n) v
 right (header e n len bytes) = same-list (unifiedHeader e n len) bytes
 right (over kind n) = eqb (overhead (epochOf kind)) n
 right (cut mtu kind before n sizes) = same-list (cutAt kind (behind mtu kind before) n) sizes
@@ -121,5 +136,5 @@ all-right [] = true
 all-right (r ∷ rs) = right r && all-right rs
 
 pub rows-hold : all-right table ≡ true
-unfolding table all-right right same same-list marked cutAt laidAll sent behind choose both either unifiedHeader bit own below above nearest isFresh marking isSetting slotOf lastLen tailOf placeOf grown laid recordLen freshSending epochOf pieceSize cutNext pieces
+unfolding table all-right right same same-verdict same-list marked cutAt laidAll sent behind choose both either unifiedHeader bit own below above nearest verdict marking isSetting slotOf lastLen tailOf placeOf grown laid recordLen freshSending epochOf pieceSize cutNext pieces
 rows-hold = refl

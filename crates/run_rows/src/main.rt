@@ -1,5 +1,6 @@
 // The worked rows of 01 and 02, run through the code; what they must give stands in the file stdout.
 use window::ReplayWindow;
+use window::Verdict;
 
 fn line(text: &[u8]) {
     io::write_all(1, text);
@@ -12,13 +13,13 @@ fn rebuilt(text: &[u8], s_flag: bool, expected: u64, bits: u64) {
     line(b"\n");
 }
 
-// A row of the replay window: whether the code finds the number fresh.
+// A row of the replay window: the code's verdict on the number.
 fn verdict(text: &[u8], w: ReplayWindow, n: u64) {
     line(text);
-    if w.check(n) {
-        line(b"fresh\n");
-    } else {
-        line(b"not fresh\n");
+    match w.check(n) {
+        Verdict::Fresh => line(b"fresh\n"),
+        Verdict::Seen => line(b"seen\n"),
+        Verdict::TooOld => line(b"too old\n"),
     }
 }
 
@@ -50,6 +51,7 @@ fn main() {
     verdict(b"after 100, 36: ", high, 36);
     let five = new.update(5);
     verdict(b"after 5 then 68, 5: ", five.update(68), 5);
+    verdict(b"after 5 then 69, 5: ", five.update(69), 5);
     header(
         b"epoch 2, number 0, content 12 + 542, type and tag 17: ",
         2,

@@ -1,17 +1,19 @@
 -- The laws of the replay window, for every width above 0 and then at the width that it has: what is marked after a number is marked, and what
--- is fresh. Assumes nothing.
-use mathlib.Core.Bool.{Bool, true, false, true≢false}
-use mathlib.Core.Logic.{_⊎_, inl, inr, ⊎-elim}
-use mathlib.Core.Path.{_≡_, refl, sym, ap, _∙_}
+-- each verdict says. Assumes nothing.
+use mathlib.Core.Bool.{true, false}
+use mathlib.Core.Logic.{_⊎_, inl, inr, ⊎-elim, _↔_}
+use mathlib.Core.Path.{_≡_, refl, ap, subst, _∙_}
 use Prim.Native.Nat.{ℕ, _-_, _*_, _%_, _^_, _<_, _≤_, max}
 use native.Mathlib.Omega.{arith}
 use borrow.Author.Tests.{eqb-true, eqb-false}
 use lib.Bits.{bitOr}
 use lib.Dec.{eqb}
 use Rattle.base.specs.Bits.{bit, bit-lt, bit-or, bit-low, bit-shl, bit-shl-low, bit-of-one, bit-of-other}
-use Rattle.base.specs.Choose.{by-less, lt-or-ge, eq-or-ne, test-cases}
+use Rattle.base.specs.Choose.{by-test, by-less, lt-or-ge, eq-or-ne}
 use Rattle.window.specs.declared.ReplayWindow.{ReplayWindow}
-use Rattle.window.specs.Window.{MarkedOver, isFreshOver, markingOver, width, Marked, isFresh, marking}
+use Rattle.window.specs.declared.Verdict.{Verdict}
+use Rattle.window.specs.declared.Verdict.the-variants.{Fresh, Seen, TooOld}
+use Rattle.window.specs.Window.{MarkedOver, verdictOver, markingOver, width, Marked, verdict, marking}
 
 -- ---- over any width
 
@@ -22,10 +24,11 @@ pub record AfterOver (width : ℕ) (w : ReplayWindow) (n : ℕ) (v : ReplayWindo
   pub itself : v .«max_seq» - n < width → MarkedOver width v n
   pub kept : (k : ℕ) → MarkedOver width w k → v .«max_seq» - k < width → MarkedOver width v k
 
--- a verdict: fresh is within reach and not marked; not fresh is too old or marked
-pub record VerdictOver (width : ℕ) (w : ReplayWindow) (n : ℕ) (t : Bool) : Type 0 where
-  pub fresh : t ≡ true → (w .«max_seq» - n < width) × (MarkedOver width w n → ⊥)
-  pub stale : t ≡ false → (width ≤ w .«max_seq» - n) ⊎ MarkedOver width w n
+-- what each verdict says: fresh is within reach and not marked, seen is marked, too old goes by the width alone
+abbrev pub SaysOver : ℕ → ReplayWindow → ℕ → Verdict → Type 0
+SaysOver width w n Fresh = (w .«max_seq» - n < width) × (MarkedOver width w n → ⊥)
+SaysOver width w n Seen = MarkedOver width w n
+SaysOver width w n TooOld = width ≤ w .«max_seq» - n
 
 module _ (width : ℕ) (wide : 0 < width) where
   set-bit : (x j i : ℕ) → i < width → bit (bitOr x (1 * 2 ^ j % 2 ^ width)) i ≡ max (bit x i) (bit (1 * 2 ^ j) i)
@@ -110,80 +113,100 @@ module _ (width : ℕ) (wide : 0 < width) where
         by-less (AfterOver width w n) _ _ (λ s. by-less (AfterOver width w n) _ _ (shift s) (jump s))
         (λ s. by-less (AfterOver width w n) _ _ (mark s) (too-old s))
 
-    pub verdict-over : VerdictOver width w n (isFreshOver width w n)
-    unfolding isFreshOver
-    verdict-over =
-        by-less (VerdictOver width w n) _ _
-        (λ s. record { fresh = λ e. (omega arith, λ m. omega arith); stale = λ e. absurd (true≢false e) })
-        (λ s. by-less (VerdictOver width w n) _ _ (λ t. digit s t (eqb (bit (w .window) (w .«max_seq» - n)) 0) refl)
-        (λ t. record { fresh = λ e. absurd (true≢false (sym e)); stale = λ e. inl t }))
-      where
-        digit : n ≤ w .«max_seq» → w .«max_seq» - n < width → (b : Bool) → eqb (bit (w .window) (w .«max_seq» - n)) 0 ≡ b → VerdictOver width w n b
-        digit s t true e =
-            let z : bit (w .window) (w .«max_seq» - n) ≡ 0 = eqb-true _ _ e in
-            record { fresh = λ q. (t, λ m. omega arith); stale = λ q. absurd (true≢false q) }
-        digit s t false e =
-            let z : bit (w .window) (w .«max_seq» - n) ≡ 0 → ⊥ = eqb-false _ _ e in
-            let y = bit-lt (w .window) (w .«max_seq» - n) in
-            record { fresh = λ q. absurd (true≢false (sym q)); stale = λ q. inr (s, t, omega arith) }
+    ahead : w .«max_seq» < n → SaysOver width w n Fresh
+    ahead s = (omega arith, λ m. omega arith)
 
-  -- a number within reach is fresh or marked, never both; one out of reach is not fresh
-  pub fresh-is-over : (w : ReplayWindow) (n : ℕ) → w .«max_seq» - n < width → (MarkedOver width w n → ⊥) → isFreshOver width w n ≡ true
-  fresh-is-over w n l no-mark =
-      test-cases (isFreshOver width w n) (λ e. e)
-      (λ e. ⊎-elim (λ o. absurd (omega arith)) (λ m. absurd (no-mark m)) (verdict-over w n .stale e))
+    clear : w .«max_seq» - n < width → eqb (bit (w .window) (w .«max_seq» - n)) 0 ≡ true → SaysOver width w n Fresh
+    clear t b = let z : bit (w .window) (w .«max_seq» - n) ≡ 0 = eqb-true _ _ b in (t, λ m. omega arith)
 
-  stale-is : (w : ReplayWindow) (n : ℕ) → (isFreshOver width w n ≡ true → ⊥) → isFreshOver width w n ≡ false
-  stale-is w n no-fresh = test-cases (isFreshOver width w n) (λ e. absurd (no-fresh e)) (λ e. e)
+    set : n ≤ w .«max_seq» → w .«max_seq» - n < width → eqb (bit (w .window) (w .«max_seq» - n)) 0 ≡ false → SaysOver width w n Seen
+    set s t b =
+        let z : bit (w .window) (w .«max_seq» - n) ≡ 0 → ⊥ = eqb-false _ _ b in
+        let y = bit-lt (w .window) (w .«max_seq» - n) in
+        (s, t, omega arith)
 
-  -- a number that was marked is not fresh
-  pub spent-over : (w : ReplayWindow) (n : ℕ) → isFreshOver width (markingOver width w n) n ≡ false
-  spent-over w n = stale-is (markingOver width w n) n (λ q. let f = verdict-over (markingOver width w n) n .fresh q in f .1 (after-over w n .itself (f .0)))
+    pub says-over : SaysOver width w n (verdictOver width w n)
+    unfolding verdictOver
+    says-over =
+        by-less (SaysOver width w n) _ _ ahead
+        (λ s. by-less (SaysOver width w n) _ _ (λ t. by-test (SaysOver width w n) (clear t) (set s t)) (λ t. t))
 
-  -- one that is not fresh is never fresh again
-  pub stays-over : (w : ReplayWindow) (m n : ℕ) → isFreshOver width w n ≡ false → isFreshOver width (markingOver width w m) n ≡ false
-  stays-over w m n e =
-      stale-is (markingOver width w m) n λ q.
+    -- no two of the three hold of one number
+    one-says : (v u : Verdict) → SaysOver width w n v → SaysOver width w n u → v ≡ u
+    one-says Fresh Fresh p q = refl
+    one-says Fresh Seen p q = absurd (p .1 q)
+    one-says Fresh TooOld p q = absurd (omega arith)
+    one-says Seen Fresh p q = absurd (q .1 p)
+    one-says Seen Seen p q = refl
+    one-says Seen TooOld p q = absurd (omega arith)
+    one-says TooOld Fresh p q = absurd (omega arith)
+    one-says TooOld Seen p q = absurd (omega arith)
+    one-says TooOld TooOld p q = refl
+
+    -- so each verdict is given exactly where what it says holds
+    pub verdict-over : (v : Verdict) → (verdictOver width w n ≡ v) ↔ SaysOver width w n v
+    verdict-over v = (λ e. subst (SaysOver width w n) e says-over, λ s. one-says (verdictOver width w n) v says-over s)
+
+  -- a number that was marked is seen while the window reaches it, and never fresh
+  pub spent-over : (w : ReplayWindow) (n : ℕ) → markingOver width w n .«max_seq» - n < width → verdictOver width (markingOver width w n) n ≡ Seen
+  spent-over w n l = verdict-over (markingOver width w n) n Seen .1 (after-over w n .itself l)
+
+  pub never-over : (w : ReplayWindow) (n : ℕ) → verdictOver width (markingOver width w n) n ≡ Fresh → ⊥
+  never-over w n q = let f = verdict-over (markingOver width w n) n Fresh .0 q in f .1 (after-over w n .itself (f .0))
+
+  -- one that is not fresh is never fresh again, and one that is too old stays too old
+  pub stays-over : (w : ReplayWindow) (m n : ℕ) → verdictOver width (markingOver width w m) n ≡ Fresh → verdictOver width w n ≡ Fresh
+  stays-over w m n q =
       let a = after-over w m in
-      let f = verdict-over (markingOver width w m) n .fresh q in
+      let f = verdict-over (markingOver width w m) n Fresh .0 q in
       let h = a .highest in
-      ⊎-elim (λ o. omega arith) (λ k. f .1 (a .kept n k (f .0))) (verdict-over w n .stale e)
+      verdict-over w n Fresh .1 (omega (arith, f .0), λ k. f .1 (a .kept n k (f .0)))
+
+  pub old-stays-over : (w : ReplayWindow) (m n : ℕ) → verdictOver width w n ≡ TooOld → verdictOver width (markingOver width w m) n ≡ TooOld
+  old-stays-over w m n q =
+      let h = after-over w m .highest in
+      let o = verdict-over w n TooOld .0 q in
+      verdict-over (markingOver width w m) n TooOld .1 (omega arith)
 
   -- another number that was fresh stays fresh while the window reaches it
-  pub others-over : (w : ReplayWindow) (m n : ℕ) → (n ≡ m → ⊥) → isFreshOver width w n ≡ true → markingOver width w m .«max_seq» - n < width
-      → isFreshOver width (markingOver width w m) n ≡ true
+  pub others-over : (w : ReplayWindow) (m n : ℕ) → (n ≡ m → ⊥) → verdictOver width w n ≡ Fresh → markingOver width w m .«max_seq» - n < width
+      → verdictOver width (markingOver width w m) n ≡ Fresh
   others-over w m n ne e l =
-      fresh-is-over (markingOver width w m) n l λ k.
-      ⊎-elim (λ x. ne x) (λ x. verdict-over w n .fresh e .1 x) (after-over w m .only n k)
+      verdict-over (markingOver width w m) n Fresh .1
+      (l, λ k. ⊎-elim (λ x. ne x) (λ x. verdict-over w n Fresh .0 e .1 x) (after-over w m .only n k))
 
 -- ---- at the width that it has
 
 abbrev pub After : ReplayWindow → ℕ → ReplayWindow → Type 0
 After w n v = AfterOver width w n v
 
-abbrev pub Verdict : ReplayWindow → ℕ → Bool → Type 0
-Verdict w n t = VerdictOver width w n t
+abbrev pub Says : ReplayWindow → ℕ → Verdict → Type 0
+Says w n v = SaysOver width w n v
 
 pub after : (w : ReplayWindow) (n : ℕ) → After w n (marking w n)
 unfolding marking
 after = after-over width (omega arith)
 
-pub verdict : (w : ReplayWindow) (n : ℕ) → Verdict w n (isFresh w n)
-unfolding isFresh
-verdict = verdict-over width (omega arith)
+pub verdict-is : (w : ReplayWindow) (n : ℕ) (v : Verdict) → (verdict w n ≡ v) ↔ Says w n v
+unfolding verdict
+verdict-is = verdict-over width (omega arith)
 
-pub fresh-is : (w : ReplayWindow) (n : ℕ) → w .«max_seq» - n < width → (Marked w n → ⊥) → isFresh w n ≡ true
-unfolding isFresh
-fresh-is = fresh-is-over width (omega arith)
-
-pub spent : (w : ReplayWindow) (n : ℕ) → isFresh (marking w n) n ≡ false
-unfolding isFresh marking
+pub spent : (w : ReplayWindow) (n : ℕ) → marking w n .«max_seq» - n < width → verdict (marking w n) n ≡ Seen
+unfolding verdict marking
 spent = spent-over width (omega arith)
 
-pub stays : (w : ReplayWindow) (m n : ℕ) → isFresh w n ≡ false → isFresh (marking w m) n ≡ false
-unfolding isFresh marking
+pub never : (w : ReplayWindow) (n : ℕ) → verdict (marking w n) n ≡ Fresh → ⊥
+unfolding verdict marking
+never = never-over width (omega arith)
+
+pub stays : (w : ReplayWindow) (m n : ℕ) → verdict (marking w m) n ≡ Fresh → verdict w n ≡ Fresh
+unfolding verdict marking
 stays = stays-over width (omega arith)
 
-pub others : (w : ReplayWindow) (m n : ℕ) → (n ≡ m → ⊥) → isFresh w n ≡ true → marking w m .«max_seq» - n < width → isFresh (marking w m) n ≡ true
-unfolding isFresh marking
+pub old-stays : (w : ReplayWindow) (m n : ℕ) → verdict w n ≡ TooOld → verdict (marking w m) n ≡ TooOld
+unfolding verdict marking
+old-stays = old-stays-over width (omega arith)
+
+pub others : (w : ReplayWindow) (m n : ℕ) → (n ≡ m → ⊥) → verdict w n ≡ Fresh → marking w m .«max_seq» - n < width → verdict (marking w m) n ≡ Fresh
+unfolding verdict marking
 others = others-over width (omega arith)

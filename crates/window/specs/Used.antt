@@ -1,6 +1,5 @@
--- The window follows the list of the numbers used: "highest used plus one, or 0", fresh and marked, for every width above 0
+-- The window follows the list of the numbers used: "highest used plus one, or 0", what each verdict says of them, for every width above 0
 -- and then at the width that it has. Assumes nothing.
-use mathlib.Core.Bool.{true}
 use mathlib.Core.List.{List, [], _∷_, List·Memᴰ as Mem, List·Memᴰ·head as here, List·Memᴰ·tail as there, List·Memᴰ·cases-cons as mem-cases}
 use mathlib.Core.Logic.{⊎-elim, _↔_}
 use mathlib.Core.Path.{_≡_, refl, sym, ap, subst, _∙_}
@@ -12,8 +11,10 @@ use lib.Dec.{eqb}
 use Rattle.base.specs.Bits.{bit, bit-zero}
 use Rattle.base.specs.Choose.{choose, if-true, if-false, lt-or-ge}
 use Rattle.window.specs.declared.ReplayWindow.{ReplayWindow}
-use Rattle.window.specs.Window.{unmarked, MarkedOver, isFreshOver, markingOver, width, isFresh, marking}
-use Rattle.window.specs.Laws.{after-over, verdict-over, fresh-is-over}
+use Rattle.window.specs.declared.Verdict.{Verdict}
+use Rattle.window.specs.declared.Verdict.the-variants.{Fresh, Seen, TooOld}
+use Rattle.window.specs.Window.{unmarked, MarkedOver, verdictOver, markingOver, width, verdict, marking}
+use Rattle.window.specs.Laws.{SaysOver, after-over, verdict-over}
 
 -- the highest number used plus one, or 0 if none was
 abbrev pub above : List ℕ → ℕ
@@ -47,6 +48,13 @@ pub record AgreesOver (width : ℕ) (w : ReplayWindow) (used : List ℕ) : Type 
   pub highest : w .«max_seq» ≡ above used - 1
   pub marks : (n : ℕ) → above used ≤ n + width → MarkedOver width w n ↔ Mem n used
 
+-- what each verdict says of the numbers used: seen exactly if used and fewer than the width below the highest, too old exactly if the width or
+-- more below it, fresh else
+abbrev pub TellsOver : ℕ → List ℕ → ℕ → Verdict → Type 0
+TellsOver width used n Fresh = (Mem n used → ⊥) × (above used ≤ n + width)
+TellsOver width used n Seen = Mem n used × (above used ≤ n + width)
+TellsOver width used n TooOld = n + width < above used
+
 module _ (width : ℕ) (wide : 0 < width) where
   pub agrees-new-over : AgreesOver width unmarked []
   agrees-new-over = record { highest = refl; marks = λ n l. (λ m. absurd (omega (arith, bit-zero (0 - n))), λ m. elim m [ ]) }
@@ -67,19 +75,20 @@ module _ (width : ℕ) (wide : 0 < width) where
           );
         }
 
-    -- a fresh number was not used
-    pub fresh-unused-over : (n : ℕ) → isFreshOver width w n ≡ true → Mem n used → ⊥
-    fresh-unused-over n e m =
-        let f = verdict-over width wide w n .fresh e in
-        let h = a .highest in
-        let b = used-below used m in
-        f .1 (a .marks n (omega (arith, f .0)) .1 m)
+    -- the marks say of a number what the list says
+    listed : (n : ℕ) (v : Verdict) → SaysOver width w n v → TellsOver width used n v
+    listed n Fresh s = let h = a .highest in let l : above used ≤ n + width = omega (arith, s .0) in (λ m. s .1 (a .marks n l .1 m), l)
+    listed n Seen s = let h = a .highest in let l : above used ≤ n + width = omega arith in (a .marks n l .0 s, l)
+    listed n TooOld s = let h = a .highest in omega arith
 
-    -- one that was not used is fresh while the window reaches it
-    pub unused-fresh-over : (n : ℕ) → (Mem n used → ⊥) → above used ≤ n + width → isFreshOver width w n ≡ true
-    unused-fresh-over n unused l =
-        let h = a .highest in
-        fresh-is-over width wide w n (omega arith) (λ m. unused (a .marks n l .0 m))
+    in-marks : (n : ℕ) (v : Verdict) → TellsOver width used n v → SaysOver width w n v
+    in-marks n Fresh s = let h = a .highest in (omega (arith, s .1), λ m. s .0 (a .marks n (s .1) .0 m))
+    in-marks n Seen s = a .marks n (s .1) .1 (s .0)
+    in-marks n TooOld s = let h = a .highest in omega arith
+
+    pub tells-over : (n : ℕ) (v : Verdict) → (verdictOver width w n ≡ v) ↔ TellsOver width used n v
+    tells-over n v =
+        let s = verdict-over width wide w n v in (λ e. listed n v (s .0 e), λ t. s .1 (in-marks n v t))
 
   -- bit 0 is the mark of the highest
   first-bit : (w : ReplayWindow) (k : ℕ) → k ≡ 0 → bit (w .window) k ≡ w .window % 2
@@ -103,6 +112,9 @@ module _ (width : ℕ) (wide : 0 < width) where
 abbrev pub Agrees : ReplayWindow → List ℕ → Type 0
 Agrees w used = AgreesOver width w used
 
+abbrev pub Tells : List ℕ → ℕ → Verdict → Type 0
+Tells used n v = TellsOver width used n v
+
 pub agrees-new : Agrees unmarked []
 agrees-new = agrees-new-over width (omega arith)
 
@@ -111,13 +123,9 @@ module _ {w : ReplayWindow} {used : List ℕ} (a : Agrees w used) where
   unfolding marking
   agrees-marked = agrees-marked-over width (omega arith) a
 
-  pub fresh-unused : (n : ℕ) → isFresh w n ≡ true → Mem n used → ⊥
-  unfolding isFresh
-  fresh-unused = fresh-unused-over width (omega arith) a
-
-  pub unused-fresh : (n : ℕ) → (Mem n used → ⊥) → above used ≤ n + width → isFresh w n ≡ true
-  unfolding isFresh
-  unused-fresh = unused-fresh-over width (omega arith) a
+  pub tells : (n : ℕ) (v : Verdict) → (verdict w n ≡ v) ↔ Tells used n v
+  unfolding verdict
+  tells = tells-over width (omega arith) a
 
 pub expects : {w : ReplayWindow} (used : List ℕ) → Agrees w used → expected w ≡ above used
 expects = expects-over width (omega arith)

@@ -1,6 +1,5 @@
--- The replay window (RFC 9147, section 4.5.1; 01, "ReplayWindow"): over any width of its marks, and at the width that it has. Whoever uses
+-- The replay window (RFC 9147, section 4.5.1; 01, "ReplayWindow"; 02, 5): over any width of its marks, and at the width that it has. Whoever uses
 -- the window names only the second.
-use mathlib.Core.Bool.{Bool, true, false}
 use mathlib.Core.Path.{_≡_}
 use Prim.Native.Nat.{ℕ, _-_, _*_, _%_, _^_, _<_, _≤_}
 use lib.Bits.{bitOr}
@@ -8,6 +7,8 @@ use lib.Dec.{ltb, eqb}
 use Rattle.base.specs.Bits.{bit}
 use Rattle.base.specs.Choose.{choose}
 use Rattle.window.specs.declared.ReplayWindow.{ReplayWindow}
+use Rattle.window.specs.declared.Verdict.{Verdict}
+use Rattle.window.specs.declared.Verdict.the-variants.{Fresh, Seen, TooOld}
 
 -- the window that an epoch begins with
 abbrev pub unmarked : ReplayWindow
@@ -19,11 +20,12 @@ unmarked = record { «max_seq» = 0; window = 0 }
 abbrev pub MarkedOver : ℕ → ReplayWindow → ℕ → Type 0
 MarkedOver width w n = (n ≤ w .«max_seq») × (w .«max_seq» - n < width) × (bit (w .window) (w .«max_seq» - n) ≡ 1)
 
--- n is above the highest, or fewer than the width below it or equal to it with its mark clear
-unfoldable pub isFreshOver : ℕ → ReplayWindow → ℕ → Bool
-isFreshOver width w n =
-    choose (ltb (w .«max_seq») n) true
-    (choose (ltb (w .«max_seq» - n) width) (eqb (bit (w .window) (w .«max_seq» - n)) 0) false)
+-- n is fresh above the highest, or fewer than the width below it or equal to it with its mark clear; with its mark set it is seen; the width
+-- or more below it is too old, "even if it was used"
+unfoldable pub verdictOver : ℕ → ReplayWindow → ℕ → Verdict
+verdictOver width w n =
+    choose (ltb (w .«max_seq») n) Fresh
+    (choose (ltb (w .«max_seq» - n) width) (choose (eqb (bit (w .window) (w .«max_seq» - n)) 0) Fresh Seen) TooOld)
 
 -- the window with n marked; one too old leaves it as it is
 unfoldable pub markingOver : ℕ → ReplayWindow → ℕ → ReplayWindow
@@ -45,10 +47,10 @@ width = 64
 abbrev pub Marked : ReplayWindow → ℕ → Type 0
 Marked w n = MarkedOver width w n
 
--- "A number is fresh above the highest, or fewer than 64 below or equal with its mark clear"
-unfoldable pub isFresh : ReplayWindow → ℕ → Bool
-unfolding isFreshOver
-isFresh w n = isFreshOver width w n
+-- "The window's verdict becomes fresh, seen, or too old"
+unfoldable pub verdict : ReplayWindow → ℕ → Verdict
+unfolding verdictOver
+verdict w n = verdictOver width w n
 
 -- the window with n marked
 unfoldable pub marking : ReplayWindow → ℕ → ReplayWindow

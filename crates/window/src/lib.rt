@@ -1,6 +1,16 @@
 // The replay window, after window.rs.
 ghost use mathlib.Core.Path.{_≡_};
-ghost use Rattle.window.specs.Window.{unmarked, isFresh, marking};
+ghost use Rattle.window.specs.Window.{unmarked, verdict, marking};
+
+// How many numbers have a mark: the highest and those below it.
+pub const WIDTH: u64 = 64;
+
+// A number was not used, was used, or is the width or more below the highest, used or not.
+pub enum Verdict {
+    Fresh,
+    Seen,
+    TooOld,
+}
 
 // The highest number marked, and the marks of it and the 63 below it: bit k is the mark of max_seq - k.
 pub struct ReplayWindow {
@@ -19,19 +29,22 @@ impl ReplayWindow {
         }
     }
 
-    // Whether a number is fresh: neither marked nor too old.
-    pub fn check(self, seqno: u64) -> bool
-        ensures { λ r. ⌜ r ≡ isFresh self seqno ⌝ }
+    // The verdict on a number.
+    pub fn check(self, seqno: u64) -> Verdict
+        ensures { λ r. ⌜ r ≡ verdict self seqno ⌝ }
     {
         let top = self.max_seq;
         if top < seqno {
-            return true;
+            return Verdict::Fresh;
         }
         let offset = top - seqno;
-        if offset < 64 {
-            return (self.window >> offset) % 2 == 0;
+        if WIDTH <= offset {
+            return Verdict::TooOld;
         }
-        false
+        if (self.window >> offset) % 2 == 0 {
+            return Verdict::Fresh;
+        }
+        Verdict::Seen
     }
 
     // The window with a number marked. Call it only once the record is opened.
@@ -41,7 +54,7 @@ impl ReplayWindow {
         let top = self.max_seq;
         if top < seqno {
             let delta = seqno - top;
-            if delta < 64 {
+            if delta < WIDTH {
                 return ReplayWindow {
                     max_seq: seqno,
                     window: (self.window << delta) | 1,
@@ -53,7 +66,7 @@ impl ReplayWindow {
             };
         }
         let offset = top - seqno;
-        if offset < 64 {
+        if offset < WIDTH {
             return ReplayWindow {
                 max_seq: top,
                 window: self.window | (1 << offset),

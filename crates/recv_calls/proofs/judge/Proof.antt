@@ -1,18 +1,15 @@
--- `recv_calls::judge` meets its contract. Assumes nothing.
+-- `recv_calls::judge` meets its contract: 8, then by the window's verdict. Assumes nothing.
 use borrow.Author.Needs.{needs}
-use mathlib.Core.Path.{_≡_, refl, sym, ap, _∙_}
-use Rattle.recv_calls.specs.Replies.{judged-high, judged-replayed, judged-fresh}
+use mathlib.Core.Path.{sym, _∙_}
+use Rattle.recv_calls.specs.Replies.{judged-high, judged-seen, judged-old, judged-fresh}
 use Rattle.recv_calls.proofs.judge.Statement.{statement}
 use Rattle.recv_calls.proofs.judge.Tie as tie
 
-skip-requires : tie.Need-skip-requires
-skip-requires c κs = search needs
-
-no-reply-requires : tie.Need-no-reply-requires
-no-reply-requires c κs = search needs
+leave-requires : tie.Need-leave-requires
+leave-requires c κs = search needs
 
 returns : tie.Need-returns
-returns c = judged-high _ _ _ _ _ (c .before .before .before .before .pre .0) (c .before .before .before .before .pre .1) (c .before .before .before .if1 .taken) (c .no-reply .ensures) (c .before .skip .ensures)
+returns c = judged-high _ _ _ _ _ (c .before .before .before .pre .0) (c .before .before .before .pre .1) (c .before .before .if1 .taken) (c .leave .ensures)
 
 window-at-requires : tie.Need-window-at-requires
 window-at-requires c κs = search needs
@@ -20,36 +17,56 @@ window-at-requires c κs = search needs
 check-requires : tie.Need-check-requires
 check-requires c κs = search needs
 
-open-question-requires : tie.Need-open-question-requires
-open-question-requires c κs = search needs
+enum-told : tie.Need-enum-told
+enum-told c = search needs
 
-ask-opening-requires : tie.Need-ask-opening-requires
-ask-opening-requires c κs = search needs
+ask-requires : tie.Need-ask-requires
+ask-requires c κs = search needs
+
+enum-told-2 : tie.Need-enum-told-2
+enum-told-2 c = search needs
+
+leave-requires-2 : tie.Need-leave-requires-2
+leave-requires-2 c κs = search needs
+
+enum-told-3 : tie.Need-enum-told-3
+enum-told-3 c = search needs
+
+leave-requires-3 : tie.Need-leave-requires-3
+leave-requires-3 c κs = search needs
 
 returns-2 : tie.Need-returns-2
-returns-2 c = judged-fresh _ _ _ _ _ (c .before .before .before .before .before .before .before .before .before .pre .0) (c .before .before .before .before .before .before .before .before .before .pre .1) (c .before .before .before .before .before .before .before .before .if1 .left) (sym (rw (c .before .before .before .before .before .before .window-at .ensures) at (c .before .before .before .before .before .check .ensures)) ∙ c .before .before .before .before .if2 .taken) (c .before .before .open-question .ensures) (c .ask-opening .ensures)
-
-skip-requires-2 : tie.Need-skip-requires-2
-skip-requires-2 c κs = search needs
-
-no-reply-requires-2 : tie.Need-no-reply-requires-2
-no-reply-requires-2 c κs = search needs
+returns-2 c =
+    let start = c .before .before .before .before .before .before .before .before .pre in
+    let fresh-or-not = sym (rw (c .before .before .before .before .before .window-at .ensures) at (c .before .before .before .before .check .ensures)) ∙ c .before .before .enum-told .given .1 in
+    judged-fresh _ _ _ _ _ (start .0) (start .1) (c .before .before .before .before .before .before .before .if1 .left) fresh-or-not (c .ask .ensures)
 
 returns-3 : tie.Need-returns-3
-returns-3 c = judged-replayed _ _ _ _ _ (c .before .before .before .before .before .before .before .before .pre .0) (c .before .before .before .before .before .before .before .before .pre .1) (c .before .before .before .before .before .before .before .if1 .left) (sym (rw (c .before .before .before .before .before .window-at .ensures) at (c .before .before .before .before .check .ensures)) ∙ c .before .before .before .if2 .left) (c .no-reply2 .ensures) (c .before .skip2 .ensures)
+returns-3 c =
+    let start = c .before .before .before .before .before .before .before .before .pre in
+    let fresh-or-not = sym (rw (c .before .before .before .before .before .window-at .ensures) at (c .before .before .before .before .check .ensures)) ∙ c .before .before .enum-told2 .given .1 in
+    judged-seen _ _ _ _ _ (start .0) (start .1) (c .before .before .before .before .before .before .before .if1 .left) fresh-or-not (c .leave2 .ensures)
+
+returns-4 : tie.Need-returns-4
+returns-4 c =
+    let start = c .before .before .before .before .before .before .before .before .pre in
+    let fresh-or-not = sym (rw (c .before .before .before .before .before .window-at .ensures) at (c .before .before .before .before .check .ensures)) ∙ c .before .before .enum-told3 .given .1 in
+    judged-old _ _ _ _ _ (start .0) (start .1) (c .before .before .before .before .before .before .before .if1 .left) fresh-or-not (c .leave3 .ensures)
 
 pub judge-spec : {M : Type 1} → statement M
 judge-spec =
     tie.close
     (tie.spec
-    skip-requires
-    no-reply-requires
+    leave-requires
     returns
     window-at-requires
     check-requires
-    open-question-requires
-    ask-opening-requires
+    enum-told
+    ask-requires
+    enum-told-2
+    leave-requires-2
+    enum-told-3
+    leave-requires-3
     returns-2
-    skip-requires-2
-    no-reply-requires-2
-    returns-3)
+    returns-3
+    returns-4)

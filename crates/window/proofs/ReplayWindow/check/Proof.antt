@@ -1,27 +1,40 @@
--- `ReplayWindow::check` meets its contract: each return is the case of the definition that its tests choose. Assumes nothing.
+-- `ReplayWindow::check` meets its contract: what each verdict says holds where it is returned. Assumes nothing.
 use borrow.Author.Needs.{needs}
-use borrow.Author.Tests.{lt-ltb, le-ltb}
-use mathlib.Core.Path.{sym, _∙_}
+use mathlib.Core.Path.{sym}
+use native.Mathlib.Omega.{arith}
 use Rattle.base.specs.Bits.{bit}
-use Rattle.base.specs.Choose.{if-true, if-false}
-use Rattle.window.specs.Window.{isFresh}
+use Rattle.window.specs.declared.Verdict.the-variants.{Fresh, Seen}
+use Rattle.window.specs.Laws.{verdict-is}
 use Rattle.window.proofs.ReplayWindow.check.Statement.{statement}
 use Rattle.window.proofs.ReplayWindow.check.Tie as tie
 
+-- above the highest
 returns : tie.Need-returns
-unfolding isFresh
-returns c = sym (if-true _ _ (lt-ltb _ _ (c .if1 .taken)))
+returns c = let above = c .if1 .taken in sym (verdict-is _ _ Fresh .1 (omega arith, λ marked. omega arith))
 
-shr-result : tie.Need-shr-result
-shr-result c = search needs
-
+-- the width or more below
 returns-2 : tie.Need-returns-2
-unfolding isFresh bit
-returns-2 c = sym (if-false _ _ (le-ltb _ _ (c .before .before .if1 .left)) ∙ if-true _ _ (lt-ltb _ _ (c .before .if2 .taken)))
+returns-2 c = let far = c .if2 .taken in sym (verdict-is _ _ _ .1 (omega arith))
 
+shr-if3 : tie.Need-shr-if3
+shr-if3 c = search needs
+
+-- the mark is clear
 returns-3 : tie.Need-returns-3
-unfolding isFresh
-returns-3 c = sym (if-false _ _ (le-ltb _ _ (c .before .if1 .left)) ∙ if-false _ _ (le-ltb _ _ (c .if2 .left)))
+unfolding bit
+returns-3 c =
+    let near = c .before .before .if2 .left in
+    let clear = c .if3 .taken in
+    sym (verdict-is _ _ Fresh .1 (omega arith, λ marked. omega (arith, marked .2)))
+
+-- the mark is set
+returns-4 : tie.Need-returns-4
+unfolding bit
+returns-4 c =
+    let low = c .before .before .before .if1 .left in
+    let near = c .before .before .if2 .left in
+    let set = c .if3 .left in
+    sym (verdict-is _ _ Seen .1 (omega arith, omega arith, omega arith))
 
 pub check-spec : {M : Type 1} → statement M
-check-spec = tie.close (tie.spec returns shr-result returns-2 returns-3)
+check-spec = tie.close (tie.spec returns returns-2 shr-if3 returns-3 returns-4)
