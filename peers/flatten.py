@@ -1,6 +1,6 @@
 #!/usr/bin/env python3
-"""Turns a captured session (JSON) into lines for the host: what was delivered, in that order, to be read; that again with each close first;
-then what was sent, in the order sent, to be written again.
+"""Turns a captured session (JSON) into lines for the host: what was delivered, in that order, to be read; that once more, late; that with each
+close first; then what was sent, in the order sent, to be written again.
 
     session NAME
     message DIR TYPE BODY                          the next handshake message that the sender of DIR sent, from number 0 on
@@ -15,6 +15,7 @@ then what was sent, in the order sent, to be written again.
     plaintext NUMBER TYPE OFFSET CONTENT
     opened EPOCH NUMBER TYPE OFFSET CONTENT
     dropped WHY REFUSAL..                          the record must be dropped by one of these refusals
+    again                                          what follows was delivered before: counted apart
     close-first                                    new receivers take the place of both: each side is read again with its close first
     made DIR EPOCH NUMBER TYPE CONTENT             as `datagram`, but the host seals this record under the receiver's keys
     key-send DIR EPOCH SUITE KEY IV SN_KEY         the sender of DIR keys an epoch
@@ -32,7 +33,8 @@ differ. Of a session that must not open nothing is written again. --change-messa
 line by which the host changes messages that come out (`byte`, `type`), keeps them back (`whole`), lets the later of two bytes stay
 (`later`) or tells the number expected for a piece of another message (`number`), tells a close as ignored (`closed`) or as beyond the
 close (`at-close`), a record before the close that comes late as beyond it (`late`), one beyond it as application data (`beyond`), an ACK
-in plaintext as acted on (`plaintext`) or a record more that an ACK marked (`marked`): each must differ.
+in plaintext as acted on (`plaintext`), a record more that an ACK marked (`marked`), what is too old as seen (`seen`) or what is seen as too
+old (`old`): each must differ.
 """
 import argparse
 import json
@@ -47,7 +49,7 @@ SUITES = [
     "TLS_AES_128_CCM_8_SHA256",
 ]
 SHORT_TAG = "TLS_AES_128_CCM_8_SHA256"
-SPOILED = ["byte", "type", "whole", "later", "number", "closed", "at-close", "late", "beyond", "plaintext", "marked"]
+SPOILED = ["byte", "type", "whole", "later", "number", "closed", "at-close", "late", "beyond", "plaintext", "marked", "seen", "old"]
 
 LONGEST = 16384
 WINDOW = 64
@@ -265,7 +267,7 @@ def messages(session, records, change):
 
 
 def delivered(session, records):
-    """Reads what was delivered; by side where the close is among its datagrams, None where no sealed one is told."""
+    """Reads what was delivered; the receivers, and by side where the close is among its datagrams, None where no sealed one is told."""
     receivers = [Receiver(side, session) for side in range(2)]
     counts, closes = [0, 0], [None, None]
     for index in session["delivery_order"]:
@@ -275,7 +277,22 @@ def delivered(session, records):
         if receivers[side].close and closes[side] is None and receivers[side].close >= (2, 0):
             closes[side] = counts[side]
         counts[side] += 1
-    return closes
+    return receivers, closes
+
+
+def again(session, records, receivers):
+    """Delivers the datagrams without plaintext once more: as they are, and behind a record that is as far above them as the window is wide."""
+    print("again")
+    for receiver in receivers:
+        own = [index for index in session["delivery_order"] if session["datagrams"][index]["dir"] == DIRECTIONS[receiver.side]]
+        sealed = [index for index in own if all(record["protected"] for record in records[index])]
+        for index in sealed:
+            receiver.read(session["datagrams"][index], records[index])
+        opened = receiver.opened.get(receiver.latest)
+        if opened:
+            receiver.read_made(receiver.latest, max(opened) + WINDOW)
+            for index in sealed:
+                receiver.read(session["datagrams"][index], records[index])
 
 
 def close_first(session, records, closes):
@@ -361,7 +378,9 @@ def main(options):
     if options.spoil:
         print("spoil", options.spoil)
     messages(session, records, options.change_message)
-    closes = delivered(session, records)
+    receivers, closes = delivered(session, records)
+    if not session["must_not_open"]:
+        again(session, records, receivers)
     close_first(session, records, closes)
     if not session["must_not_open"]:
         sent(session, records)

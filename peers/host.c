@@ -29,7 +29,7 @@ static const struct {
     {"early", "not covered: early data (epoch 1)"},
     {"short-tag", "not covered: tags of 8 bytes"},
 };
-enum { REPLAYED, REASONS = sizeof reasons / sizeof *reasons };
+enum { REPLAYED, OLD, REASONS = sizeof reasons / sizeof *reasons };
 
 typedef struct {
     size_t datagrams, oversized, cut_short, opened, plaintext, dropped[REASONS];
@@ -39,9 +39,12 @@ const char *const side_names[2] = {"client", "server"};
 static Receiver receivers[2];
 static uint8_t datagram[ROOM];
 static size_t datagram_len, line_number;
-/* As the session was delivered, and read again with each close first: of that only what is done with readings is reported. */
-static Counts counts[2];
-static int close_first;
+/* As the session was delivered; read again with each close first, of which only what is done with readings is reported; delivered once more,
+ * of which only what is refused by the window is. */
+enum { DELIVERED, CLOSE_FIRST, AGAIN, PASSES };
+static int pass;
+static Counts counts[PASSES];
+static char spoiled[16];
 
 void stop(int status, const char *format, ...)
 {
@@ -146,12 +149,22 @@ static void expect_record(Receiver *r, const HuskReading *got, const Expected *w
         stop(1, "no plaintext record is read");
     check_content(got, want, d);
     classes_deal(side, &r->layer, want, d, n);
-    if (want->content_type == HUSK_HANDSHAKE && !close_first)
+    if (want->content_type == HUSK_HANDSHAKE && pass == DELIVERED)
         messages_record(side, d + got->start, got->length);
     if (want->sealed)
-        counts[close_first].opened++;
+        counts[pass].opened++;
     else
-        counts[close_first].plaintext++;
+        counts[pass].plaintext++;
+}
+
+/* What the layer tells, changed as a control asks for it. */
+static uint8_t told(uint8_t refusal)
+{
+    if (strcmp(spoiled, "seen") == 0 && refusal == HUSK_TOO_OLD)
+        return HUSK_SEEN;
+    if (strcmp(spoiled, "old") == 0 && refusal == HUSK_SEEN)
+        return HUSK_TOO_OLD;
+    return refusal;
 }
 
 /* The record must be dropped by one of the refusals of the line, and is counted by its reason. */
@@ -169,11 +182,11 @@ static void expect_dropped(const HuskReading *got, const char *line)
     if (got->kind == HUSK_READING_OPENED)
         stop(1, "a record opens that must not (%s)", word);
     for (; sscanf(line + at, " %u%n", &refusal, &next) == 1; at += next)
-        if (got->kind == HUSK_READING_DROPPED && got->refusal == refusal) {
-            counts[close_first].dropped[why]++;
+        if (got->kind == HUSK_READING_DROPPED && told(got->refusal) == refusal) {
+            counts[pass].dropped[why]++;
             return;
         }
-    stop(1, "a record that must be dropped (%s) is answered by kind %u, refusal %u", word, got->kind, got->refusal);
+    stop(1, "a record that must be dropped (%s) is answered by kind %u, refusal %u", word, got->kind, told(got->refusal));
 }
 
 static int is_end(const char *line)
@@ -187,7 +200,7 @@ static void expect_end(const HuskReading *got, const char *line)
     sscanf(line, "end %u", &refusal);
     if (got->kind != HUSK_READING_END || got->refusal != refusal)
         stop(1, "the datagram does not end by %u", refusal);
-    counts[close_first].cut_short += refusal != 0;
+    counts[pass].cut_short += refusal != 0;
 }
 
 static void expect(Receiver *r, uint8_t *d, size_t n, const char *line)
@@ -289,7 +302,7 @@ static Receiver *begin_datagram(const char *line)
         return NULL;
     }
     take(husk_receiving_begin(&receivers[side].layer, datagram_len));
-    counts[close_first].datagrams++;
+    counts[pass].datagrams++;
     return &receivers[side];
 }
 
@@ -305,18 +318,21 @@ static void step(char *line)
     } else if (strncmp(line, "message ", 8) == 0) {
         sent(line);
     } else if (strncmp(line, "spoil ", 6) == 0) {
+        snprintf(spoiled, sizeof spoiled, "%s", line + 6);
         messages_spoil(line + 6);
         classes_spoil(line + 6);
     } else if (strcmp(line, "close-first") == 0) {
-        close_first = 1;
+        pass = CLOSE_FIRST;
         begin_receivers();
         classes_close_first();
+    } else if (strcmp(line, "again") == 0) {
+        pass = AGAIN;
     } else if (sscanf(line, "take %u", &side) == 1 && side < 2) {
         writer_take(side);
     } else if (sscanf(line, "oversize %u %zu", &side, &length) == 2 && side < 2) {
         if (husk_receiving_begin(&receivers[side].layer, length) != HUSK_DATAGRAM_TOO_LONG)
             stop(1, "a datagram over %d bytes is not refused", LONGEST);
-        counts[close_first].oversized++;
+        counts[pass].oversized++;
     } else {
         stop(2, "bad line");
     }
@@ -333,6 +349,9 @@ static void report(void)
         printf(", %zu datagrams ended by a seventeenth reading", c->cut_short);
     if (c->oversized > 0)
         printf(", %zu datagrams over %d bytes refused", c->oversized, LONGEST);
+    const Counts *late = &counts[AGAIN];
+    if (late->datagrams > 0)
+        printf("; delivered again: %zu refused as replayed, %zu as too old", late->dropped[REPLAYED], late->dropped[OLD]);
     writer_report();
     printf("\n");
     messages_report(name);
