@@ -196,6 +196,27 @@ Tells r used n = ((r ≡ says.Dropped reason.Seen) ↔ IsSeen used n) × ((r ≡
 abbrev pub TellsNeither : Reading → Type 0
 TellsNeither r = (r ≡ says.Dropped reason.Seen → ⊥) × (r ≡ says.Dropped reason.TooOld → ⊥)
 
+-- a reading asks for the opening of the number n in epoch e
+abbrev pub AsksFor : Reading → ℕ → ℕ → Type 0
+AsksFor (says.Opening k j s h l) e n = (k ≡ e) × (j ≡ n)
+AsksFor says.Setting e n = ⊥
+AsksFor says.Reply e n = ⊥
+AsksFor says.End e n = ⊥
+AsksFor says.Incomplete e n = ⊥
+AsksFor says.TooMany e n = ⊥
+AsksFor (says.Dropped r) e n = ⊥
+AsksFor (says.Plaintext t j s l) e n = ⊥
+AsksFor (says.Unopened b j s l) e n = ⊥
+AsksFor (says.Opened k j t s l) e n = ⊥
+AsksFor (says.Mask k s) e n = ⊥
+
+-- all that is said of the number n in epoch e: 8 exactly if it is above 2^48 - 1, 9 and 26 as above, and its opening is asked where none of the
+-- three is said
+pub record Rules (r : Reading) (e : ℕ) (used : List ℕ) (n : ℕ) : Type 0 where
+  pub too-high : (r ≡ says.Dropped reason.TooHigh) ↔ (0xFFFF_FFFF_FFFF < n)
+  pub late : Tells r used n
+  pub fresh : n ≤ 0xFFFF_FFFF_FFFF → (IsSeen used n → ⊥) → (IsOld used n → ⊥) → AsksFor r e n
+
 -- what a mask brings out of the number bytes of a record as it arrived, and how many numbers such bits tell apart: two bytes, or one
 abbrev pub bitsUnder : List ℕ → List ℕ → ℕ
 bitsUnder m rest =
@@ -205,15 +226,16 @@ bitsUnder m rest =
 abbrev pub blockIn : List ℕ → ℕ
 blockIn rest = choose (eqb (getD rest 0 0 / 8 % 2) 1) 65536 256
 
--- and this of every record that arrives, sealed here or anywhere, altered or invented: 9 and 26 are said in reply to a mask alone, by the number
--- nearest to the highest used plus one (02, 1) that ends in the bits which that mask brings out
-abbrev pub Judged : Deed → Shown → List ℕ → (ℕ → List ℕ) → Reading → Type 0
-Judged aRead w rest used r = TellsNeither r
-Judged (aMaskReply m) nothing rest used r = TellsNeither r
-Judged (aMaskReply m) (aMask e p) rest used r =
-    (n : ℕ) → Nearest (blockIn rest) (bitsUnder m rest) (above (used e)) n → Tells r (used e) n
-Judged (aMaskReply m) (anOpening e n at head body) rest used r = TellsNeither r
-Judged (anOpenReply o) w rest used r = TellsNeither r
+-- and this of every record that arrives, sealed by anyone, altered or invented: 9 and 26 are said in reply to a mask alone. The mask is asked in
+-- the epoch that the record's bits resolved to, and the number is the one nearest to the highest used plus one (02, 1) that ends in the bits
+-- which the mask brings out
+abbrev pub Judged : Deed → Shown → Option ℕ → List ℕ → (ℕ → List ℕ) → Reading → Type 0
+Judged aRead w to rest used r = TellsNeither r
+Judged (aMaskReply m) nothing to rest used r = TellsNeither r
+Judged (aMaskReply m) (aMask e p) to rest used r =
+    (to ≡ some e) × ((n : ℕ) → Nearest (blockIn rest) (bitsUnder m rest) (above (used e)) n → Rules r e (used e) n)
+Judged (aMaskReply m) (anOpening e n at head body) to rest used r = TellsNeither r
+Judged (anOpenReply o) w to rest used r = TellsNeither r
 
 -- a reading says opened in epoch e and shows the record h
 abbrev pub SaysOpened : Reading → List ℕ → ℕ → Handed → Type 0
@@ -420,7 +442,7 @@ pub record Received (sealed : ℕ → List Sealed) (i : Inbound) (e : ℕ) : Typ
   -- "whether a record was too late or already seen" (02, 5): of a record whose number is brought back, and of whatever else arrives by the number
   -- that its bits stand for
   pub late-told : (d : Tried) → Mem d (i .into .tried) → (r : Sealed) → Known (d .trial) e r → Tells (d .reading) (d .trial .used e) (r .num)
-  pub judged : (c : Spoken) → Mem c (i .into .spoken) → Judged (c .deed) (c .waited) (c .rest) (c .used) (c .reading)
+  pub judged : (c : Spoken) → Mem c (i .into .spoken) → Judged (c .deed) (c .waited) (c .resolved) (c .rest) (c .used) (c .reading)
   -- "A datagram with no record accepted by the cipher moved no .. window": "the calls that read the datagram leave .. every window verdict"
   pub moved-nothing : (k : ℕ) → ((m : Move) → Mem m (i .moves) → m .datagram ≡ k → accepts (m .spends) ≡ false)
       → (m : Move) → Mem m (i .moves) → m .datagram ≡ k → SameVerdicts m

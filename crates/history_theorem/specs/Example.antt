@@ -419,13 +419,15 @@ known-after used t e r u sent same on found near enough = record {
   near-enough = subst (λ (l : List ℕ). aboveUsed l < r .num + 32768) (sym u) enough;
 }
 
--- so it was of 5 once more, and of 4
+-- so it was of 5 once more, of 4, and of 5 when it came the second time
 late-known : (z : Tried) → Known (lastOf (earlier (run (fresh-half 16) late .end .into .tried)) z .trial) 2 (sealedAs 2 5 5)
     × Known (lastOf (earlier (earlier (earlier (run (fresh-half 16) late .end .into .tried)))) z .trial) 2 (sealedAs 2 4 4)
+    × Known (lastOf (earlier (earlier (earlier (earlier (earlier (run (fresh-half 16) late .end .into .tried)))))) z .trial) 2 (sealedAs 2 5 5)
 unfolding late sealedAs arrives doubled invented choose both either splice bit askSound askKeyed openingSound questionSound isSound counted nonceOf innerOf unmasked rebuilt judged maskedAt maskedBy masking maskStep typed openedAt openedBy openings openedStep cancelledAsk cancelled freshOf keyOf leaving removedBy removeOf encryptOf releaseOf beginOf headerLen fragmentLen partialOf parseCiphertext isType isVersion isPlaintext plaintextHeader parsePlaintext parsed unifiedHeader lockedStep sealedStep stepOf openingAsked askedAgain asking readStep fits lastFit find orElse two resolve wasFound isKeyed marked appOne apps windowsSound keysSound isFull installed leftAt left maskedHeader own below above nearest expected verdict marking upd keyOwed keys resolvesTo sealedSize plainSize recordSize goodPlain removedFrom removed removeOwed begun beginOwed afterRead afterMask afterOpen
 late-known z = (
   known-after (69 ∷ 68 ∷ 5 ∷ []) _ 2 (sealedAs 2 5 5) refl (there (there (there (here refl)))) refl refl refl (omega arith) (omega arith),
   known-after (68 ∷ 5 ∷ []) _ 2 (sealedAs 2 4 4) refl (there (there (there (there (here refl))))) refl refl refl (omega arith) (omega arith),
+  known-after (68 ∷ 5 ∷ []) _ 2 (sealedAs 2 5 5) refl (there (there (there (here refl)))) refl refl refl (omega arith) (omega arith),
 )
 
 late-honest : Honest oneMask (fresh-half 16) late

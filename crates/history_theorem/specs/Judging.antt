@@ -1,15 +1,16 @@
 -- 9 and 26 are said in reply to a mask alone, by the number that it brings out of the record, whatever arrived. Assumes nothing.
-use Prim.Native.Nat.{ℕ, _+_, _-_, _*_, _/_, _%_, _^_, _<_, _≤_}
+use Prim.Native.Nat.{ℕ, _+_, _*_, _/_, _%_, _^_, _<_, _≤_}
 use lib.Bits.{bitXor}
 use lib.Dec.{eqb}
 use lib.ListN.{length, getD, drop}
 use lib.Seq.{getD-drop}
 use mathlib.Core.Bool.{Bool, true, false, false≢true}
 use mathlib.Core.List.{List}
+use mathlib.Core.Logic.{_↔_}
 use mathlib.Core.Path.{_≡_, refl, sym, ap, subst, _∙_}
 use native.Mathlib.Omega.{arith}
 use Rattle.base.specs.Choose.{if-true, if-false, by-test, by-less}
-use Rattle.datagram.specs.Datagram.{passed, counted, endAsked}
+use Rattle.datagram.specs.Datagram.{reasonNumber, passed, counted, endAsked}
 use Rattle.datagram.specs.declared.Ask.{Ask}
 use Rattle.datagram.specs.declared.Datagram.{Datagram}
 use Rattle.datagram.specs.declared.Reading.the-variants as says
@@ -39,7 +40,7 @@ use Rattle.window.specs.Window.{verdict}
 use Rattle.window.specs.declared.ReplayWindow.{ReplayWindow}
 use Rattle.window.specs.declared.Verdict.the-variants as number
 use Rattle.window.specs.declared.Verdict.{Verdict}
-use Rattle.history_theorem.specs.Claim.{Tells, TellsNeither, bitsUnder, blockIn}
+use Rattle.history_theorem.specs.Claim.{Rules, TellsNeither, bitsUnder, blockIn}
 
 -- ---- readings of which the window says nothing
 
@@ -66,6 +67,20 @@ isRuled (says.Unopened b n s l) = false
 isRuled (says.Opened e n t s l) = false
 isRuled (says.Mask e s) = false
 isRuled (says.Opening e n s h l) = false
+
+-- 8
+abbrev isHigh : Reading → Bool
+isHigh says.Setting = false
+isHigh says.Reply = false
+isHigh says.End = false
+isHigh says.Incomplete = false
+isHigh says.TooMany = false
+isHigh (says.Dropped r) = eqb (reasonNumber r) 8
+isHigh (says.Plaintext t n s l) = false
+isHigh (says.Unopened b n s l) = false
+isHigh (says.Opened e n t s l) = false
+isHigh (says.Mask e s) = false
+isHigh (says.Opening e n s h l) = false
 
 pub neither : (r : Reading) → isRuled r ≡ false → TellsNeither r
 neither r f = (λ e. false≢true (sym f ∙ ap isRuled e), λ e. false≢true (sym f ∙ ap isRuled e))
@@ -104,37 +119,62 @@ module _ (k : RecvKeys) (b : Datagram) where
 module _ (e : RecvEpochEntry) (b : Datagram) (a : Ask) (n : ℕ) (used : List ℕ) (agrees : Agrees (e .replay) used)
     (low : e .replay .«max_seq» ≤ 0xFFFF_FFFF_FFFF) where
   abbrev Told : Step → Type 0
-  Told t = Tells (t .reading) used n
+  Told t = Rules (t .reading) (a .epoch) used n
 
-  high-told : (t : Step) → Unruled t → 0xFFFF_FFFF_FFFF < n → Told t
-  high-told t f h =
-      let z = neither (t .reading) f in
-      let top = agrees .highest in (
-        (λ p. absurd (z .0 p), λ s. absurd (omega (arith, used-below used (s .0)))),
-        (λ p. absurd (z .1 p), λ s. absurd (omega arith)),
-      )
+  -- above 2^48 - 1 it was not used, and is not too old
+  high-told : 0xFFFF_FFFF_FFFF < n → Told (passed b (endAsked b a) reason.TooHigh)
+  high-told h =
+      let z = neither (says.Dropped reason.TooHigh) refl in
+      let top = agrees .highest in
+      record {
+        too-high = (λ p. h, λ p. refl);
+        late = (
+          (λ p. absurd (z .0 p), λ s. absurd (omega (arith, used-below used (s .0)))),
+          (λ p. absurd (z .1 p), λ s. absurd (omega arith)),
+        );
+        fresh = λ small s o. absurd (omega arith);
+      }
 
-  ruled-told : (v : Verdict) → verdict (e .replay) n ≡ v → Told (ruled v e b a n)
-  ruled-told number.Fresh q =
+  -- else it is ruled on, and 8 is not said
+  not-high : (r : Reading) → isHigh r ≡ false → n ≤ 0xFFFF_FFFF_FFFF → (r ≡ says.Dropped reason.TooHigh) ↔ (0xFFFF_FFFF_FFFF < n)
+  not-high r f h = (λ p. absurd (false≢true (sym f ∙ ap isHigh p)), λ l. absurd (omega arith))
+
+  ruled-told : (v : Verdict) → verdict (e .replay) n ≡ v → n ≤ 0xFFFF_FFFF_FFFF → Told (ruled v e b a n)
+  ruled-told number.Fresh q h =
       let t = tells agrees n number.Fresh .0 q in
-      let z = neither (openingAsked e b a n .reading) (unfold openingAsked in refl) in (
-        (λ p. absurd (z .0 p), λ s. absurd (t .0 (s .0))),
-        (λ p. absurd (z .1 p), λ s. absurd (omega (arith, t .1))),
-      )
-  ruled-told number.Seen q =
-      let t = tells agrees n number.Seen .0 q in (
-        (λ p. t, λ s. refl),
-        (λ p. let z : _≡_ {A = ℕ} 0 1 = cc in absurd (omega arith), λ s. absurd (omega (arith, t .1))),
-      )
-  ruled-told number.TooOld q =
-      let t = tells agrees n number.TooOld .0 q in (
-        (λ p. let z : _≡_ {A = ℕ} 0 1 = cc in absurd (omega arith), λ s. absurd (omega (arith, s .1))),
-        (λ p. t, λ s. refl),
-      )
+      let z = neither (openingAsked e b a n .reading) (unfold openingAsked in refl) in
+      record {
+        too-high = not-high _ (unfold openingAsked in refl) h;
+        late = (
+          (λ p. absurd (z .0 p), λ s. absurd (t .0 (s .0))),
+          (λ p. absurd (z .1 p), λ s. absurd (omega (arith, t .1))),
+        );
+        fresh = λ small s o. unfold openingAsked in (refl, refl);
+      }
+  ruled-told number.Seen q h =
+      let t = tells agrees n number.Seen .0 q in
+      record {
+        too-high = not-high _ refl h;
+        late = (
+          (λ p. t, λ s. refl),
+          (λ p. let z : _≡_ {A = ℕ} 0 1 = cc in absurd (omega arith), λ s. absurd (omega (arith, t .1))),
+        );
+        fresh = λ small s o. absurd (s t);
+      }
+  ruled-told number.TooOld q h =
+      let t = tells agrees n number.TooOld .0 q in
+      record {
+        too-high = not-high _ refl h;
+        late = (
+          (λ p. let z : _≡_ {A = ℕ} 0 1 = cc in absurd (omega arith), λ s. absurd (omega (arith, s .1))),
+          (λ p. t, λ s. refl),
+        );
+        fresh = λ small s o. absurd (o t);
+      }
 
   pub judged-told : Told (judged e b a n)
   unfolding judged
-  judged-told = by-less Told _ _ (λ h. high-told (passed b (endAsked b a) reason.TooHigh) refl h) (λ h. ruled-told _ refl)
+  judged-told = by-less Told _ _ high-told (λ h. ruled-told _ refl h)
 
 -- ---- the number that the bits stand for
 

@@ -8,7 +8,7 @@ use mathlib.Core.List.{List, [], _∷_}
 use mathlib.Core.Option.{Option, none, some}
 use mathlib.Core.Path.{_≡_, refl, sym, ap, subst, _∙_}
 use native.Mathlib.Omega.{arith}
-use Rattle.base.specs.Choose.{if-true, if-false, by-test, test-cases}
+use Rattle.base.specs.Choose.{if-true, if-false, test-cases}
 use Rattle.base.specs.Parts.{part}
 use Rattle.datagram.specs.Datagram.{isSound, zeros, told, questioned, passed, endAsked}
 use Rattle.datagram.specs.Sound.{Held, Ready, held-mask, held-open}
@@ -48,7 +48,7 @@ use Rattle.window.specs.Used.{above, Agrees, expects}
 use Rattle.window.specs.Window.{verdict}
 use Rattle.window.specs.declared.Verdict.the-variants.{Fresh}
 use Rattle.history_theorem.specs.Account.{upd, Shown, nothing, aMask, anOpening, Account, resolvesTo, recordSize, goodPlain}
-use Rattle.history_theorem.specs.Claim.{Real, Shows, There, Ends, Proper, RightNonce, NumberByte, Spares, Tells, TellsNeither, bitsUnder, blockIn, Judged}
+use Rattle.history_theorem.specs.Claim.{Real, Shows, There, Ends, Proper, RightNonce, NumberByte, Spares, Rules, TellsNeither, bitsUnder, blockIn, Judged}
 use Rattle.history_theorem.specs.Judging.{isRuled, neither, read-unruled, typed-unruled, judged-told, stands-for}
 use Rattle.history_theorem.specs.Cut.{cut, finds, nonce-own}
 use Rattle.history_theorem.specs.Lists.{by-both, drops-on}
@@ -77,6 +77,7 @@ use Rattle.history_theorem.specs.Receiver.{
   useBy,
   useOf,
   spent,
+  resolvedIn,
   spokenBy,
   after,
   restOf,
@@ -121,7 +122,7 @@ abbrev pub refusal : Receiver → Out
 refusal y = record { state = y .state; datagram = y .datagram; reading = says.Reply; nonce = zeros }
 
 pub down-sound : (y : Receiver) → Sound y → (t : Option Trial) (w : Shown) (deed : Deed) → Proper deed (y .account .waits) says.Reply
-    → Judged deed (y .account .waits) (restOf y) (y .used) says.Reply
+    → Judged deed (y .account .waits) (resolvedIn (y .trial)) (restOf y) (y .used) says.Reply
     → Sound (after y (refusal y) t unused w deed)
 down-sound y i t w deed p j = record {
   made = i .made;
@@ -421,7 +422,7 @@ module _ (y : Receiver) (i : Sound y) where
   mask-opening m a n q = mask-asks k b m d (question.Opening a n) in-range (i .whole) q
 
   mask-down : (m : List ℕ) → maskStep k b m d ≡ (told b says.Reply, d) → Proper (aMaskReply m) (y .account .waits) says.Reply
-      → Judged (aMaskReply m) (y .account .waits) (restOf y) (y .used) says.Reply → Sound (maskBy y m (maskOut (y .state) m d))
+      → Judged (aMaskReply m) (y .account .waits) (resolvedIn (y .trial)) (restOf y) (y .used) says.Reply → Sound (maskBy y m (maskOut (y .state) m d))
   mask-down m e p j = subst (λ x. Sound (maskBy y m (maskedOut k x))) (sym e) (down-sound y i (y .trial) nothing (aMaskReply m) p j)
 
   module _ (m : List ℕ) (a : Ask) (q : b .question ≡ question.Mask a) where
@@ -473,7 +474,7 @@ module _ (y : Receiver) (i : Sound y) where
 
     -- it is told 9 or 26 by the number that its bits stand for
     mask-judged : (n : ℕ) → Nearest (blockIn (restOf y)) (bitsUnder m (restOf y)) (above (y .used (a .epoch))) n
-        → Tells (maskOut (y .state) m d .reading) (y .used (a .epoch)) n
+        → Rules (maskOut (y .state) m d .reading) (a .epoch) (y .used (a .epoch)) n
     unfolding maskedBy maskedAt
     mask-judged n near =
         let h = held-mask k b in-range a q in
@@ -484,8 +485,8 @@ module _ (y : Receiver) (i : Sound y) where
         let low = window-at (k .entries) (k .count) j (i .made .ready .keys .windows) within in
         let is = stands-for d m (restOf y) (b .at) (above (y .used (a .epoch))) n (omega (arith, h .head, h .tag, h .fits, h .two, i .whole, i .made .ready .at))
         (rest-masked a q) (entryAt k j .replay) (a .«s_flag») flagged (expects (y .used (a .epoch)) agrees) (omega (arith, agrees .highest, low)) near in
-        subst (λ p. Tells (p .0 .reading) (y .used (a .epoch)) n) (sym (masked-is ∙ ap (λ (x : Found). maskedBy x k b a m d) f))
-        (subst (λ x. Tells (judged (entryAt k j) b a x .reading) (y .used (a .epoch)) n) is (judged-told (entryAt k j) b a n (y .used (a .epoch)) agrees low))
+        subst (λ p. Rules (p .0 .reading) (a .epoch) (y .used (a .epoch)) n) (sym (masked-is ∙ ap (λ (x : Found). maskedBy x k b a m d) f))
+        (subst (λ x. Rules (judged (entryAt k j) b a x .reading) (a .epoch) (y .used (a .epoch)) n) is (judged-told (entryAt k j) b a n (y .used (a .epoch)) agrees low))
 
     mask-on : UnderWay (question.Mask a) (b .at) (y .account .waits) (y .trial) → Sound (maskBy y m (maskOut (y .state) m d))
     mask-on z =
@@ -500,7 +501,7 @@ module _ (y : Receiver) (i : Sound y) where
         (let h = held-mask k b in-range a q in omega (arith, h .head, h .fits, i .whole, i .made .ready .at))
         (λ x e. absurd (masked-by (λ p. p .0 .datagram .question ≡ question.Mask x → ⊥) (λ j. masked-quits j x k b a m d) e))
         (masked-by (λ p. FlagAsked (p .0 .datagram .question) (getD (drop (b .at) (y .arrived)) 0 0)) (λ j. masked-flag j _ k b a m d)))
-        (mask-spares (z .2 .0)) (subst (λ w. Judged (aMaskReply m) w (restOf y) (y .used) (o .reading)) (sym (z .2 .0)) mask-judged)
+        (mask-spares (z .2 .0)) (subst (λ w. Judged (aMaskReply m) w (resolvedIn (y .trial)) (restOf y) (y .used) (o .reading)) (sym (z .2 .0)) (ap resolvedIn (z .1) ∙ z .2 .1, mask-judged))
         (masked-by (λ p. Shows (p .0 .reading) (t .rest) (shownBy (p .0 .reading) (maskedOut k p .datagram))) (λ j. masked-shows j k b a m d (t .rest) _))
         (i .later t (z .1) (o .reading))
         (masked-by (λ p. Ends (p .0 .reading) (t .rest) (t .count)) (λ j. masked-stops j k b a m d (t .rest) (t .count) (i .waits t (z .1) .there)))
@@ -510,12 +511,12 @@ module _ (y : Receiver) (i : Sound y) where
   masks m question.Nothing q z =
       mask-down m (mask-idle m q)
       (subst (λ w. Proper (aMaskReply m) w says.Reply) (sym (z .0)) refl)
-      (subst (λ w. Judged (aMaskReply m) w (restOf y) (y .used) says.Reply) (sym (z .0)) (neither says.Reply refl))
+      (subst (λ w. Judged (aMaskReply m) w (resolvedIn (y .trial)) (restOf y) (y .used) says.Reply) (sym (z .0)) (neither says.Reply refl))
   masks m (question.Mask a) q z = mask-on m a q z
   masks m (question.Opening a n) q z =
       mask-down m (mask-opening m a n q)
       (subst (λ w. Proper (aMaskReply m) w says.Reply) (sym (z .2 .2)) refl)
-      (subst (λ w. Judged (aMaskReply m) w (restOf y) (y .used) says.Reply) (sym (z .2 .2)) (neither says.Reply refl))
+      (subst (λ w. Judged (aMaskReply m) w (resolvedIn (y .trial)) (restOf y) (y .used) says.Reply) (sym (z .2 .2)) (neither says.Reply refl))
 
   -- one that is refused writes nothing
   refused-bytes : (m : List ℕ) (q : Question) → b .question ≡ q → UnderWay q (b .at) (y .account .waits) (y .trial)

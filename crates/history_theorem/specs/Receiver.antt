@@ -72,6 +72,7 @@ pub data Deed : Type 0 where
 pub record Spoken : Type 0 where
   pub deed : Deed
   pub waited : Shown
+  pub resolved : Option ℕ
   pub ivs : ℕ → List ℕ
   pub used : ℕ → List ℕ
   pub reading : Reading
@@ -395,10 +396,16 @@ nextAccount settled a r size t w = settledAt a r size t
 abbrev pub restOf : Receiver → List ℕ
 restOf y = drop (y .account .place) (y .arrived)
 
+-- the epoch that the bits of the record under way resolved to as the cut came to it
+abbrev pub resolvedIn : Option Trial → Option ℕ
+resolvedIn none = none
+resolvedIn (some t) = t .resolved
+
 abbrev pub spokenBy : Receiver → Deed → Out → Spoken
 spokenBy y deed o = record {
   deed = deed;
   waited = y .account .waits;
+  resolved = resolvedIn (y .trial);
   ivs = y .account .ivs;
   used = y .used;
   reading = o .reading;

@@ -3,7 +3,7 @@
 use Prim.Native.Nat.{ℕ, suc, _+_, _-_, _/_, _%_, _<_, _≤_}
 use lib.Dec.{eqb, leb}
 use lib.ListN.{length, getD, drop}
-use mathlib.Core.Bool.{Bool, true, false}
+use mathlib.Core.Bool.{Bool, false}
 use mathlib.Core.List.{List, [], _∷_, List·Memᴰ as Mem, List·Memᴰ·head as here, List·Memᴰ·tail as there}
 use mathlib.Core.Option.{Option, none, some}
 use mathlib.Core.Path.{_≡_, refl, sym, ap, subst, _∙_}
@@ -122,7 +122,7 @@ pub record Waits (t : Trial) (readings : ℕ) : Type 0 where
   pub count : t .count ≡ readings
 
 abbrev pub Judges : Spoken → Type 0
-Judges c = Judged (c .deed) (c .waited) (c .rest) (c .used) (c .reading)
+Judges c = Judged (c .deed) (c .waited) (c .resolved) (c .rest) (c .used) (c .reading)
 
 pub record Sound (y : Receiver) : Type 0 where
   pub made : Made (y .state)

@@ -6,7 +6,7 @@ use lib.Bits.{bitXor, xor-comm}
 use lib.ListN.{length, take, drop, getD, take-append-drop, length-append, length-take, length-drop}
 use lib.Seq.{take-add, drop-drop, drop-at, length-take-le, getD-drop, take-take}
 use mathlib.Core.Bool.{Bool, true, false}
-use mathlib.Core.List.{List, [], _∷_, _++_, List·Memᴰ as Mem}
+use mathlib.Core.List.{List, [], _∷_, _++_}
 use mathlib.Core.Option.{Option, none, some}
 use mathlib.Core.Path.{_≡_, refl, sym, ap, subst, _∙_}
 use native.Mathlib.Nat.{div-one}

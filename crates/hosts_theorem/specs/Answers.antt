@@ -6,6 +6,7 @@ use borrow.Author.Tests.{le-leb, eq-eqb}
 use lib.Dec.{leb}
 use lib.ListN.{length, drop}
 use mathlib.Core.List.{List}
+use mathlib.Core.Logic.{_↔_}
 use mathlib.Core.Option.{Option, some}
 use mathlib.Core.Path.{_≡_, refl, sym, ap, subst, _∙_}
 use Rattle.base.specs.Choose.{choose, if-true, by-test}
@@ -50,7 +51,7 @@ use Rattle.send_calls.specs.Calls.{flatSealing}
 use Rattle.send_calls.specs.declared.HuskSealing.{HuskSealing}
 use Rattle.history_theorem.specs.Receiver.{outOf}
 use Rattle.ends_theorem.specs.World.{givenIn}
-use Rattle.hosts_theorem.specs.Log.{flatRead, reasonIn, readingOf, reasonTold, told, Whole, outBy}
+use Rattle.hosts_theorem.specs.Log.{flatRead, reasonIn, readingOf, reasonTold, droppedTold, told, Whole, outBy}
 
 -- ---- the reading
 
@@ -113,6 +114,15 @@ pub whole : (r : HuskReading) (k : Read) → r ≡ flatRead k → Whole r
 whole r k e =
     subst Whole (sym e)
     (reading-told (k .reading) (k .nonce) ∙ sym (ap (λ (x : Reading). told x (flatRead k .nonce)) (reading-back (k .reading) (k .nonce))))
+
+-- so 9 tells that a record was seen, and 26 that it is too old
+pub nine-told : (r : HuskReading) → Whole r → (r ≡ droppedTold 9) ↔ (readingOf r ≡ says.Dropped reason.Seen)
+unfolding readingOf reasonIn choose
+nine-told r w = (λ e. ap readingOf e, λ e. w ∙ ap (λ (x : Reading). told x (r .nonce)) e)
+
+pub old-told : (r : HuskReading) → Whole r → (r ≡ droppedTold 26) ↔ (readingOf r ≡ says.Dropped reason.TooOld)
+unfolding readingOf reasonIn choose
+old-told r w = (λ e. ap readingOf e, λ e. w ∙ ap (λ (x : Reading). told x (r .nonce)) e)
 
 -- ---- the nonce of a reply's answer: that of an opening question, else zeros
 

@@ -3,7 +3,8 @@ use Prim.Native.Nat.{ℕ, _+_, _*_, _≤_, _<_}
 use lib.Dec.{eqb, leb, ltb}
 use lib.ListN.{length}
 use mathlib.Core.Bool.{Bool, true}
-use mathlib.Core.List.{List, [], _∷_, _++_}
+use mathlib.Core.List.{List, [], _∷_, _++_, List·Memᴰ as Mem}
+use mathlib.Core.Logic.{_↔_}
 use mathlib.Core.Option.{Option, none, some}
 use mathlib.Core.Path.{_≡_}
 use Rattle.base.specs.Choose.{choose}
@@ -39,9 +40,9 @@ use Rattle.ack_calls.specs.Calls as acks
 use Rattle.assembly.specs.Assembly.{isSound, taken}
 use Rattle.assembly_calls.specs.Calls as pieces
 use Rattle.waiting_laws.specs.Calls.{Stores, ack·, fill·}
-use Rattle.history_theorem.specs.Account.{sealedHead, nothing, keyOwed}
-use Rattle.history_theorem.specs.Claim.{Masks, Proper, nonceFor}
-use Rattle.history_theorem.specs.Receiver.{aRead, aMaskReply, anOpenReply, removeOwed, beginOwed, Inbound, Call, key·, remove·, encrypt·, release·, begin·, read·, mask·, write·, open·, readOver·, maskOver·, openOver·}
+use Rattle.history_theorem.specs.Account.{sealedHead, Shown, nothing, aMask, anOpening, keyOwed}
+use Rattle.history_theorem.specs.Claim.{Masks, Proper, bitsUnder, blockIn, nonceFor}
+use Rattle.history_theorem.specs.Receiver.{aRead, aMaskReply, anOpenReply, restOf, removeOwed, beginOwed, Inbound, Call, key·, remove·, encrypt·, release·, begin·, read·, mask·, write·, open·, readOver·, maskOver·, openOver·}
 use Rattle.assembly_theorem.specs.Account.{owed as pieceOwed}
 use Rattle.assembly_theorem.specs.Claim as assembly
 use Rattle.classify.specs.Classify.{contentOf, classified}
@@ -50,12 +51,15 @@ use Rattle.classify_calls.specs.declared.HuskClass.{HuskClass}
 use Rattle.classify_theorem.specs.Account as account
 use Rattle.opening_reply.specs.Opening.{startOf, lengthOf}
 use Rattle.datagram.specs.declared.Reading.{Reading}
+use Rattle.recv_calls.specs.declared.HuskReading.{HuskReading}
+use Rattle.sequence.specs.Laws.{Nearest}
+use Rattle.window.specs.Used.{above}
 use Rattle.ends_theorem.specs.Claim.{Holds}
 use Rattle.ends_theorem.specs.Ledger.{Item, Ledger, waiting, items, oldest, unacked, owed, shortReply, after as accountAfter}
 use Rattle.ends_theorem.specs.Sender.{Lent, sealedHeader}
 use Rattle.ends_theorem.specs.World.{Side, post, gateway, far, End, Deed, sending, over, receiving, piecing, dealing, dealingOver, Event, World, run, Setting, newEnd, fresh-pair, FairDeed, Honest}
 use Rattle.hosts_theorem.specs.Memory.{Incoming, Outgoing, InCall, «husk_receiving_key», «husk_receiving_remove», «husk_receiving_enable_encryption», «husk_receiving_release_application_data», «husk_receiving_begin», «husk_receiving_begin_read», «husk_receiving_read», «husk_receiving_mask», «husk_receiving_opened», «husk_receiving_read_over», «husk_receiving_mask_over», «husk_receiving_opened_over», «host_writes», OutCall, «husk_sending_key», «husk_sending_send», «husk_sending_sealed», «husk_sending_take», «husk_sending_take_in_place», «husk_flight_begin», «husk_flight_send», «husk_flight_message», «husk_flight_resend», «husk_flight_ack», «husk_notes_add», «husk_notes_send», behindOut, lends}
-use Rattle.hosts_theorem.specs.Log.{flatRead, readingOf, refusedTold, noNonce, Whole, replyOf, Host, Act, inward, «husk_sending_sealing», «husk_flight_status», «husk_sending_status», outward, outwardOver, «host_seals», «husk_assembly_begin», «husk_assembly_take», «husk_receiving_classify», «husk_receiving_classify_over», pieceTold, Made, behind, storesOf, sealingOf, showsNow, sendOf}
+use Rattle.hosts_theorem.specs.Log.{flatRead, readingOf, refusedTold, droppedTold, noNonce, Whole, replyOf, Host, Act, inward, «husk_sending_sealing», «husk_flight_status», «husk_sending_status», outward, outwardOver, «host_seals», «husk_assembly_begin», «husk_assembly_take», «husk_receiving_classify», «husk_receiving_classify_over», pieceTold, Made, behind, storesOf, sealingOf, showsNow, sendOf}
 
 -- ---- two hosts and a list of calls
 
@@ -256,6 +260,15 @@ AllAnswered hs (a ∷ cs) = Answered (hs (a .side)) (a .act) × AllAnswered (aft
 abbrev pub removalTold : ℕ → HuskTold
 removalTold n = choose (eqb n 6) (record { refusal = 0; told = 1 }) (record { refusal = n; told = 0 })
 
+-- a reply to a mask question, by the number nearest to the highest used plus one that ends in the bits which the mask brings out: 9 exactly if it was
+-- used and is at most 63 below the highest used, 26 exactly if it is 64 or more below
+abbrev pub OwedLate : Shown → (ℕ → List ℕ) → List ℕ → List ℕ → HuskReading → Type 0
+OwedLate nothing used rest m r = Unit {0}
+OwedLate (aMask e p) used rest m r =
+    (j : ℕ) → Nearest (blockIn rest) (bitsUnder m rest) (above (used e)) j
+    → ((r ≡ droppedTold 9) ↔ (Mem j (used e) × (above (used e) ≤ j + 64))) × ((r ≡ droppedTold 26) ↔ (j + 64 < above (used e)))
+OwedLate (anOpening e n at head body) used rest m r = Unit {0}
+
 -- keying, removing, peer encryption, release and beginning: the number owed; reading: as the question that waits demands; over a datagram of another
 -- length: 15, and the bytes stay; a reply neither 0 nor 1: 12; every field of a reading told by the claim's own table
 abbrev pub OwedIn : Inbound → InCall → Type 0
@@ -266,7 +279,9 @@ OwedIn i («husk_receiving_release_application_data» r v) = r ≡ 0
 OwedIn i («husk_receiving_begin» r v d) = r ≡ beginOwed d
 OwedIn i («husk_receiving_begin_read» r v d) = (16384 < length d → r ≡ refusedTold 1) × (length d ≤ 16384 → Proper aRead nothing (readingOf r) × Whole r)
 OwedIn i («husk_receiving_read» r v) = Proper aRead (i .into .account .waits) (readingOf r) × Whole r
-OwedIn i («husk_receiving_mask» r v m n e) = Proper (aMaskReply (m ∷ n ∷ [])) (i .into .account .waits) (readingOf r) × Whole r
+OwedIn i («husk_receiving_mask» r v m n e) =
+    Proper (aMaskReply (m ∷ n ∷ [])) (i .into .account .waits) (readingOf r) × Whole r
+    × OwedLate (i .into .account .waits) (i .into .used) (restOf (i .into)) (m ∷ n ∷ []) r
 OwedIn i («husk_receiving_opened» r v o len) =
     (o ≤ 1 → Proper (anOpenReply (openingOf o len)) (i .into .account .waits) (readingOf r)) × (1 < o → r ≡ refusedTold 12) × Whole r
 OwedIn i («husk_receiving_read_over» r v d) = (readingOf r ≡ says.Reply) × Whole r

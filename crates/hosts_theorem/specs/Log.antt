@@ -99,6 +99,10 @@ noNonce = 0 ∷ 0 ∷ 0 ∷ 0 ∷ 0 ∷ 0 ∷ 0 ∷ 0 ∷ 0 ∷ 0 ∷ 0 ∷ 0 �
 abbrev pub refusedTold : ℕ → HuskReading
 refusedTold n = record { kind = 0; refusal = n; «content_type» = 0; epoch = 0; number = 0; start = 0; «header_len» = 0; length = 0; nonce = noNonce }
 
+-- a record dropped: kind 2 and the number, and every other field 0
+abbrev pub droppedTold : ℕ → HuskReading
+droppedTold n = record { kind = 2; refusal = n; «content_type» = 0; epoch = 0; number = 0; start = 0; «header_len» = 0; length = 0; nonce = noNonce }
+
 -- every field of the answer that tells a reading; the nonce is an opening's, and every field that a kind does not use is 0
 abbrev pub told : Reading → List ℕ → HuskReading
 told says.Setting nonce = record { kind = 0; refusal = 12; «content_type» = 0; epoch = 0; number = 0; start = 0; «header_len» = 0; length = 0; nonce = noNonce }
@@ -106,7 +110,7 @@ told says.Reply nonce = record { kind = 0; refusal = 15; «content_type» = 0; e
 told says.End nonce = record { kind = 1; refusal = 0; «content_type» = 0; epoch = 0; number = 0; start = 0; «header_len» = 0; length = 0; nonce = noNonce }
 told says.Incomplete nonce = record { kind = 1; refusal = 2; «content_type» = 0; epoch = 0; number = 0; start = 0; «header_len» = 0; length = 0; nonce = noNonce }
 told says.TooMany nonce = record { kind = 1; refusal = 3; «content_type» = 0; epoch = 0; number = 0; start = 0; «header_len» = 0; length = 0; nonce = noNonce }
-told (says.Dropped why) nonce = record { kind = 2; refusal = reasonTold why; «content_type» = 0; epoch = 0; number = 0; start = 0; «header_len» = 0; length = 0; nonce = noNonce }
+told (says.Dropped why) nonce = droppedTold (reasonTold why)
 told (says.Plaintext t n s l) nonce = record { kind = 3; refusal = 0; «content_type» = t; epoch = 0; number = n; start = s; «header_len» = 0; length = l; nonce = noNonce }
 told (says.Unopened b n s l) nonce = record { kind = 4; refusal = 0; «content_type» = 0; epoch = b; number = n; start = s; «header_len» = 0; length = l; nonce = noNonce }
 told (says.Opened e n t s l) nonce = record { kind = 5; refusal = 0; «content_type» = t; epoch = e; number = n; start = s; «header_len» = 0; length = l; nonce = noNonce }

@@ -38,10 +38,10 @@ use Rattle.waiting_laws.specs.Calls.{Stores, ack·, Reply, stored}
 use Rattle.waiting_laws.specs.Queued.{Queued, Holds}
 use Rattle.waiting_laws.specs.Seals.{question-told}
 use Rattle.waiting_laws.specs.Takes.{takeTold, take-told}
-use Rattle.history_theorem.specs.Account.{sealedHead, nothing}
-use Rattle.history_theorem.specs.Claim.{Masks, Proper, Turned, OtherLength, nonceFor}
-use Rattle.history_theorem.specs.Receiver.{Sealed, Spoken, Stray, Told, aRead, anOpenReply, beginOwed, Inbound}
-use Rattle.history_theorem.specs.Sound.{Sound}
+use Rattle.history_theorem.specs.Account.{sealedHead, Shown, nothing, aMask, anOpening}
+use Rattle.history_theorem.specs.Claim.{Masks, Proper, Judged, Turned, OtherLength, nonceFor}
+use Rattle.history_theorem.specs.Receiver.{Sealed, Spoken, Stray, Told, aRead, aMaskReply, anOpenReply, restOf, resolvedIn, beginOwed, Inbound}
+use Rattle.history_theorem.specs.Sound.{Judges, Sound}
 use Rattle.assembly_theorem.specs.Claim.{Assembled}
 use Rattle.ends_theorem.specs.Ledger.{Item, Ledger, waiting, items, oldest, unacked, owed, after, shortReply}
 use Rattle.ends_theorem.specs.Matches.{itemsOf, Matches, Does}
@@ -65,9 +65,11 @@ use Rattle.datagram.specs.declared.Reading.{Reading}
 use Rattle.opening_reply.specs.Opening.{startOf, lengthOf}
 use Rattle.waiting_laws.specs.Answers as sends
 use Rattle.hosts_theorem.specs.Dealings.{ack-done, own, ack-told, turned}
-use Rattle.hosts_theorem.specs.Log.{readingOf, enteredIn, storesOf, sendOf, replyOf, enteredOut, Host, Act, inward, «husk_sending_sealing», «husk_flight_status», «husk_sending_status», outward, outwardOver, «host_seals», «husk_assembly_begin», «husk_assembly_take», «husk_receiving_classify», «husk_receiving_classify_over», Made, behind}
+use Rattle.hosts_theorem.specs.Log.{readingOf, Whole, enteredIn, storesOf, sendOf, replyOf, enteredOut, Host, Act, inward, «husk_sending_sealing», «husk_flight_status», «husk_sending_status», outward, outwardOver, «host_seals», «husk_assembly_begin», «husk_assembly_take», «husk_receiving_classify», «husk_receiving_classify_over», Made, behind}
 use Rattle.hosts_theorem.specs.Pieces.{begin-owed, take-owed}
-use Rattle.hosts_theorem.specs.Claim.{Stands, StandsIn, StandsOut, Shows, removalTold, OwedIn, OwedSealing, nothingToSeal, kindOwed, OwedMore, OwedOver, classTold, classOwed, Owed}
+use Rattle.hosts_theorem.specs.Claim.{Stands, StandsIn, StandsOut, Shows, removalTold, OwedLate, OwedIn, OwedSealing, nothingToSeal, kindOwed, OwedMore, OwedOver, classTold, classOwed, Owed}
+use Rattle.recv_calls.specs.declared.HuskReading.{HuskReading}
+use Rattle.hosts_theorem.specs.Answers.{nine-told, old-told}
 use Rattle.hosts_theorem.specs.In.{long-answer, first-whole, opened-answer, read-whole, mask-whole, opened-whole, remove-answer}
 use Rattle.hosts_theorem.specs.Out.{out-answer, sealing-answer}
 
@@ -90,6 +92,7 @@ plain s q ds h =
 record FineIn (i : Inbound) : Type 0 where
   told : (a : Told) → Mem a (i .told) → a .answer ≡ a .owed
   proper : (c : Spoken) → Mem c (i .into .spoken) → Proper (c .deed) (c .waited) (c .reading)
+  judged : (c : Spoken) → Mem c (i .into .spoken) → Judges c
   strays : (t : Stray) → Mem t (i .strays) → Turned t
 
 pub record Fine (e : End) : Type 0 where
@@ -110,7 +113,7 @@ asked-at masks w g gateway = let h = holds masks w g post 0 in (h .seal-asked, h
 
 pub fine : (masks : Side → Masks) (w : World) → Good masks w → (s : Side) → Fine (w s)
 fine masks w g s = record {
-  into = record { told = g .link s .told; proper = g .link s .sound .proper; strays = g .link s .strays };
+  into = record { told = g .link s .told; proper = g .link s .sound .proper; judged = g .link s .sound .judged; strays = g .link s .strays };
   said = g .said s;
   overs = g .overs s;
   asked = asked-at masks w g s .0;
@@ -122,6 +125,18 @@ fine masks w g s = record {
 }
 
 -- ---- receiving
+
+late-owed : (q : Shown) (to : Option ℕ) (used : ℕ → List ℕ) (rest m : List ℕ) (r : HuskReading) → Whole r → Judged (aMaskReply m) q to rest used (readingOf r)
+    → OwedLate q used rest m r
+late-owed nothing to used rest m r w j = tt
+late-owed (anOpening e n at head body) to used rest m r w j = tt
+late-owed (aMask e p) to used rest m r w j = λ n near.
+    let l = j .1 n near .late in
+    let nine = nine-told r w in
+    let old = old-told r w in (
+      (λ x. l .0 .0 (nine .0 x), λ s. nine .1 (l .0 .1 s)),
+      (λ x. l .1 .0 (old .0 x), λ s. old .1 (l .1 .1 s)),
+    )
 
 module _ (h : Incoming) (i : Inbound) (a : StandsIn h i) (z : Sound (i .into)) (sealed : ℕ → List Sealed) where
   in-owed : (c : InCall) → MadeIn h c → FineIn (enteredIn sealed i c) → OwedIn i c
@@ -140,7 +155,9 @@ module _ (h : Incoming) (i : Inbound) (a : StandsIn h i) (z : Sound (i .into)) (
     ),
   )
   in-owed («husk_receiving_read» r v) m f = (f .proper _ (here refl), read-whole h i a r v (h .datagram) m)
-  in-owed («husk_receiving_mask» r v n₀ n₁ e) m f = (f .proper _ (here refl), mask-whole h i a r v n₀ n₁ e (h .datagram) m)
+  in-owed («husk_receiving_mask» r v n₀ n₁ e) m f =
+      let w = mask-whole h i a r v n₀ n₁ e (h .datagram) m in
+      (f .proper _ (here refl), w, late-owed (i .into .account .waits) (resolvedIn (i .into .trial)) (i .into .used) (restOf (i .into)) (n₀ ∷ n₁ ∷ []) r w (f .judged _ (here refl)))
   in-owed («husk_receiving_opened» r v o len) m f = (
     λ l.
         by-test (λ (j : Inbound). FineIn j → Proper (anOpenReply (openingOf o len)) (i .into .account .waits) (readingOf r)) {t = leb o 1}

@@ -13,7 +13,7 @@ use Rattle.base.specs.Choose.{by-test, by-less, lt-or-ge, eq-or-ne}
 use Rattle.window.specs.declared.ReplayWindow.{ReplayWindow}
 use Rattle.window.specs.declared.Verdict.{Verdict}
 use Rattle.window.specs.declared.Verdict.the-variants.{Fresh, Seen, TooOld}
-use Rattle.window.specs.Window.{MarkedOver, verdictOver, markingOver, width, Marked, verdict, marking}
+use Rattle.window.specs.Window.{MarkedOver, verdictOver, markingOver, width, verdict, marking}
 
 -- ---- over any width
 

@@ -44,9 +44,6 @@ markingOver width w n =
 abbrev pub width : ℕ
 width = 64
 
-abbrev pub Marked : ReplayWindow → ℕ → Type 0
-Marked w n = MarkedOver width w n
-
 -- "The window's verdict becomes fresh, seen, or too old"
 unfoldable pub verdict : ReplayWindow → ℕ → Verdict
 unfolding verdictOver

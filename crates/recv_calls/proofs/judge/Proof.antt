@@ -38,20 +38,20 @@ leave-requires-3 c κs = search needs
 returns-2 : tie.Need-returns-2
 returns-2 c =
     let start = c .before .before .before .before .before .before .before .before .pre in
-    let fresh-or-not = sym (rw (c .before .before .before .before .before .window-at .ensures) at (c .before .before .before .before .check .ensures)) ∙ c .before .before .enum-told .given .1 in
-    judged-fresh _ _ _ _ _ (start .0) (start .1) (c .before .before .before .before .before .before .before .if1 .left) fresh-or-not (c .ask .ensures)
+    let verdict = sym (rw (c .before .before .before .before .before .window-at .ensures) at (c .before .before .before .before .check .ensures)) ∙ c .before .before .enum-told .given .1 in
+    judged-fresh _ _ _ _ _ (start .0) (start .1) (c .before .before .before .before .before .before .before .if1 .left) verdict (c .ask .ensures)
 
 returns-3 : tie.Need-returns-3
 returns-3 c =
     let start = c .before .before .before .before .before .before .before .before .pre in
-    let fresh-or-not = sym (rw (c .before .before .before .before .before .window-at .ensures) at (c .before .before .before .before .check .ensures)) ∙ c .before .before .enum-told2 .given .1 in
-    judged-seen _ _ _ _ _ (start .0) (start .1) (c .before .before .before .before .before .before .before .if1 .left) fresh-or-not (c .leave2 .ensures)
+    let verdict = sym (rw (c .before .before .before .before .before .window-at .ensures) at (c .before .before .before .before .check .ensures)) ∙ c .before .before .enum-told2 .given .1 in
+    judged-seen _ _ _ _ _ (start .0) (start .1) (c .before .before .before .before .before .before .before .if1 .left) verdict (c .leave2 .ensures)
 
 returns-4 : tie.Need-returns-4
 returns-4 c =
     let start = c .before .before .before .before .before .before .before .before .pre in
-    let fresh-or-not = sym (rw (c .before .before .before .before .before .window-at .ensures) at (c .before .before .before .before .check .ensures)) ∙ c .before .before .enum-told3 .given .1 in
-    judged-old _ _ _ _ _ (start .0) (start .1) (c .before .before .before .before .before .before .before .if1 .left) fresh-or-not (c .leave3 .ensures)
+    let verdict = sym (rw (c .before .before .before .before .before .window-at .ensures) at (c .before .before .before .before .check .ensures)) ∙ c .before .before .enum-told3 .given .1 in
+    judged-old _ _ _ _ _ (start .0) (start .1) (c .before .before .before .before .before .before .before .if1 .left) verdict (c .leave3 .ensures)
 
 pub judge-spec : {M : Type 1} → statement M
 judge-spec =
