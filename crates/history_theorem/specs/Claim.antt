@@ -198,17 +198,7 @@ TellsNeither r = (r ≡ says.Dropped reason.Seen → ⊥) × (r ≡ says.Dropped
 
 -- a reading asks for the opening of the number n in epoch e
 abbrev pub AsksFor : Reading → ℕ → ℕ → Type 0
-AsksFor (says.Opening k j s h l) e n = (k ≡ e) × (j ≡ n)
-AsksFor says.Setting e n = ⊥
-AsksFor says.Reply e n = ⊥
-AsksFor says.End e n = ⊥
-AsksFor says.Incomplete e n = ⊥
-AsksFor says.TooMany e n = ⊥
-AsksFor (says.Dropped r) e n = ⊥
-AsksFor (says.Plaintext t j s l) e n = ⊥
-AsksFor (says.Unopened b j s l) e n = ⊥
-AsksFor (says.Opened k j t s l) e n = ⊥
-AsksFor (says.Mask k s) e n = ⊥
+AsksFor r e n = (s : ℕ) × (h : ℕ) × (l : ℕ) × (r ≡ says.Opening e n s h l)
 
 -- all that is said of the number n in epoch e: 8 exactly if it is above 2^48 - 1, 9 and 26 as above, and its opening is asked where none of the
 -- three is said

@@ -172,7 +172,7 @@ module _ (t : Trial) (e : ℕ) (x : Sealed) (r : Reading) (shown : List ℕ) whe
   not-dropped : (w : Reason) → (t .count ≤ 15 → SaysOpened r shown e (asHanded x)) → (15 < t .count → r ≡ says.TooMany) → r ≡ says.Dropped w → ⊥
   not-dropped w opened over q =
       ⊎-elim (λ (l : t .count < 16). subst (λ v. SaysOpened v shown e (asHanded x)) q (opened (omega arith)))
-      (λ l. let z : _≡_ {A = ℕ} 0 1 = absurd (many (sym (over (omega arith)) ∙ q)) in omega arith) (lt-or-ge (t .count) 16)
+      (λ l. many (sym (over (omega arith)) ∙ q)) (lt-or-ge (t .count) 16)
     where
       many : says.TooMany ≡ says.Dropped w → ⊥
       many p = let z : _≡_ {A = ℕ} 0 1 = cc in omega arith
@@ -377,9 +377,9 @@ module _ (masks : Masks) (sealed : ℕ → List Sealed) (shaped : Shaped masks s
   asksMask e x = readsOut k (told (questioned b (question.Mask (askFor e x))) (says.Mask e (b .at + sealedHead))) d
 
   -- the cut that comes to a record whose number can be brought back asks for its mask
-  due-asks : b .question ≡ question.Nothing → (e : ℕ) (x : Sealed) → Known (reached y sealed) e x
+  known-asks : b .question ≡ question.Nothing → (e : ℕ) (x : Sealed) → Known (reached y sealed) e x
       → (part (b .at) (length (x .wire)) d ≡ x .wire) × (readOut (y .state) d ≡ asksMask e x)
-  due-asks q e x due =
+  known-asks q e x due =
       let lie : part (b .at) (length (x .wire)) d ≡ x .wire =
       ap (take (length (x .wire))) (sym (rest-idle y i q)) ∙ due .undamaged in (
         lie,
@@ -396,7 +396,7 @@ module _ (masks : Masks) (sealed : ℕ → List Sealed) (shaped : Shaped masks s
       (λ f a p e x due.
       subst (λ v. Known v e x → Under sealed v e x (o .state .datagram) (o .datagram) (y .used) (questionIn (o .reading) (o .datagram))) (some-inj p)
       (λ due.
-      let z = due-asks q e x due in
+      let z = known-asks q e x due in
       subst (λ v. Under sealed (reached y sealed) e x (v .state .datagram) (v .datagram) (y .used) (questionIn (v .reading) (v .datagram))) (sym (z .1))
       (record {
         count = sym (i .tally .readings);
@@ -404,7 +404,7 @@ module _ (masks : Masks) (sealed : ℕ → List Sealed) (shaped : Shaped masks s
         ongoing = at-mask refl (z .0) refl refl;
       })) due)
       (λ f a p e x due.
-      let z = due-asks q e x (subst (λ v. Known v e x) (sym (some-inj p)) due) in
+      let z = known-asks q e x (subst (λ v. Known v e x) (sym (some-inj p)) due) in
       underway≢settled (sym (ap (λ (v : Out). fateOf (v .reading)) (z .1)) ∙ f))
 
   again-trials : Trials sealed y → (r : Reading) (v : List ℕ) (w : Shown) → fateOf r ≡ underway → w ≡ y .account .waits

@@ -4,19 +4,18 @@ use lib.Bits.{bitXor}
 use lib.Dec.{eqb}
 use lib.ListN.{length, getD, drop}
 use lib.Seq.{getD-drop}
-use mathlib.Core.Bool.{Bool, true, false, false≢true}
+use mathlib.Core.Bool.{Bool, true, false, _||_, false≢true}
 use mathlib.Core.List.{List}
 use mathlib.Core.Logic.{_↔_}
 use mathlib.Core.Path.{_≡_, refl, sym, ap, subst, _∙_}
 use native.Mathlib.Omega.{arith}
 use Rattle.base.specs.Choose.{if-true, if-false, by-test, by-less}
-use Rattle.datagram.specs.Datagram.{reasonNumber, passed, counted, endAsked}
+use Rattle.datagram.specs.Datagram.{readingNumber, passed, counted, endAsked}
 use Rattle.datagram.specs.declared.Ask.{Ask}
 use Rattle.datagram.specs.declared.Datagram.{Datagram}
 use Rattle.datagram.specs.declared.Reading.the-variants as says
 use Rattle.datagram.specs.declared.Reading.{Reading}
 use Rattle.datagram.specs.declared.Reason.the-variants as reason
-use Rattle.datagram.specs.declared.Reason.{Reason}
 use Rattle.datagram.specs.declared.Step.{Step}
 use Rattle.incoming.specs.declared.Inner.the-variants as inner
 use Rattle.incoming.specs.declared.Inner.{Inner}
@@ -44,43 +43,13 @@ use Rattle.history_theorem.specs.Claim.{Rules, TellsNeither, bitsUnder, 
 
 -- ---- readings of which the window says nothing
 
-abbrev pub byWindow : Reason → Bool
-byWindow reason.Invalid = false
-byWindow reason.EarlyBits = false
-byWindow reason.NoKeys = false
-byWindow reason.TooShort = false
-byWindow reason.TooHigh = false
-byWindow reason.Seen = true
-byWindow reason.TooOld = true
-byWindow reason.NotOpened = false
-byWindow reason.NoContentType = false
+-- its number of a refusal is k
+abbrev isTold : ℕ → Reading → Bool
+isTold k r = eqb (readingNumber r) k
 
+-- 9 or 26
 abbrev pub isRuled : Reading → Bool
-isRuled says.Setting = false
-isRuled says.Reply = false
-isRuled says.End = false
-isRuled says.Incomplete = false
-isRuled says.TooMany = false
-isRuled (says.Dropped r) = byWindow r
-isRuled (says.Plaintext t n s l) = false
-isRuled (says.Unopened b n s l) = false
-isRuled (says.Opened e n t s l) = false
-isRuled (says.Mask e s) = false
-isRuled (says.Opening e n s h l) = false
-
--- 8
-abbrev isHigh : Reading → Bool
-isHigh says.Setting = false
-isHigh says.Reply = false
-isHigh says.End = false
-isHigh says.Incomplete = false
-isHigh says.TooMany = false
-isHigh (says.Dropped r) = eqb (reasonNumber r) 8
-isHigh (says.Plaintext t n s l) = false
-isHigh (says.Unopened b n s l) = false
-isHigh (says.Opened e n t s l) = false
-isHigh (says.Mask e s) = false
-isHigh (says.Opening e n s h l) = false
+isRuled r = isTold 9 r || isTold 26 r
 
 pub neither : (r : Reading) → isRuled r ≡ false → TellsNeither r
 neither r f = (λ e. false≢true (sym f ∙ ap isRuled e), λ e. false≢true (sym f ∙ ap isRuled e))
@@ -136,8 +105,8 @@ module _ (e : RecvEpochEntry) (b : Datagram) (a : Ask) (n : ℕ) (used : List �
       }
 
   -- else it is ruled on, and 8 is not said
-  not-high : (r : Reading) → isHigh r ≡ false → n ≤ 0xFFFF_FFFF_FFFF → (r ≡ says.Dropped reason.TooHigh) ↔ (0xFFFF_FFFF_FFFF < n)
-  not-high r f h = (λ p. absurd (false≢true (sym f ∙ ap isHigh p)), λ l. absurd (omega arith))
+  not-high : (r : Reading) → isTold 8 r ≡ false → n ≤ 0xFFFF_FFFF_FFFF → (r ≡ says.Dropped reason.TooHigh) ↔ (0xFFFF_FFFF_FFFF < n)
+  not-high r f h = (λ p. absurd (false≢true (sym f ∙ ap (isTold 8) p)), λ l. absurd (omega arith))
 
   ruled-told : (v : Verdict) → verdict (e .replay) n ≡ v → n ≤ 0xFFFF_FFFF_FFFF → Told (ruled v e b a n)
   ruled-told number.Fresh q h =
@@ -149,7 +118,7 @@ module _ (e : RecvEpochEntry) (b : Datagram) (a : Ask) (n : ℕ) (used : List �
           (λ p. absurd (z .0 p), λ s. absurd (t .0 (s .0))),
           (λ p. absurd (z .1 p), λ s. absurd (omega (arith, t .1))),
         );
-        fresh = λ small s o. unfold openingAsked in (refl, refl);
+        fresh = λ small s o. unfold openingAsked in (b .at, a .«header_len», a .length, refl);
       }
   ruled-told number.Seen q h =
       let t = tells agrees n number.Seen .0 q in

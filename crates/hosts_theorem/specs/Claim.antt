@@ -3,7 +3,7 @@ use Prim.Native.Nat.{ℕ, _+_, _*_, _≤_, _<_}
 use lib.Dec.{eqb, leb, ltb}
 use lib.ListN.{length}
 use mathlib.Core.Bool.{Bool, true}
-use mathlib.Core.List.{List, [], _∷_, _++_, List·Memᴰ as Mem}
+use mathlib.Core.List.{List, [], _∷_, _++_}
 use mathlib.Core.Logic.{_↔_}
 use mathlib.Core.Option.{Option, none, some}
 use mathlib.Core.Path.{_≡_}
@@ -41,7 +41,7 @@ use Rattle.assembly.specs.Assembly.{isSound, taken}
 use Rattle.assembly_calls.specs.Calls as pieces
 use Rattle.waiting_laws.specs.Calls.{Stores, ack·, fill·}
 use Rattle.history_theorem.specs.Account.{sealedHead, Shown, nothing, aMask, anOpening, keyOwed}
-use Rattle.history_theorem.specs.Claim.{Masks, Proper, bitsUnder, blockIn, nonceFor}
+use Rattle.history_theorem.specs.Claim.{Masks, IsSeen, IsOld, bitsUnder, blockIn, Proper, nonceFor}
 use Rattle.history_theorem.specs.Receiver.{aRead, aMaskReply, anOpenReply, restOf, removeOwed, beginOwed, Inbound, Call, key·, remove·, encrypt·, release·, begin·, read·, mask·, write·, open·, readOver·, maskOver·, openOver·}
 use Rattle.assembly_theorem.specs.Account.{owed as pieceOwed}
 use Rattle.assembly_theorem.specs.Claim as assembly
@@ -266,7 +266,7 @@ abbrev pub OwedLate : Shown → (ℕ → List ℕ) → List ℕ → List ℕ →
 OwedLate nothing used rest m r = Unit {0}
 OwedLate (aMask e p) used rest m r =
     (j : ℕ) → Nearest (blockIn rest) (bitsUnder m rest) (above (used e)) j
-    → ((r ≡ droppedTold 9) ↔ (Mem j (used e) × (above (used e) ≤ j + 64))) × ((r ≡ droppedTold 26) ↔ (j + 64 < above (used e)))
+    → ((r ≡ droppedTold 9) ↔ IsSeen (used e) j) × ((r ≡ droppedTold 26) ↔ IsOld (used e) j)
 OwedLate (anOpening e n at head body) used rest m r = Unit {0}
 
 -- keying, removing, peer encryption, release and beginning: the number owed; reading: as the question that waits demands; over a datagram of another
