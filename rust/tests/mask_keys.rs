@@ -216,6 +216,18 @@ fn a_refused_keying_changes_nothing() {
     }
 }
 
+/// What prints the words of a direction, in a log or a failed test, leaves its mask keys out.
+#[test]
+fn no_mask_key_is_printed() {
+    let (mut receiving, mut sending) = (ffi::Receiving::BLANK, ffi::Sending::BLANK);
+    receiving.mask_keys.fill(0xA7);
+    sending.mask_keys.fill(0xA7);
+    for printed in [format!("{receiving:?}"), format!("{sending:?}")] {
+        assert!(printed.contains("word"), "{printed}");
+        assert!(!printed.contains("167"), "{printed}");
+    }
+}
+
 /// The datagram that the library makes where a sealing reply brings this mask.
 fn replied(masked: bool, mask: [u8; 2]) -> Vec<u8> {
     let (mut s, mut f, mut queue) = (ffi::Sending::BLANK, ffi::Flight::BLANK, vec![0; 600]);

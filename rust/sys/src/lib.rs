@@ -19,6 +19,7 @@
 
 #![no_std]
 
+use core::fmt;
 use core::marker::PhantomData;
 use core::slice;
 
@@ -80,7 +81,7 @@ const FLIGHT_WORDS: usize = 73;
 const FLIGHT_NUMBERS: usize = 384;
 
 #[repr(C)]
-#[derive(Clone, Debug, PartialEq, Eq)]
+#[derive(Clone, PartialEq, Eq)]
 pub struct Receiving {
     pub word: [u64; RECEIVING_WORDS],
     pub pending: [u64; PENDING],
@@ -88,10 +89,24 @@ pub struct Receiving {
 }
 
 #[repr(C)]
-#[derive(Clone, Debug, PartialEq, Eq)]
+#[derive(Clone, PartialEq, Eq)]
 pub struct Sending {
     pub word: [u64; SENDING_WORDS],
     pub mask_keys: [u8; SENDING_KEYS],
+}
+
+/// Without the mask keys, so that no log has them.
+impl fmt::Debug for Receiving {
+    fn fmt(&self, f: &mut fmt::Formatter<'_>) -> fmt::Result {
+        f.debug_struct("Receiving").field("word", &self.word).field("pending", &self.pending).finish_non_exhaustive()
+    }
+}
+
+/// Without the mask keys, so that no log has them.
+impl fmt::Debug for Sending {
+    fn fmt(&self, f: &mut fmt::Formatter<'_>) -> fmt::Result {
+        f.debug_struct("Sending").field("word", &self.word).finish_non_exhaustive()
+    }
 }
 
 #[repr(C)]
