@@ -191,22 +191,41 @@ static void check_rows(void)
     }
 }
 
-/* Random pieces, overlapping, doubled, too long and too many, of messages of up to 300 bytes. */
+/* A piece of a message of mostly 300 bytes, and its offset: mostly with the type, total and bytes of those held, else with one altered. */
+static uint32_t random_record(int i)
+{
+    const Bitmap *b = &bitmaps[BITS];
+    uint32_t most = b->count > 0 ? b->total : 300, total = i % 40 == 0 ? (uint32_t)rand() % 300 : i % 77 == 0 ? ROOM + 1 : most;
+    uint32_t offset = i % 9 == 0 ? 0 : (uint32_t)rand() % 300, length = (uint32_t)rand() % (301 - offset);
+    if (i % 13 == 0 && b->count > 0) {
+        uint32_t k = (uint32_t)rand() % b->count;
+        offset = b->offset[k], length = b->length[k];
+    }
+    put_record(0, total, offset, length);
+    put_number(0, b->expected + (rand() % 16 == 0));
+    if (b->count > 0)
+        record[0].bytes[0] = (uint8_t)b->type;
+    if (rand() % 32 == 0)
+        record[0].bytes[0] ^= 1;
+    if (length > 0 && rand() % 8 == 0)
+        record[0].bytes[PIECE_HEADER + (uint32_t)rand() % length] ^= (uint8_t)(1u << rand() % 8);
+    return offset;
+}
+
+/* Random pieces, overlapping, doubled, disagreeing, too long and too many. What is held is the message from then on. */
 static void check_random(void)
 {
     static const int answers[] = {HUSK_PIECE_OTHER, HUSK_PIECE_SAME, HUSK_PIECE_HELD, HUSK_PIECE_MESSAGE, HUSK_BAD_PIECE,
-        HUSK_TOO_MANY_PIECES};
-    int seen[HUSK_TOO_MANY_PIECES + 1] = {0};
+        HUSK_TOO_MANY_PIECES, HUSK_PIECES_DISAGREE};
+    int seen[HUSK_PIECES_DISAGREE + 1] = {0};
     fresh();
     srand(1);
     for (int i = 0; i < RANDOM; i++) {
-        uint32_t total = i % 40 == 0 ? (uint32_t)rand() % 300 : i % 77 == 0 ? ROOM + 1 : 300;
-        uint32_t offset = i % 9 == 0 ? 0 : (uint32_t)rand() % 300, length = (uint32_t)rand() % (301 - offset);
-        body[offset] = (uint8_t)rand();
-        put_record(0, total, offset, length);
-        put_number(0, bitmaps[BITS].expected + (rand() % 16 == 0));
+        uint32_t offset = random_record(i);
         HuskPiece a = same_answers(0, EIGHTS);
         seen[a.kind + a.refusal]++; /* one of them is 0 */
+        if (a.kind == HUSK_PIECE_HELD)
+            memcpy(body + offset, record[0].bytes + PIECE_HEADER, record[0].n - PIECE_HEADER);
         if (bitmaps[BITS].count == MOST_PIECES && rand() % 8 == 0)
             fresh();
     }

@@ -55,6 +55,46 @@ static int is_same(const Bitmap *b, const Piece *h)
     return 0;
 }
 
+/* ---- a body compared: whether a byte of it is another than the one that a piece held has brought */
+
+typedef int Compare(const Bitmap *b, const Piece *h, const uint8_t *body, const uint8_t *buffer);
+
+static inline int is_other(const uint8_t *bits, uint32_t at, uint8_t byte, const uint8_t *buffer)
+{
+    return (bits[at / 8] >> at % 8 & 1) && buffer[at] != byte;
+}
+
+static inline int compare_bits(const Bitmap *b, const Piece *h, const uint8_t *body, const uint8_t *buffer)
+{
+    for (uint32_t i = 0; i < h->length; i++)
+        if (is_other(b->bits, h->offset + i, body[i], buffer))
+            return 1;
+    return 0;
+}
+
+static inline int compare_eights(const Bitmap *b, const Piece *h, const uint8_t *body, const uint8_t *buffer)
+{
+    for (uint32_t i = 0; i < h->length;) {
+        uint32_t at = h->offset + i;
+        uint8_t bits = b->bits[at / 8];
+        if (at % 8 != 0 || h->length - i < 8 || (bits != 0 && bits != 0xFF)) {
+            if (is_other(b->bits, at, body[i++], buffer))
+                return 1;
+            continue;
+        }
+        if (bits == 0xFF && memcmp(buffer + at, body + i, 8) != 0)
+            return 1;
+        i += 8;
+    }
+    return 0;
+}
+
+static inline int compare_nothing(const Bitmap *b, const Piece *h, const uint8_t *body, const uint8_t *buffer)
+{
+    (void)b, (void)h, (void)body, (void)buffer;
+    return 0;
+}
+
 /* ---- a body written: whether the message is whole then */
 
 typedef int Write(Bitmap *b, const Piece *h, const uint8_t *body, uint8_t *buffer);
@@ -146,8 +186,24 @@ static inline HuskPiece hold(Bitmap *b, const Piece *h, const uint8_t *body, uin
     return a;
 }
 
+/* A piece of the number expected. */
+static inline __attribute__((always_inline)) HuskPiece offer(Bitmap *b, const Piece *h, const uint8_t *body, uint8_t *buffer,
+    Compare *compare, Write *write)
+{
+    int answers_all = write != write_over;
+    if (is_bad(b, h))
+        return ended(b, HUSK_BAD_PIECE);
+    if (answers_all && b->count > 0 && (h->type != b->type || h->total != b->total || compare(b, h, body, buffer)))
+        return ended(b, HUSK_PIECES_DISAGREE);
+    int same = answers_all && is_same(b, h);
+    if (answers_all && !same && b->count == MOST_PIECES)
+        return ended(b, HUSK_TOO_MANY_PIECES);
+    b->place += PIECE_HEADER + h->length;
+    return same ? told(HUSK_PIECE_SAME, 0, 0) : hold(b, h, body, buffer, write);
+}
+
 static inline __attribute__((always_inline)) HuskPiece take(Bitmap *b, const uint8_t *content, size_t n, uint8_t *buffer, size_t room,
-    Write *write)
+    Compare *compare, Write *write)
 {
     if (room < HUSK_MESSAGE_ROOM)
         return told(HUSK_PIECE_REFUSED, HUSK_BUFFER_TOO_SMALL, HUSK_MESSAGE_ROOM);
@@ -161,32 +217,24 @@ static inline __attribute__((always_inline)) HuskPiece take(Bitmap *b, const uin
     Piece h = parsed(p);
     if (n - b->place - PIECE_HEADER < h.length)
         return ended(b, HUSK_BAD_PIECE);
-    size_t next = b->place + PIECE_HEADER + h.length;
-    if (h.number == b->expected) {
-        if (is_bad(b, &h))
-            return ended(b, HUSK_BAD_PIECE);
-        int same = write != write_over && is_same(b, &h);
-        if (write != write_over && !same && b->count == MOST_PIECES)
-            return ended(b, HUSK_TOO_MANY_PIECES);
-        b->place = next;
-        return same ? told(HUSK_PIECE_SAME, 0, 0) : hold(b, &h, p + PIECE_HEADER, buffer, write);
-    }
-    b->place = next;
+    if (h.number == b->expected)
+        return offer(b, &h, p + PIECE_HEADER, buffer, compare, write);
+    b->place += PIECE_HEADER + h.length;
     HuskPiece other = {HUSK_PIECE_OTHER, 0, 0, (uint16_t)h.number, 0};
     return other;
 }
 
 HuskPiece bitmap_take(Bitmap *b, const uint8_t *content, size_t n, uint8_t *buffer, size_t room)
 {
-    return take(b, content, n, buffer, room, write_bits);
+    return take(b, content, n, buffer, room, compare_bits, write_bits);
 }
 
 HuskPiece bitmap_take_by_eight(Bitmap *b, const uint8_t *content, size_t n, uint8_t *buffer, size_t room)
 {
-    return take(b, content, n, buffer, room, write_eights);
+    return take(b, content, n, buffer, room, compare_eights, write_eights);
 }
 
 HuskPiece bitmap_take_over(Bitmap *b, const uint8_t *content, size_t n, uint8_t *buffer, size_t room)
 {
-    return take(b, content, n, buffer, room, write_over);
+    return take(b, content, n, buffer, room, compare_nothing, write_over);
 }

@@ -18,13 +18,14 @@ typedef struct {
 void bitmap_init(Bitmap *b);
 void bitmap_begin(Bitmap *b, size_t n);
 
-/* Bit by bit: a byte is written and its bit set where the bit is clear. The same answers as husk_assembly_take. */
+/* Bit by bit: a byte is compared with that of the buffer where its bit is set; if all are equal, it is written and its bit set where the bit
+ * is clear. The same answers as husk_assembly_take. */
 HuskPiece bitmap_take(Bitmap *b, const uint8_t *content, size_t n, uint8_t *buffer, size_t room);
 /* The same, by eight bytes where eight bits are all clear or all set. */
 HuskPiece bitmap_take_by_eight(Bitmap *b, const uint8_t *content, size_t n, uint8_t *buffer, size_t room);
 /* The form of OpenSSL's dtls1_reassemble_fragment: the whole piece is copied over what is there, its bits are set, and all bits are looked
- * through for one that is clear. It answers less: later bytes win where pieces overlap, no piece is the same as another, and there may be
- * any number of them. */
+ * through for one that is clear. It answers less: nothing is compared and later bytes win where pieces overlap, no piece is the same as
+ * another, and there may be any number of them. */
 HuskPiece bitmap_take_over(Bitmap *b, const uint8_t *content, size_t n, uint8_t *buffer, size_t room);
 
 #endif

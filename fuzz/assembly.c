@@ -1,5 +1,7 @@
 /* Histories of the assembly of handshake messages, beside a model of it: a map of the bytes covered, a list of the pieces held, and the
- * tests in the order in which change request 2 words them. */
+ * tests in the order in which change requests 2 and 7 word them. */
+#include <inttypes.h>
+#include <stdio.h>
 #include <string.h>
 
 #include "fuzz.h"
@@ -12,6 +14,13 @@ enum { W_EXPECTED, W_COUNT, W_TYPE, W_TOTAL, W_SIZE, W_PLACE, W_OFFSETS, W_LENGT
 typedef struct {
     uint64_t type, total, number, offset, length;
 } Piece;
+
+/* What must be reached and is no answer of its own: a disagreement by one reason alone, and pieces that overlap and agree. */
+enum { BY_TYPE, BY_TOTAL, BY_BYTE, OVERLAPS, OF_OTHERS, REACHES };
+
+static const char *const reach_names[REACHES] = {"disagreed by the type alone", "by the total alone", "by a byte alone", "held over others",
+    "held though all its bytes were there"};
+static uint64_t reached[REACHES];
 
 static Area states, contents, buffers, shorts;
 static Lent state, content, buffer, short_buffer;
@@ -59,7 +68,7 @@ static HuskPiece told(uint8_t kind, uint8_t refusal, size_t length)
     return a;
 }
 
-/* "a refusal other than 16 ends the record" */
+/* "a refusal other than 16 ends the record"; "the message so far is kept" */
 static HuskPiece ended(uint8_t refusal)
 {
     model.place = model.size;
@@ -73,7 +82,33 @@ static int is_bad(const Piece *p)
     return end > p->total || (model.count > 0 && end > model.total) || p->total > ROOM || model.expected == LAST_NUMBER;
 }
 
-/* "the same when message number, offset and length agree" */
+/* How many of a piece's bytes are in places that pieces held cover, and how many of these are others. */
+static uint64_t shared_bytes(const Piece *p, const uint8_t *body, uint64_t *others)
+{
+    uint64_t shared = 0;
+    *others = 0;
+    for (uint64_t i = 0; i < p->length; i++)
+        if (model.covered[p->offset + i]) {
+            shared++;
+            *others += model.bytes[p->offset + i] != body[i];
+        }
+    return shared;
+}
+
+/* "Every piece must have the held type and total, and where pieces overlap, shared bytes must be equal" */
+static int disagrees(const Piece *p, const uint8_t *body)
+{
+    uint64_t others;
+    if (model.count == 0)
+        return 0;
+    shared_bytes(p, body, &others);
+    int type = p->type != model.type % 256, total = p->total != model.total, byte = others > 0;
+    if (type + total + byte == 1)
+        reached[type ? BY_TYPE : total ? BY_TOTAL : BY_BYTE]++;
+    return type || total || byte;
+}
+
+/* "the same exactly when message number, type, total length, offset, length and every byte agree": of a piece that does not disagree */
 static int is_same(const Piece *p)
 {
     for (uint64_t k = 0; k < model.count; k++)
@@ -82,16 +117,17 @@ static int is_same(const Piece *p)
     return 0;
 }
 
-/* "the earlier bytes stay"; "handed over once when every byte is covered"; "Type and total are those of the first piece held" */
+/* "handed over once when every byte is covered"; "Type and total are those of the first piece held" */
 static HuskPiece hold(const Piece *p, const uint8_t *body)
 {
+    uint64_t others, shared = shared_bytes(p, body, &others);
+    reached[OVERLAPS] += shared > 0 && shared < p->length;
+    reached[OF_OTHERS] += shared > 0 && shared == p->length;
     if (model.count == 0) {
         model.type = p->type;
         model.total = p->total;
     }
-    for (uint64_t i = 0; i < p->length; i++)
-        if (!model.covered[p->offset + i])
-            model.bytes[p->offset + i] = body[i];
+    memcpy(model.bytes + p->offset, body, (size_t)p->length);
     cover(p->offset, p->length);
     model.offset[model.count] = p->offset;
     model.length[model.count++] = p->length;
@@ -120,8 +156,8 @@ static HuskPiece passed(uint8_t kind, uint64_t number, uint64_t next)
     return a;
 }
 
-/* "Pieces of other messages change nothing and are only measured against the record"; "24, before sameness", "then 25 for a fifty-first
- * different piece" */
+/* "Pieces of other messages change nothing and are only measured against the record"; "24, before sameness", "28 for a disagreement, after
+ * 24 and before 25", "25 for a fifty-first different piece" */
 static HuskPiece take_piece(const uint8_t *p, size_t left)
 {
     if (left < HEAD || left - HEAD < get(p + 9, 3))
@@ -132,6 +168,8 @@ static HuskPiece take_piece(const uint8_t *p, size_t left)
         return passed(HUSK_PIECE_OTHER, h.number, next);
     if (is_bad(&h))
         return ended(24);
+    if (disagrees(&h, p + HEAD))
+        return ended(28);
     if (is_same(&h))
         return passed(HUSK_PIECE_SAME, 0, next);
     if (model.count == PIECES)
@@ -235,13 +273,15 @@ static void take_record(void)
 
 /* ---- records */
 
-/* The message that a sender cuts into pieces, and how far it is. */
+/* The message that a sender cuts into pieces, by what its bytes are told from those of others, and how far it is. */
 static struct {
-    uint64_t type, total, number, pieces, next, reversed;
+    uint64_t type, total, number, salt, pieces, next, reversed;
 } plan;
 
 /* Most messages of a history have at most so many bytes. */
 static uint64_t scale;
+/* In long records other pieces than the planned ones come so much more rarely, since each may end the record. */
+static uint64_t rarely;
 
 static uint64_t some_total(void)
 {
@@ -252,9 +292,11 @@ static uint64_t some_total(void)
 static void new_plan(uint64_t number)
 {
     static const uint64_t cuts[] = {12, 49, 50, 51};
-    plan.type = below(256);
-    plan.total = number == model.expected && model.count > 0 && model.total <= ROOM && !one_in(8) ? model.total : some_total();
+    int begun = number == model.expected && model.count > 0 && model.total <= ROOM;
+    plan.type = begun && !one_in(16) ? model.type : below(256);
+    plan.total = begun && !one_in(16) ? model.total : some_total();
     plan.number = number;
+    plan.salt = any();
     plan.pieces = one_in(5) ? cuts[below(4)] : 1 + below(5);
     plan.next = 0;
     plan.reversed = one_in(3);
@@ -275,7 +317,7 @@ static Piece some_piece(void)
 {
     Piece p = planned();
     uint64_t k = below(model.count > 0 && model.count <= PIECES ? model.count : PIECES);
-    switch (below(32)) {
+    switch (below(32 * rarely)) {
     case 0: case 1:
         p.offset = below(p.total + 1);
         p.length = below(p.total - p.offset + 1);
@@ -290,8 +332,27 @@ static Piece some_piece(void)
     case 7: p.offset = one_in(2) ? p.offset + 1 : edge_word(p.offset); break;
     case 8: p.length = 0; break;
     case 9: p.total = p.offset + p.length + (one_in(2) ? 0 : below(40)); break;
+    case 10: p.type ^= one_in(2) ? 1u << below(8) : below(256); break;
     }
     return p;
+}
+
+/* A byte of the message: that which is there, where a piece held has brought it. */
+static uint8_t body_byte(const Piece *h, uint64_t at)
+{
+    if (h->number % 65536 == model.expected && at < ROOM && model.covered[at])
+        return model.bytes[at];
+    return (uint8_t)(plan.salt + 7 * at + at / 256);
+}
+
+/* A byte becomes another: the first, the last, or any; mostly one that is shared, if there is one from there on. */
+static void alter(uint8_t *body, size_t n, uint64_t offset)
+{
+    size_t i = one_in(4) ? 0 : one_in(4) ? n - 1 : (size_t)below(n);
+    if (!one_in(4))
+        while (i + 1 < n && (offset + i >= ROOM || !model.covered[offset + i]))
+            i++;
+    body[i] ^= (uint8_t)(1u << below(8));
 }
 
 static void put(uint8_t *p, uint64_t x, int n)
@@ -309,8 +370,10 @@ static size_t put_piece(uint8_t *p, size_t room, const Piece *h)
     put(p + 4, h->number, 2);
     put(p + 6, h->offset, 3);
     put(p + 9, h->length, 3);
-    memset(p + HEAD, (int)below(256), n);
-    scatter(p + HEAD, n < 64 ? n : 64);
+    for (size_t i = 0; i < n; i++)
+        p[HEAD + i] = body_byte(h, h->offset + i);
+    if (n > 0 && one_in(16 * rarely))
+        alter(p + HEAD, n, h->offset);
     return HEAD + n;
 }
 
@@ -321,7 +384,9 @@ static void lend_record(void)
     size_t n = 0;
     if (plan.number % 65536 != model.expected % 65536 || one_in(16))
         new_plan(model.expected);
-    for (uint64_t k = one_in(12) ? 60 : 1 + below(4); k > 0 && n + HEAD <= CONTENT; k--) {
+    uint64_t pieces = one_in(12) ? 60 : 1 + below(4);
+    rarely = pieces == 60 && !one_in(3) ? 16 : 1;
+    for (uint64_t k = pieces; k > 0 && n + HEAD <= CONTENT; k--) {
         Piece p = some_piece();
         n += put_piece(built + n, CONTENT - n, &p);
     }
@@ -345,7 +410,7 @@ static void forge(void)
     uint64_t *w = s->word;
     w[W_EXPECTED] = one_in(2) ? below(3) : numbers[below(6)];
     w[W_COUNT] = one_in(2) ? below(8) : counts[below(6)];
-    w[W_TYPE] = any();
+    w[W_TYPE] = one_in(8) ? any() : below(256);
     w[W_TOTAL] = one_in(2) ? below(scale + 1) : totals[below(6)];
     for (int k = 0; k < PIECES; k++) {
         w[W_OFFSETS + k] = one_in(16) ? edge_word(0) : below(scale + 1);
@@ -371,7 +436,7 @@ static void change(void)
     load();
 }
 
-/* A host may use the buffer for itself while nothing is held. */
+/* A host may use the buffer for itself while nothing is held. One that does so with a piece held is answered by the bytes that are there. */
 static void change_buffer(void)
 {
     mutate(buffer.bytes, buffer.n);
@@ -382,7 +447,7 @@ static void change_buffer(void)
 static void step(void)
 {
     lend_record();
-    if (model.count == 0 && one_in(4))
+    if (one_in(model.count == 0 ? 4 : 16))
         change_buffer();
     call_begin(one_in(32) ? (size_t)edge_word(content.n) : content.n);
     take_record();
@@ -447,4 +512,16 @@ void assembly_start(void)
     shorts = area(ROOM);
     content = lend(&contents, 0, 1);
     short_buffer = lend(&shorts, 0, 1);
+}
+
+unsigned assembly_tell(void)
+{
+    unsigned never = 0;
+    printf("pieces:");
+    for (int i = 0; i < REACHES; i++) {
+        printf("%s %s %" PRIu64, i > 0 ? "," : "", reach_names[i], reached[i]);
+        never += reached[i] == 0;
+    }
+    printf("\n");
+    return never;
 }

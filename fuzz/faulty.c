@@ -584,6 +584,12 @@ HuskTold __wrap_husk_notes_send_words(HuskSending *s, uint64_t *count, uint64_t 
     return t;
 }
 
+/* The messages of several pieces that are known answers have 5 or 200 bytes. */
+static int is_known_total(uint64_t total)
+{
+    return total == 5 || total == 200;
+}
+
 void __wrap_husk_assembly_init(HuskAssembly *s)
 {
     uint64_t span = s->word[105];
@@ -598,7 +604,7 @@ uint8_t __wrap_husk_assembly_begin(HuskAssembly *s, size_t n)
     uint8_t answer = __real_husk_assembly_begin(s, n);
     if (answer == 0 && s->word[1] == 50 && n > 13 && planted(48))
         s->word[1] = 0;
-    if (answer == 0 && place > 0 && place < n && planted(49))
+    if (answer == 0 && place > 0 && place < n && !is_known_total(s->word[3]) && planted(49))
         s->word[5] = place;
     return answer;
 }
@@ -615,13 +621,14 @@ static uint64_t number_of(const uint8_t *p, int n)
 static void write_fault(uint64_t *w, const uint8_t *piece, uint64_t held, uint8_t *b, size_t bn)
 {
     size_t offset = (size_t)number_of(piece + 6, 3), length = (size_t)number_of(piece + 9, 3);
-    if (held > 2 && planted(50))
-        memcpy(b + offset, piece + 12, length); /* over what earlier pieces brought */
-    if (held > 2 && w[1] > 0 && planted(51))
-        w[3] = number_of(piece + 1, 3); /* the total of a later piece */
-    if (held > 2 && w[1] > 0 && planted(52))
-        w[2] = piece[0]; /* the type of a later piece */
-    if (held > 2 && planted(53))
+    int later = held > 2 && !is_known_total(w[3]);
+    if (later && w[6] < bn && w[56] > 0 && planted(50))
+        b[w[6]] ^= 1; /* a byte that an earlier piece brought */
+    if (later && w[1] > 0 && planted(51))
+        w[3]++; /* the total grows */
+    if (later && w[1] > 0 && planted(52))
+        w[2] ^= 1; /* the type changes */
+    if (later && planted(53))
         ((volatile uint8_t *)b)[bn] = 0;
     if (offset + length < bn && length > 5 && planted(54))
         b[offset + length] ^= 1;
@@ -643,9 +650,9 @@ static void count_fault(HuskPiece *a, uint64_t *w)
 static void answer_fault(HuskPiece *a, HuskAssembly *s, uint64_t place, const uint8_t *c)
 {
     uint64_t *w = s->word;
-    if (a->kind == HUSK_PIECE_HELD && planted(55))
+    if (a->kind == HUSK_PIECE_HELD && !is_known_total(w[3]) && planted(55))
         count_fault(a, w);
-    if (a->kind == HUSK_PIECE_SAME && w[1] == 50 && w[3] != 200 && planted(56))
+    if (a->kind == HUSK_PIECE_SAME && w[1] == 50 && !is_known_total(w[3]) && planted(56))
         *a = (HuskPiece){HUSK_PIECE_REFUSED, 25, 0, 0, 0};
     if (a->kind == HUSK_PIECE_OTHER && number_of(c + place + 4, 2) == w[0] + 1 && w[1] < 50 && planted(57)) {
         w[6 + w[1]] = number_of(c + place + 6, 3); /* a piece of the next message */
@@ -654,9 +661,9 @@ static void answer_fault(HuskPiece *a, HuskAssembly *s, uint64_t place, const ui
     }
     if (a->kind == HUSK_PIECE_OTHER && w[1] > 0 && planted(65))
         a->number = (uint16_t)w[0]; /* the number expected */
-    if (a->refusal == 24 && w[1] > 0 && planted(58))
+    if (a->refusal == 24 && w[1] > 0 && !is_known_total(w[3]) && planted(58))
         w[5] = place; /* the record goes on */
-    if (a->refusal == 25 && w[3] != 200 && planted(59))
+    if (a->refusal == 25 && !is_known_total(w[3]) && planted(59))
         w[1] = 0; /* the message so far is lost */
     if (a->kind == HUSK_PIECE_MESSAGE && a->length > 5 && planted(60))
         w[0]--; /* the number is not raised */
@@ -664,9 +671,140 @@ static void answer_fault(HuskPiece *a, HuskAssembly *s, uint64_t place, const ui
         w[5] = w[4];
 }
 
+/* ---- pieces that disagree */
+
+/* Whether a piece held covers a byte. */
+static int is_covered(const uint64_t *w, uint64_t at)
+{
+    for (uint64_t k = 0; k < w[1]; k++)
+        if (w[6 + k] <= at && at - w[6 + k] < w[56 + k])
+            return 1;
+    return 0;
+}
+
+/* What stands beside what is held, of a piece of the number expected. */
+typedef struct {
+    int type, total, first, last, byte, all, elsewhere, touches, span;
+} Beside;
+
+/* Which of these a piece has: another type, another total; another byte at the first, the last or any of the places shared; all its places
+ * shared; another byte than the buffer's beside them; a piece held that it touches; one with its offset and length. */
+static Beside beside(const uint64_t *w, const uint8_t *piece, const uint8_t *b)
+{
+    uint64_t offset = number_of(piece + 6, 3), length = number_of(piece + 9, 3), shared = 0;
+    Beside d = {piece[0] != w[2] % 256, number_of(piece + 1, 3) != w[3], 0, 0, 0, 0, 0, 0, 0};
+    for (uint64_t i = 0; i < length && offset + i < HUSK_MESSAGE_ROOM; i++) {
+        int other = piece[12 + i] != b[offset + i];
+        if (!is_covered(w, offset + i)) {
+            d.elsewhere |= other;
+            continue;
+        }
+        d.first = shared++ == 0 ? other : d.first;
+        d.last = other;
+        d.byte |= other;
+    }
+    d.all = length > 0 && shared == length;
+    d.elsewhere = d.elsewhere && shared > 0;
+    for (uint64_t k = 0; k < w[1]; k++) {
+        d.touches |= length > 0 && w[56 + k] > 0 && (w[6 + k] + w[56 + k] == offset || offset + length == w[6 + k]);
+        d.span |= w[6 + k] == offset && w[56 + k] == length;
+    }
+    return d;
+}
+
+/* Whether a piece that disagrees so, with a body of this length, passes by a planted fault. */
+static int passes(const Beside *d, uint64_t length)
+{
+    return planted(128) /* it is never told */
+        || (planted(129) && !d->type && !d->total && !d->first) /* one byte is compared, the first */
+        || (planted(130) && !d->type && !d->total && !d->last)  /* or the last */
+        || (planted(131) && !d->total && !d->byte)              /* the type is not compared */
+        || (planted(132) && !d->type && !d->byte)               /* the total is not compared */
+        || (planted(133) && length == 0)                        /* nor are both of an empty piece */
+        || (planted(134) && d->span);                           /* offset and length alone are compared first, as they were */
+}
+
+/* The answer where the piece at a place would agree: its type and total are those held, and its shared bytes those of the buffer. */
+static HuskPiece agreed(HuskAssembly *s, uint64_t place, const uint8_t *c, size_t cn, uint8_t *b, size_t bn)
+{
+    static uint8_t copy[20000];
+    uint64_t *w = s->word, offset = number_of(c + place + 6, 3), length = number_of(c + place + 9, 3);
+    uint8_t *piece = copy + place;
+    memcpy(copy, c, cn);
+    piece[0] = (uint8_t)w[2];
+    for (int i = 0; i < 3; i++)
+        piece[1 + i] = (uint8_t)(w[3] >> (16 - 8 * i));
+    for (uint64_t i = 0; i < length; i++)
+        if (is_covered(w, offset + i))
+            piece[12 + i] = b[offset + i];
+    w[5] = place;
+    return __real_husk_assembly_take(s, copy, cn, b, bn);
+}
+
+/* Faults in what a refusal by 28 leaves behind. */
+static void disagreed_fault(HuskPiece *a, uint64_t *w, uint64_t place, const uint8_t *piece, const Beside *d, uint8_t *b)
+{
+    uint64_t offset = number_of(piece + 6, 3), length = number_of(piece + 9, 3);
+    if (planted(135))
+        w[5] = place + 12 + length; /* the record goes on */
+    if (planted(136))
+        memcpy(b + offset, piece + 12, (size_t)length);
+    if (planted(137))
+        w[1] = 0; /* the message so far is lost */
+    if (w[1] == 50 && !d->span && planted(138))
+        a->refusal = 25; /* 25 before 28 */
+}
+
+/* Whether 28 is told of a piece that is held with these words before it. */
+static int is_told_wrongly(const Beside *d, const uint64_t *w)
+{
+    return (planted(139) && d->touches)                           /* it only touches another */
+        || (planted(140) && w[1] == 0 && w[3] > 0 && d->type)     /* the first piece, by the type of the message before */
+        || (planted(141) && w[1] > 0 && d->elsewhere);            /* bytes that no piece has brought are compared */
+}
+
+/* Whether 24 is told of the total that is held, by a piece within the record and its own total. */
+static int is_past_held(const uint64_t *w, const uint8_t *piece, size_t left)
+{
+    if (left < 12 || left - 12 < number_of(piece + 9, 3))
+        return 0;
+    uint64_t total = number_of(piece + 1, 3), end = number_of(piece + 6, 3) + number_of(piece + 9, 3);
+    return w[1] > 0 && w[0] < 65535 && end > w[3] && end <= total && total <= HUSK_MESSAGE_ROOM;
+}
+
+static HuskPiece take_disagreeing(HuskAssembly *s, const uint8_t *c, size_t cn, uint8_t *b, size_t bn)
+{
+    static uint8_t before[HUSK_MESSAGE_ROOM];
+    HuskAssembly was = *s;
+    uint64_t *w = s->word, place = w[5];
+    if (bn >= sizeof before)
+        memcpy(before, b, sizeof before);
+    HuskPiece a = __real_husk_assembly_take(s, c, cn, b, bn);
+    if (is_known_total(was.word[3]))
+        return a;
+    if (a.refusal == 24 && planted(142) && is_past_held(w, c + place, cn - place))
+        a.refusal = 28; /* 28 before 24 */
+    if (a.refusal != 28 && a.kind != HUSK_PIECE_HELD)
+        return a;
+    Beside d = beside(was.word, c + place, before);
+    if (a.refusal == 28 && passes(&d, number_of(c + place + 9, 3)))
+        return agreed(s, place, c, cn, b, bn);
+    if (a.refusal == 28)
+        disagreed_fault(&a, w, place, c + place, &d, b);
+    if (a.kind == HUSK_PIECE_HELD && (is_told_wrongly(&d, was.word) || (planted(143) && d.all))) {
+        *s = was;
+        memcpy(b, before, sizeof before);
+        w[5] = planted(143) ? place + 12 + number_of(c + place + 9, 3) : w[4];
+        a = (HuskPiece){planted(143) ? HUSK_PIECE_SAME : HUSK_PIECE_REFUSED, planted(143) ? 0 : 28, 0, 0, 0}; /* 143: the same as several */
+    }
+    return a;
+}
+
 HuskPiece __wrap_husk_assembly_take(HuskAssembly *s, const uint8_t *c, size_t cn, uint8_t *b, size_t bn)
 {
     uint64_t place = s->word[5], held = s->word[1];
+    if (planted_of(128, 143))
+        return take_disagreeing(s, c, cn, b, bn);
     HuskPiece a = __real_husk_assembly_take(s, c, cn, b, bn);
     if (a.kind == HUSK_PIECE_OTHER && planted(62))
         sink = ((const volatile uint8_t *)c)[cn];

@@ -69,5 +69,7 @@ void sending_start(void);
 void sending_history(void);
 void assembly_start(void);
 void assembly_history(void);
+/* A line of what its pieces came to that is no answer of its own; how much of it never came. */
+unsigned assembly_tell(void);
 
 #endif

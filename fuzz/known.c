@@ -455,12 +455,12 @@ static void check_piece(HuskPiece a, unsigned kind, unsigned refusal, unsigned t
     require(a.number == number && a.length == length, "a known piece's number and length");
 }
 
-/* Message 0 has no body. Message 1 is "abcde" in two pieces that overlap, the first of them twice, the other with another type and total.
- * Behind them are a piece of message 9 and two bytes of a header. */
+/* Message 0 has no body. Message 1 is "abcde" in two pieces that overlap, the first of them twice. Behind them are a piece of message 9 and
+ * two bytes of a header. */
 static void known_assembly(void)
 {
     static const uint8_t record[] = {8, 0, 0, 0, 0, 0, 0, 0, 0, 0, 0, 0, /**/ 11, 0, 0, 5, 0, 1, 0, 0, 2, 0, 0, 3, 'c', 'd', 'e', /**/
-        7, 0, 0, 5, 0, 1, 0, 0, 2, 0, 0, 3, 'x', 'y', 'z', /**/ 7, 0, 0, 4, 0, 1, 0, 0, 0, 0, 0, 4, 'a', 'b', 'C', 'D', /**/
+        11, 0, 0, 5, 0, 1, 0, 0, 2, 0, 0, 3, 'c', 'd', 'e', /**/ 11, 0, 0, 5, 0, 1, 0, 0, 0, 0, 0, 4, 'a', 'b', 'c', 'd', /**/
         3, 0, 0, 1, 0, 9, 0, 0, 0, 0, 0, 1, '!', /**/ 20, 0};
     static uint8_t buffer[HUSK_MESSAGE_ROOM];
     const size_t n = sizeof record;
@@ -482,7 +482,40 @@ static void known_assembly(void)
     check_piece(husk_assembly_take(&s, record, n, buffer, sizeof buffer), HUSK_PIECE_END, 0, 0, 0, 0);
 }
 
-/* 50 pieces of one byte are held; the fifty-first is refused, one that is held already is not, and the hole stays. */
+/* Of message 0, of type 11 with 5 bytes, "cd" is held at 2. Each piece is a record, with two bytes of a header behind it, that are reached if
+ * the record goes on. */
+static void known_disagreements(void)
+{
+    static const struct {
+        uint8_t type, total, offset;
+        const char *body;
+        unsigned kind, refusal;
+    } pieces[] = {{11, 5, 2, "cd", HUSK_PIECE_HELD, 0}, {11, 5, 2, "cd", HUSK_PIECE_SAME, 0}, {11, 5, 2, "cD", 0, 28},
+        {11, 5, 2, "Cd", 0, 28}, {12, 5, 2, "cd", 0, 28}, {11, 4, 2, "cd", 0, 28}, {11, 6, 2, "cd", 0, 28}, {12, 5, 4, "e", 0, 28},
+        {11, 6, 4, "e", 0, 28}, {12, 5, 0, "", 0, 28}, {11, 6, 5, "", 0, 28}, {11, 5, 0, "abX", 0, 28}, {11, 5, 1, "bcX", 0, 28},
+        {11, 5, 3, "X", 0, 28}, {11, 6, 2, "cdef", 0, 24}, {11, 3, 2, "cd", 0, 24}, {11, 5, 3, "d", HUSK_PIECE_HELD, 0},
+        {11, 5, 0, "AB", HUSK_PIECE_HELD, 0}, {11, 5, 0, "ABc", HUSK_PIECE_HELD, 0}, {11, 5, 0, "abc", 0, 28},
+        {11, 5, 1, "Bcde", HUSK_PIECE_MESSAGE, 0}};
+    static uint8_t buffer[HUSK_MESSAGE_ROOM];
+    HuskAssembly s;
+    calling(ASSEMBLY_TAKE);
+    husk_assembly_init(&s);
+    for (size_t i = 0; i < sizeof pieces / sizeof *pieces; i++) {
+        size_t n = strlen(pieces[i].body);
+        int out = pieces[i].kind == HUSK_PIECE_MESSAGE;
+        uint8_t record[12 + 5 + 2] = {pieces[i].type, 0, 0, pieces[i].total, 0, 0, 0, 0, pieces[i].offset, 0, 0, (uint8_t)n};
+        memcpy(record + 12, pieces[i].body, n);
+        require(husk_assembly_begin(&s, 12 + n + 2) == 0, "a known record");
+        HuskPiece a = husk_assembly_take(&s, record, 12 + n + 2, buffer, sizeof buffer);
+        check_piece(a, pieces[i].kind, pieces[i].refusal, out ? 11 : 0, 0, out ? 5 : 0);
+        a = husk_assembly_take(&s, record, 12 + n + 2, buffer, sizeof buffer);
+        check_piece(a, pieces[i].refusal ? HUSK_PIECE_END : HUSK_PIECE_REFUSED, pieces[i].refusal ? 0 : HUSK_BAD_PIECE, 0, 0, 0);
+    }
+    require(memcmp(buffer, "ABcde", 6) == 0, "a known message behind disagreements");
+}
+
+/* 50 pieces of one byte are held; the fifty-first is refused, one that is held already is not, one with another byte disagrees, and the hole
+ * stays. */
 static void known_pieces(void)
 {
     static uint8_t record[13] = {4, 0, 0, 200, 0, 0, 0, 0, 0, 0, 0, 1, 'p'}, buffer[HUSK_MESSAGE_ROOM];
@@ -498,16 +531,19 @@ static void known_pieces(void)
     record[8] = 98;
     require(husk_assembly_begin(&s, sizeof record) == 0, "a known record");
     check_piece(husk_assembly_take(&s, record, sizeof record, buffer, sizeof buffer), HUSK_PIECE_SAME, 0, 0, 0, 0);
+    record[12] = 'q';
+    require(husk_assembly_begin(&s, sizeof record) == 0, "a known record");
+    check_piece(husk_assembly_take(&s, record, sizeof record, buffer, sizeof buffer), HUSK_PIECE_REFUSED, HUSK_PIECES_DISAGREE, 0, 0, 0);
     require(s.word[1] == 50 && buffer[98] == 'p' && buffer[99] == 0 && buffer[100] == 0, "known pieces held");
 }
 
 /* Every refusal has a text of its own; other numbers have another. */
 static void known_texts(void)
 {
-    for (unsigned i = 0; i <= HUSK_BAD_MASK_KEY + 1; i++)
+    for (unsigned i = 0; i <= HUSK_PIECES_DISAGREE + 1; i++)
         for (unsigned j = 0; j < i; j++)
             require(strcmp(husk_refusal_text((uint8_t)i), husk_refusal_text((uint8_t)j)) != 0, "a text that two refusals have");
-    require(strcmp(husk_refusal_text(HUSK_BAD_MASK_KEY + 1), husk_refusal_text(255)) == 0, "a text for no refusal");
+    require(strcmp(husk_refusal_text(HUSK_PIECES_DISAGREE + 1), husk_refusal_text(255)) == 0, "a text for no refusal");
 }
 
 void known(void)
@@ -525,6 +561,7 @@ void known(void)
     known_ack();
     known_classes();
     known_assembly();
+    known_disagreements();
     known_pieces();
     known_texts();
 }

@@ -24,7 +24,7 @@
 #define HANG_SECONDS 60
 #endif
 
-enum { KINDS = 12, REFUSALS = 28, ENOUGH = 1000000 };
+enum { KINDS = 12, REFUSALS = 29, ENOUGH = 1000000 };
 
 #define R(n) (1u << (n))
 
@@ -69,7 +69,7 @@ static const struct {
     [NOTES_SEND] = {"husk_notes_send_words", {R(0) | R(12) | R(13) | R(17) | R(19) | R(20), R(0)}},
     [ASSEMBLY_INIT] = {"husk_assembly_init", {R(0)}},
     [ASSEMBLY_BEGIN] = {"husk_assembly_begin", {R(0) | R(12)}},
-    [ASSEMBLY_TAKE] = {"husk_assembly_take", {R(12) | R(15) | R(16) | R(24) | R(25), R(0), R(0), R(0), R(0), R(0)}},
+    [ASSEMBLY_TAKE] = {"husk_assembly_take", {R(12) | R(15) | R(16) | R(24) | R(25) | R(28), R(0), R(0), R(0), R(0), R(0)}},
 };
 
 uint64_t datagrams, replies, handshakes, calls_made, words_rewritten;
@@ -195,11 +195,11 @@ int main(int argc, char **argv)
         }
     }
     printf("answers, as kind/refusal and how often:\n");
-    unsigned never = tell();
+    unsigned never = tell() + assembly_tell();
     printf("%" PRIu64 " histories, %" PRIu64 " calls, %" PRIu64 " datagrams, %" PRIu64 " replies, %" PRIu64
            " handshake records: nothing found\n", history, calls_made, datagrams, replies, handshakes);
     printf("forged words rewritten by a refused call, with the same meaning: %" PRIu64 "\n", words_rewritten);
     if (never != 0)
-        printf("%u named answers were never given\n", never);
+        printf("%u named answers or pieces never came\n", never);
     return never != 0 && count >= ENOUGH;
 }

@@ -264,6 +264,20 @@ static void check_assembly(void)
     }
 }
 
+/* The second piece comes again with a byte changed: the record ends there, and the first piece behind it is left out. */
+static void check_disagreement(void)
+{
+    uint8_t content[2 * sizeof second + sizeof first];
+    memcpy(content, second, sizeof second);
+    memcpy(content + sizeof second, second, sizeof second);
+    memcpy(content + 2 * sizeof second, first, sizeof first);
+    content[2 * sizeof second - 1] ^= 1;
+    acted = 0;
+    told = NULL;
+    assembly_example(content, sizeof content);
+    need(acted == 0 && told != NULL && strcmp(told, husk_refusal_text(HUSK_PIECES_DISAGREE)) == 0, "28 is not told");
+}
+
 static void notes_example(void)
 {
     static uint8_t queue[LIMIT * MTU];
@@ -293,6 +307,7 @@ int main(void)
     need(send_example(text, sizeof text, d) == 0, "a record that could not be sealed goes out");
     flight_example();
     check_assembly();
+    check_disagreement();
     notes_example();
     return 0;
 }

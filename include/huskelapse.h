@@ -10,7 +10,7 @@
  *
  * Answers. A call that answers a uint8_t answers 0 (HUSK_DONE), or the number of a refusal. Others answer a struct with a field
  * `refusal`, 0 where nothing is refused. A refused call leaves every buffer, and words that calls made, as they are, but for the _init
- * calls, which begin them, and for 24 and 25, which end a handshake record; words that no call made it may write anew with the same meaning.
+ * calls, which begin them, and for 24, 25 and 28, which end a handshake record; words that no call made it may write anew with the same meaning.
  *
  * What 12 covers: a setting outside its range; words that are no state; a queue under limit times mtu bytes, a flight's memory under 12
  * times mtu bytes; an opening reply above 1. Words are no state with a flag above 1; with more epochs, datagrams, readings, saved or noted
@@ -34,9 +34,9 @@ extern "C" {
 #endif
 
 #define HUSK_VERSION_MAJOR 0
-#define HUSK_VERSION_MINOR 11
+#define HUSK_VERSION_MINOR 12
 #define HUSK_VERSION_PATCH 0
-#define HUSK_VERSION "0.11.0"
+#define HUSK_VERSION "0.12.0"
 
 /* ---- refusals */
 
@@ -74,6 +74,8 @@ enum {
     /* The far end or a stranger causes these; the rest of the record is left out, and it counts as handed over. */
     HUSK_BAD_PIECE = 24,        /* a piece of a message runs past its own total, that of the first piece or its record, its total is over
                                    16,384, or the message numbers are spent */
+    HUSK_PIECES_DISAGREE = 28,  /* a piece has another type or total than the first piece held of its message, or another byte in a place
+                                   that pieces held have; the message so far is kept, and the piece that agrees can still come */
     HUSK_TOO_MANY_PIECES = 25   /* a fifty-first different piece of one message */
 };
 
@@ -108,6 +110,7 @@ static inline const char *husk_refusal_text(uint8_t refusal) {
         "the message has more than 50 different pieces",
         "the record's number is 64 or more below the highest used",
         "the mask key has not 32 bytes",
+        "a piece disagrees with the pieces held of its message: another type or total, or other bytes in the same place",
     };
     return refusal < sizeof text / sizeof *text ? text[refusal] : "no refusal of this version";
 }
@@ -507,11 +510,11 @@ typedef struct {
 enum { HUSK_MESSAGE_ROOM = 16384 };
 
 enum {
-    HUSK_PIECE_REFUSED = 0, /* refusal 12, 15 or 16 (length is what the buffer needs): nothing has changed; 24 or 25: the rest of the
-                               record is left out, and what was held stays */
+    HUSK_PIECE_REFUSED = 0, /* refusal 12, 15 or 16 (length is what the buffer needs): nothing has changed; 24, 28 or 25: the rest of
+                               the record is left out, and what was held stays */
     HUSK_PIECE_END = 1,     /* the record has no more pieces */
     HUSK_PIECE_OTHER = 2,   /* a piece of another message, passed over: number; one above those handed over has to come again */
-    HUSK_PIECE_SAME = 3,    /* a piece with the offset and length of one held, passed over */
+    HUSK_PIECE_SAME = 3,    /* a piece that is one held: type, total, offset, length and every byte agree; passed over */
     HUSK_PIECE_HELD = 4,    /* a piece of the message, which is not whole yet */
     HUSK_PIECE_MESSAGE = 5  /* the message is whole: msg_type, number; its body is the first length bytes of the buffer */
 };
@@ -530,14 +533,17 @@ void husk_assembly_init(HuskAssembly *s);
 
 /* Begins a record whose content has n bytes, a reading of HUSK_CLASS_HANDSHAKE. What an earlier record had left is left out. Anyone can write
  * a plaintext record: a host that does not classify gives opened ones alone once peer encryption is on, and where the first message comes out
- * wrong or not at all begin again with husk_assembly_init, which expects message 0. Refused by 12. */
+ * wrong, or not at all because the right pieces disagree with a forged one that is held (28), begin again with husk_assembly_init, which expects
+ * message 0. Refused by 12. */
 uint8_t husk_assembly_begin(HuskAssembly *s, size_t n);
 
-/* The next piece of the record begun, whose content is the same in every call: ask until HUSK_PIECE_END, 24 or 25. Messages come out whole,
- * once, as 0, 1, 2 and so on. Type and total are those of the first piece held; where pieces overlap the earlier bytes stay. A message lies
- * at the start of the buffer until the next call: use or copy it first. While a piece is held lend the buffer as the last call left it; a
- * call writes only bytes that no piece held has brought, and none for a piece that is refused, the same as one held or of another message.
- * Refused by 16 (ask again with HUSK_MESSAGE_ROOM bytes), 12, 15 (the content is not as long as the one begun), 24, 25. */
+/* The next piece of the record begun, whose content is the same in every call: ask until HUSK_PIECE_END, 24, 28 or 25. Messages come out
+ * whole, once, as 0, 1, 2 and so on. Every piece of a message has the type and total of the first one held, and where pieces overlap their
+ * bytes are equal; else it is refused by 28. A message lies at the start of the buffer until the next call: use or copy it first. While a
+ * piece is held lend the buffer as the last call left it, at least the bytes that pieces have brought: a new piece is compared with them, so
+ * that with others there the right piece is refused by 28 and a wrong one may pass. A call changes only bytes that no piece held has brought,
+ * and none for a piece that is refused, the same as one held or of another message. Refused by 16 (ask again with HUSK_MESSAGE_ROOM bytes),
+ * 12, 15 (the content is not as long as the one begun), 24, 28, 25. */
 HuskPiece husk_assembly_take(HuskAssembly *s, const uint8_t *content, size_t content_len, uint8_t *buffer, size_t buffer_len);
 
 #ifdef __cplusplus

@@ -33,10 +33,10 @@ expects of a record; here this is `Receiver`.
 --flip-keys changes a bit of every key, --must-not-open expects that no sealed record opens: together they must agree, alone they must
 differ. Of a session that must not open nothing is written again. --change-message changes a bit of the last message, and --spoil adds a
 line by which the host changes messages that come out (`byte`, `type`), keeps them back (`whole`), lets the later of two bytes stay
-(`later`) or tells the number expected for a piece of another message (`number`), tells a close as ignored (`closed`) or as beyond the
-close (`at-close`), a record before the close that comes late as beyond it (`late`), one beyond it as application data (`beyond`), an ACK
-in plaintext as acted on (`plaintext`), a record more that an ACK marked (`marked`), what is too old as seen (`seen`) or what is seen as too
-old (`old`): each must differ. --read-mask-keys and --write-mask-keys give --mask-keys other number keys, to read or to write: with a bit of
+(`later`), tells a piece that disagrees as the same (`same`) or the number expected for a piece of another message (`number`), tells a close
+as ignored (`closed`) or as beyond the close (`at-close`), a record before the close that comes late as beyond it (`late`), one beyond it as
+application data (`beyond`), an ACK in plaintext as acted on (`plaintext`), a record more that an ACK marked (`marked`), what is too old as
+seen (`seen`) or what is seen as too old (`old`): each must differ. --read-mask-keys and --write-mask-keys give --mask-keys other number keys, to read or to write: with a bit of
 each changed (`flipped`) or those of the other direction (`swapped`); each must differ.
 """
 import argparse
@@ -53,7 +53,7 @@ SUITES = [
     "TLS_AES_128_CCM_8_SHA256",
 ]
 SHORT_TAG = "TLS_AES_128_CCM_8_SHA256"
-SPOILED = ["byte", "type", "whole", "later", "number", "closed", "at-close", "late", "beyond", "plaintext", "marked", "seen", "old"]
+SPOILED = ["byte", "type", "whole", "later", "same", "number", "closed", "at-close", "late", "beyond", "plaintext", "marked", "seen", "old"]
 
 LONGEST = 16384
 WINDOW = 64

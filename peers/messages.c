@@ -107,10 +107,32 @@ static int is_fit(const Assembly *a, const Piece *p)
     return a->number != LAST_NUMBER && p->total <= HUSK_MESSAGE_ROOM && end <= p->total && (a->count == 0 || end <= a->held[0].total);
 }
 
+static size_t lesser(size_t x, size_t y)
+{
+    return x < y ? x : y;
+}
+
+/* Whether two pieces have one type and total, and the same bytes in the places that both have. */
+static int do_agree(const Piece *p, const Piece *q)
+{
+    size_t start = p->offset < q->offset ? q->offset : p->offset, end = lesser(p->offset + p->length, q->offset + q->length);
+    if (p->type != q->type || p->total != q->total)
+        return 0;
+    return start >= end || memcmp(p->body + (start - p->offset), q->body + (start - q->offset), end - start) == 0;
+}
+
+static int agrees(const Assembly *a, const Piece *p)
+{
+    for (size_t k = 0; k < a->count; k++)
+        if (!do_agree(&a->held[k], p))
+            return 0;
+    return 1;
+}
+
 static int is_same(const Assembly *a, const Piece *p)
 {
     for (size_t k = 0; k < a->count; k++)
-        if (a->held[k].offset == p->offset && a->held[k].length == p->length)
+        if (a->held[k].offset == p->offset && a->held[k].length == p->length && do_agree(&a->held[k], p))
             return 1;
     return 0;
 }
@@ -129,6 +151,8 @@ static HuskPiece due(Assembly *a, const uint8_t *rest, size_t n)
         answer.number = (uint16_t)p.number;
     } else if (!is_fit(a, &p)) {
         answer.refusal = HUSK_BAD_PIECE;
+    } else if (!agrees(a, &p)) {
+        answer.refusal = HUSK_PIECES_DISAGREE;
     } else if (is_same(a, &p)) {
         answer.kind = HUSK_PIECE_SAME;
     } else if (a->count == MOST_PIECES) {
@@ -142,7 +166,7 @@ static HuskPiece due(Assembly *a, const uint8_t *rest, size_t n)
     return answer;
 }
 
-/* Every byte of a message is that of the first piece with it, and the message is what the side sent. */
+/* Every byte of a message is that of the first piece with it, and so of each, and the message is what the side sent. */
 static void judge_message(const Assembly *a, const Side *s, const HuskPiece *got, const char *who)
 {
     for (size_t i = 0; i < got->length; i++) {
@@ -185,8 +209,10 @@ static void begin(Assembly *a)
 /* For a control: the answer to a piece is changed as a wrong layer would give it. */
 static void spoil(Assembly *a, const Piece *p, HuskPiece *got)
 {
-    if (strcmp(spoiled, "later") == 0 && got->kind >= HUSK_PIECE_HELD)
+    if (strcmp(spoiled, "later") == 0 && got->refusal == HUSK_PIECES_DISAGREE)
         memcpy(a->buffer + p->offset, p->body, p->length);
+    if (strcmp(spoiled, "same") == 0 && got->refusal == HUSK_PIECES_DISAGREE)
+        *got = (HuskPiece){.kind = HUSK_PIECE_SAME};
     if (strcmp(spoiled, "number") == 0 && got->kind == HUSK_PIECE_OTHER)
         got->number = (uint16_t)a->number;
     if (got->kind != HUSK_PIECE_MESSAGE)
@@ -199,11 +225,12 @@ static void spoil(Assembly *a, const Piece *p, HuskPiece *got)
         *got = (HuskPiece){.kind = HUSK_PIECE_HELD};
 }
 
-/* Every piece of a record is asked for and judged. */
-static void give(Assembly *a, const Side *s, const Record *r, Order order)
+/* Every piece of a record is asked for and judged; the refusal that ended it, else 0. */
+static uint8_t give(Assembly *a, const Side *s, const Record *r, Order order)
 {
     HuskPiece got;
     size_t at = 0;
+    uint8_t refusal = 0;
     take(husk_assembly_begin(&a->layer, r->length));
     do {
         Piece p = {0};
@@ -214,8 +241,10 @@ static void give(Assembly *a, const Side *s, const Record *r, Order order)
         HuskPiece want = due(a, r->content + at, r->length - at);
         judge(a, s, &want, &got);
         answers[order][got.kind]++;
+        refusal = got.kind == HUSK_PIECE_REFUSED ? got.refusal : refusal;
         at = whole && got.kind != HUSK_PIECE_REFUSED ? at + HEADER + p.length : r->length;
     } while (got.kind != HUSK_PIECE_END);
+    return refusal;
 }
 
 /* ---- the session */
@@ -315,8 +344,8 @@ static void put_number(uint8_t *d, size_t n, size_t value)
         d[--n] = (uint8_t)value;
 }
 
-/* A piece of a message that was sent, from start to end; every bit of its bytes outside of the true ones is changed. */
-static void give_cut(Assembly *a, const Side *s, size_t number, size_t start, size_t end, size_t true_start, size_t true_end)
+/* A piece of a message that was sent, from start to end, with a bit of the byte at a place changed if it lies there; the refusal, or 0. */
+static uint8_t give_cut(Assembly *a, const Side *s, size_t number, size_t start, size_t end, size_t changed)
 {
     const Message *m = &s->sent[number];
     Record r = {0, room_of(HEADER + end - start), HEADER + end - start};
@@ -325,28 +354,33 @@ static void give_cut(Assembly *a, const Side *s, size_t number, size_t start, si
     put_number(r.content + 4, 2, number);
     put_number(r.content + 6, 3, start);
     put_number(r.content + 9, 3, end - start);
-    for (size_t i = start; i < end; i++)
-        r.content[HEADER + i - start] = true_start <= i && i < true_end ? m->body[i] : (uint8_t)~m->body[i];
-    give(a, s, &r, CUT_ANEW);
+    memcpy(r.content + HEADER, m->body + start, end - start);
+    if (start <= changed && changed < end)
+        r.content[HEADER + changed - start] ^= 1;
+    return give(a, s, &r, CUT_ANEW);
 }
 
-static size_t lesser(size_t x, size_t y)
+/* A piece with a bit changed of a byte that a piece held has brought. */
+static void give_changed(Assembly *a, const Side *s, size_t number, size_t start, size_t end, size_t changed)
 {
-    return x < y ? x : y;
+    if (give_cut(a, s, number, start, end, changed) != HUSK_PIECES_DISAGREE)
+        stop(1, "%s: a piece with byte %zu of message %zu changed is not refused by 28", side_names[s - sides], changed, number);
 }
 
-/* A message in parts: every second one first, then those between with half a part more at both sides. What overlaps is changed there, so that
- * the message is the one sent only if the earlier bytes stay. */
+/* A message in parts: every second one first, then those between with half a part more at both sides. Of what overlaps there the first byte is
+ * changed, then the last, before the piece comes as it was sent. */
 static void cut_message(Assembly *a, const Side *s, size_t number)
 {
     size_t total = s->sent[number].length, step = total / PARTS + 1, half = step / 2;
-    for (size_t start = step; start < total; start += 2 * step) {
-        size_t end = lesser(start + step, total);
-        give_cut(a, s, number, start, end, start, end);
-    }
+    for (size_t start = step; start < total; start += 2 * step)
+        give_cut(a, s, number, start, lesser(start + step, total), total);
     for (size_t start = 0; start == 0 || start < total; start += 2 * step) {
-        size_t end = lesser(start + step, total);
-        give_cut(a, s, number, start - lesser(start, half), lesser(end + half, total), start, end);
+        size_t low = start - lesser(start, half), end = lesser(start + step, total), high = lesser(end + half, total);
+        if (low < start)
+            give_changed(a, s, number, low, high, low);
+        if (end < high)
+            give_changed(a, s, number, low, high, high - 1);
+        give_cut(a, s, number, low, high, total);
     }
 }
 

@@ -1,9 +1,9 @@
 #!/usr/bin/env python3
-"""Writes the fixed list of pieces, stdin, and the answers that 02, 2 asks for, stdout, into the folder of this file or another one.
+"""Writes the fixed list of pieces, stdin, and the answers that 02, 2 and 7 ask for, stdout, into the folder of this file or another one.
 
     crates/run_pieces/expected.py [FOLDER]
 
-`Reassembly` is written from the wording of 02, 2 and keeps whole pieces; no Rattle takes part, and rt is not needed. The files are always the
+`Reassembly` is written from the wording of 02, 2 and 7 and keeps whole pieces; no Rattle takes part, and rt is not needed. The files are always the
 same. `rt check run_pieces` runs the program on stdin and compares what it writes with stdout.
 
 A line is a letter, a space and bytes in lowercase hexadecimal; integers are big-endian.
@@ -34,9 +34,10 @@ LAST_NUMBER = 65535
 HEADER = 12
 BUFFER = 16640
 CONTENT = 20480
+STDIN = 65536
 
 REFUSED, END, OTHER, SAME, HELD, MESSAGE = range(6)
-OUT_OF_RANGE, NOT_AS_BEGUN, TOO_SMALL, BAD_PIECE, TOO_MANY = 12, 15, 16, 24, 25
+OUT_OF_RANGE, NOT_AS_BEGUN, TOO_SMALL, BAD_PIECE, TOO_MANY, DISAGREE = 12, 15, 16, 24, 25, 28
 
 # Words by their places.
 EXPECTED, COUNT, TYPE, TOTAL, SIZE, PLACE = range(6)
@@ -54,9 +55,15 @@ class Piece:
         self.body = content[HEADER : HEADER + self.length]
         self.end = self.offset + self.length
 
+    def agrees(self, other):
+        """02, 7: type and total are the other's, and the bytes in places that both have."""
+        start, end = max(self.offset, other.offset), min(self.end, other.end)
+        shared = [piece.body[start - piece.offset : max(start, end) - piece.offset] for piece in (self, other)]
+        return (self.kind, self.total) == (other.kind, other.total) and shared[0] == shared[1]
+
 
 class Reassembly:
-    """02, 2: whole pieces are held, and the message is read from them: each byte from the first piece that has it."""
+    """02, 2 and 7: whole pieces are held, and the message is read from them."""
 
     def __init__(self):
         self.expected = 0
@@ -86,15 +93,24 @@ class Reassembly:
         if len(rest) < HEADER or len(Piece(rest).body) < Piece(rest).length:
             return self.end_record(BAD_PIECE)
         piece = Piece(rest)
-        if piece.number == self.expected and not self.is_fit(piece):
-            return self.end_record(BAD_PIECE)
-        known = [(each.offset, each.length) for each in self.held]
-        if piece.number == self.expected and (piece.offset, piece.length) not in known and len(known) == MOST_PIECES:
-            return self.end_record(TOO_MANY)
+        if refusal := piece.number == self.expected and self.refusal_of(piece):
+            return self.end_record(refusal)
         self.place += HEADER + piece.length
         if piece.number != self.expected:
             return OTHER, 0, 0, piece.number, 0
-        return (SAME, 0, 0, 0, 0) if (piece.offset, piece.length) in known else self.hold(piece)
+        return (SAME, 0, 0, 0, 0) if self.is_same(piece) else self.hold(piece)
+
+    def refusal_of(self, piece):
+        """Of a piece of the number expected: 24, 28, and 25 if it is not the same as one held; else 0."""
+        if not self.is_fit(piece):
+            return BAD_PIECE
+        if not all(piece.agrees(each) for each in self.held):
+            return DISAGREE
+        return TOO_MANY if len(self.held) == MOST_PIECES and not self.is_same(piece) else 0
+
+    def is_same(self, piece):
+        """02, 7: number, type, total, offset, length and every byte."""
+        return any(vars(piece) == vars(each) for each in self.held)
 
     def end_record(self, refusal):
         self.place = self.size
@@ -106,7 +122,7 @@ class Reassembly:
 
     def hold(self, piece):
         self.held.append(piece)
-        for each in reversed(self.held):
+        for each in self.held:
             self.buffer[each.offset : each.end] = each.body
         first = self.held[0]
         missing = set(range(first.total)).difference(*(range(each.offset, each.end) for each in self.held))
@@ -121,6 +137,8 @@ class Reassembly:
         real = {COUNT: len(self.held), TOTAL: self.held[0].total if self.held else None, PLACE: self.place, SIZE: self.size}
         if place == EXPECTED and value <= LAST_NUMBER:
             self.expected = value
+            for each in self.held:
+                each.number = value
             self.spoiled.pop(place, None)
         elif place != EXPECTED and value == real[place]:
             self.spoiled.pop(place, None)
@@ -134,6 +152,10 @@ class Reassembly:
 
 def header(number, total, offset, length, kind=11):
     return b"".join([bytes([kind]), total.to_bytes(3, "big"), number.to_bytes(2, "big"), offset.to_bytes(3, "big"), length.to_bytes(3, "big")])
+
+
+def body_of(offset, length, salt):
+    return bytes((7 * i + i // 256 + salt) % 256 for i in range(offset, offset + length))
 
 
 class List:
@@ -162,8 +184,13 @@ class List:
 
     def piece(self, number, total, offset, length, salt=0, kind=11):
         head = header(number, total, offset, length, kind)
-        body = bytes((7 * i + i // 256 + salt) % 256 for i in range(offset, offset + length))
-        self.lay("p", head + body, head + bytes([salt]))
+        self.lay("p", head + body_of(offset, length, salt), head + bytes([salt]))
+
+    def altered(self, number, total, offset, length, at, salt=0, kind=11):
+        """A piece whose byte at this place of the message is another."""
+        body = bytearray(body_of(offset, length, salt))
+        body[at - offset] ^= 1
+        self.raw(header(number, total, offset, length, kind) + body)
 
     def raw(self, content):
         self.lay("x", content, content)
@@ -200,10 +227,17 @@ class List:
         self.empty()
         for piece in pieces:
             self.piece(*piece, **salt)
+        self.take_all()
+
+    def altered_record(self, *piece, **salt):
+        self.empty()
+        self.altered(*piece, **salt)
+        self.take_all()
+
+    def take_all(self):
         self.begin()
-        while (answer := self.take())[0] != END:
+        while self.take()[0] != END:
             pass
-        return answer
 
 
 # ---- the order of pieces
@@ -230,7 +264,7 @@ def orders(lines):
 
 
 def overlaps(lines):
-    """The earlier bytes stay; the salt of each piece is another."""
+    """Pieces that overlap are held where their bytes are equal; with another salt for each, those that share a byte with one held disagree."""
     lists = [
         [(20, 40), (0, 30), (50, 50)],
         [(10, 10), (40, 10), (70, 5), (0, 100)],
@@ -241,24 +275,157 @@ def overlaps(lines):
         [(0, 50), (0, 51), (0, 99), (0, 100)],
     ]
     for spans in lists:
-        lines.fresh()
-        for salt, (offset, length) in enumerate(spans):
-            lines.record((0, 100, offset, length), salt=17 * salt + 1)
-            lines.show()
+        for step in [0, 17]:
+            lines.fresh()
+            for place, (offset, length) in enumerate(spans):
+                lines.record((0, 100, offset, length), salt=step * place + 1)
+                lines.show()
 
 
 def sameness(lines):
-    """A doubled piece changes nothing, whatever its type, total and bytes; another length or offset is another piece."""
+    """A doubled piece changes nothing; with another byte, type or total it disagrees; with another length or offset it is another piece."""
     lines.fresh()
     lines.record((0, 100, 0, 40), salt=1)
+    lines.record((0, 100, 0, 40), salt=1)
     lines.record((0, 100, 0, 40), salt=2)
-    lines.record((0, 40, 0, 40), salt=3, kind=20)
+    lines.record((0, 100, 0, 40), salt=1, kind=20)
+    lines.record((0, 40, 0, 40), salt=1)
+    lines.record((0, 101, 0, 40), salt=1)
     lines.show()
-    lines.record((0, 100, 0, 39), (0, 100, 1, 39), salt=4)
+    lines.record((0, 100, 0, 39), (0, 100, 1, 39), salt=1)
     lines.show()
     lines.record((0, 100, 40, 60), salt=5)
     lines.record((0, 100, 40, 60), (0, 100, 0, 40), salt=6)
     lines.show()
+
+
+# ---- pieces that disagree
+
+
+def altered(lines):
+    """With bytes 20 to 60 held, a piece in every position with one byte altered: at its ends, and at the ends of what it shares and beside them."""
+    for offset, length in [(20, 40), (0, 100), (19, 42), (0, 21), (0, 20), (59, 41), (60, 40), (30, 1), (21, 38), (20, 1), (59, 1)]:
+        for at in sorted({offset, offset + length - 1, 19, 20, 21, 40, 58, 59, 60}.intersection(range(offset, offset + length))):
+            lines.fresh()
+            lines.record((0, 100, 20, 40))
+            lines.altered_record(0, 100, offset, length, at)
+        lines.show()
+        lines.record((0, 100, offset, length))
+        lines.show()
+
+
+def several_held(lines):
+    """A byte of each of the pieces held, of one between them, of one that two have, and of one that another has brought behind a gap."""
+    spans = [(10, 10), (40, 10), (45, 20), (80, 5)]
+    for at in [9, 10, 19, 20, 39, 40, 44, 45, 49, 50, 64, 65, 79, 80, 84, 85]:
+        lines.fresh()
+        lines.record(*[(0, 100, offset, length) for offset, length in spans])
+        lines.altered_record(0, 100, 5, 90, at)
+    lines.show()
+
+
+def long(lines):
+    """A piece of 16,384 bytes over one held, at its start, its end or between: every byte altered, then the last; then right."""
+    for held in [(0, MOST_BYTES - 1), (0, 1), (1, MOST_BYTES - 1), (MOST_BYTES - 1, 1), (8000, 500)]:
+        lines.fresh()
+        lines.record((0, MOST_BYTES, *held))
+        lines.record((0, MOST_BYTES, 0, MOST_BYTES), salt=1)
+        lines.show()
+        lines.empty()
+        lines.piece(0, MOST_BYTES, 0, MOST_BYTES)
+        last = lines.content[-1] ^ 1
+        lines.cut(HEADER + MOST_BYTES - 1)
+        lines.raw(bytes([last]))
+        lines.take_all()
+        lines.record((0, MOST_BYTES, 0, MOST_BYTES))
+
+
+def touching(lines):
+    """A piece that ends where one held begins, or begins where it ends, shares no byte; an empty one shares none anywhere."""
+    lines.fresh()
+    lines.record((0, 100, 40, 20), salt=1)
+    lines.record((0, 100, 20, 20), (0, 100, 60, 20), salt=2)
+    lines.record((0, 100, 50, 0), (0, 100, 40, 0), (0, 100, 60, 0), (0, 100, 100, 0), salt=3)
+    lines.show()
+    lines.record((0, 100, 0, 20), (0, 100, 80, 20), salt=4)
+
+
+def unions(lines):
+    """A piece that is made of others, with their bytes, is none of them: it is held and counts."""
+    lines.fresh()
+    lines.record((0, 100, 0, 20), (0, 100, 20, 20), (0, 100, 0, 40), (0, 100, 10, 20), (0, 100, 0, 40))
+    lines.show()
+    lines.altered_record(0, 100, 0, 40, 39)
+    lines.record(*[(0, 100, 0, length) for length in range(1, 48) if length not in (20, 40)])
+    lines.show()
+    lines.record((0, 100, 10, 30), (0, 100, 47, 53))
+    lines.record((0, 100, 41, 59), (0, 100, 0, 100))
+    lines.show()
+
+
+def kinds_and_totals(lines):
+    """Type and total count for every piece: one that shares no byte, an empty one, the same one, and one that would complete the message."""
+    for first in [(0, 100, 0, 40), (0, 100, 40, 0)]:
+        lines.fresh()
+        lines.record(first, kind=8)
+        for offset, length in [(0, 40), (50, 10), (40, 0), (100, 0), (0, 100), (40, 60)]:
+            for total, kind in [(100, 9), (100, 0), (101, 8), (MOST_BYTES, 8), (101, 9), (100 - (offset + length < 100), 9)]:
+                lines.record((0, total, offset, length), kind=kind)
+        lines.record((0, 60, 0, 40), (0, 40, 0, 40), kind=8)
+        lines.show()
+        lines.record((0, 100, 40, 60), (0, 100, 0, 40), kind=8)
+        lines.record((1, 7, 0, 5), kind=0)
+        lines.record((1, 7, 5, 2), kind=255)
+        lines.record((1, 7, 5, 2), kind=0)
+
+
+def tests_in_order(lines):
+    """24 before 28: past the held total with another total, type and bytes; within it 28. 28 before the same, and before 25."""
+    lines.fresh()
+    lines.record((0, 60, 0, 40), salt=1)
+    for total in [60, 61, 100, MOST_BYTES]:
+        for end in [59, 60, 61]:
+            lines.record((0, total, 20, end - 20), salt=2, kind=20)
+    for total in [39, 40, 41]:
+        lines.record((0, total, 0, 40), salt=2, kind=20)
+    lines.record((0, MOST_BYTES + 1, 0, 40), salt=2, kind=20)
+    lines.word(EXPECTED, LAST_NUMBER)
+    lines.record((LAST_NUMBER, 60, 0, 40), salt=2, kind=20)
+    lines.word(EXPECTED, 0)
+    lines.show()
+    lines.record(*[(0, 60, i, 1) for i in range(49)], salt=1)
+    lines.show()
+    lines.record((0, 60, 3, 1), (0, 60, 3, 1), (0, 60, 40, 20), salt=1)
+    lines.record((0, 60, 3, 1), salt=2)
+    lines.record((0, 60, 3, 1), salt=1, kind=20)
+    lines.record((0, 61, 3, 1), salt=1)
+    lines.record((0, 60, 3, 2), (0, 60, 3, 1), salt=2)
+    lines.record((0, 60, 0, 60), salt=2)
+    lines.record((0, 60, 49, 11), salt=2)
+    lines.record((0, 60, 49, 11), salt=2, kind=20)
+    lines.record((0, 60, 49, 12), salt=2)
+    lines.show()
+
+
+def disagreed(lines):
+    """28 ends the record: what stands behind the piece is left out, what is held stays, and the message comes out from pieces that agree."""
+    lines.fresh()
+    lines.record((0, 60, 0, 20), salt=1)
+    lines.empty()
+    lines.piece(0, 60, 20, 20, 1)
+    lines.altered(0, 60, 10, 50, 15, 1)
+    lines.piece(0, 60, 40, 20, 1)
+    lines.piece(1, 5, 0, 5, 1)
+    lines.take_all()
+    lines.show()
+    lines.record((0, 60, 0, 20), (0, 60, 20, 20), (0, 60, 10, 20), salt=1)
+    lines.record((0, 60, 0, 60), (0, 60, 0, 60), salt=2)
+    lines.show()
+    lines.record((0, 60, 10, 50), (1, 5, 0, 4), salt=1)
+    lines.record((0, 60, 0, 60), (1, 5, 0, 5), (1, 5, 4, 1), salt=2)
+    lines.show()
+    lines.record((1, 5, 3, 2), salt=1)
+    lines.record((2, 5, 0, 5), salt=2)
 
 
 # ---- lengths and limits
@@ -309,11 +476,11 @@ def fifty_one(lines):
     """With fifty held a different piece is 25, one that would complete the message too; a doubled one is the same, a bad one is 24."""
     lines.fresh()
     lines.record(*[(0, 60, i, 1) for i in range(49)])
-    lines.record((0, 60, 50, 1), (0, 60, 51, 1), (0, 60, 3, 1), salt=9)
+    lines.record((0, 60, 50, 1), (0, 60, 51, 1), (0, 60, 3, 1))
     lines.show()
-    lines.record((0, 60, 3, 1), (0, 60, 50, 1), salt=10)
-    lines.record((0, 60, 0, 60), salt=11)
-    lines.record((0, 60, 3, 2), salt=12)
+    lines.record((0, 60, 3, 1), (0, 60, 50, 1))
+    lines.record((0, 60, 0, 60))
+    lines.record((0, 60, 3, 2))
     lines.record((1, 60, 3, 2), (0, 60, 49, 12), (0, 60, 3, 1), salt=13)
     lines.record((0, 16385, 0, 1), salt=14)
     lines.show()
@@ -335,7 +502,7 @@ def totals(lines):
     lines.record((3, 1, 1, 0), (3, 1, 0, 1), salt=9)
     lines.show()
     for offset in range(14, -1, -1):
-        lines.record((4, MOST_BYTES, 1093 * offset, min(1200, MOST_BYTES - 1093 * offset)), salt=16 * offset)
+        lines.record((4, MOST_BYTES, 1093 * offset, min(1200, MOST_BYTES - 1093 * offset)), salt=16)
     lines.show()
 
 
@@ -371,20 +538,24 @@ def past(lines):
     lines.record((0, 30, 20, 11), salt=4)
     lines.record((0, MOST_BYTES + 1, 20, 10), salt=5)
     lines.show()
-    lines.record((0, 100, 0, 100), salt=6)
+    lines.record((0, 100, 0, 100), salt=2)
 
 
 def first_counts(lines):
-    """Type and total are those of the first piece held."""
+    """Type and total are those of the first piece held; the first is never one that disagrees, whatever was refused or passed over before it."""
     lines.fresh()
-    lines.record((0, 60, 0, 20), kind=8)
-    lines.record((0, 50, 20, 30), kind=9, salt=1)
+    lines.record((0, 60, 50, 11), kind=7)
+    lines.record((1, 70, 0, 20), (0, 60, 0, 20), kind=8)
+    lines.record((0, 60, 20, 30), kind=9, salt=1)
+    lines.record((0, 50, 20, 30), kind=8, salt=1)
     lines.show()
-    lines.record((0, MOST_BYTES, 50, 10), kind=10, salt=2)
+    lines.record((0, 60, 20, 40), kind=8, salt=2)
     lines.record((1, 10, 0, 5), kind=0)
-    lines.record((1, 12, 5, 5), kind=255, salt=3)
+    lines.record((1, 10, 5, 5), kind=255, salt=3)
+    lines.record((1, 10, 5, 5), kind=0, salt=3)
     lines.record((2, 7, 7, 0), kind=255)
-    lines.record((2, 9, 0, 7), kind=1, salt=4)
+    lines.record((2, 9, 0, 7), kind=255, salt=4)
+    lines.record((2, 7, 0, 7), kind=255, salt=4)
     lines.show()
 
 
@@ -413,9 +584,11 @@ def empties(lines):
     """An empty piece of a message that has bytes is a piece: held, the same when doubled, counted among the fifty."""
     lines.fresh()
     lines.record((0, 20, 0, 0), kind=2)
-    lines.record((0, 20, 0, 0), (0, 20, 5, 0), (0, 20, 20, 0), (0, 20, 20, 0), (0, 20, 21, 0), kind=3)
+    lines.record((0, 20, 0, 0), (0, 20, 5, 0), (0, 20, 20, 0), (0, 20, 20, 0), (0, 20, 21, 0), kind=2)
+    lines.record((0, 20, 0, 0), kind=3)
+    lines.record((0, 21, 5, 0), kind=2)
     lines.show()
-    lines.record((0, 20, 0, 20), kind=4)
+    lines.record((0, 20, 0, 20), kind=2)
     lines.record(*[(1, 60, i, 0) for i in range(49)])
     lines.record((1, 60, 49, 0), (1, 60, 50, 0))
     lines.record((1, 60, 0, 0), (1, 60, 0, 60))
@@ -549,7 +722,8 @@ def given_up(lines):
     lines.record((0, 30, 0, 10), salt=3)
 
 
-CASES = [orders, overlaps, sameness, cut, cut_behind, fifty, fifty_one, totals, numbers, past, first_counts, others, empties, several, refused, short]
+CASES = [orders, overlaps, sameness, altered, several_held, long, touching, unions, kinds_and_totals, tests_in_order, disagreed]
+CASES += [cut, cut_behind, fifty, fifty_one, totals, numbers, past, first_counts, others, empties, several, refused, short]
 CASES += [other_length, out_of_range, given_up]
 
 
@@ -557,6 +731,7 @@ def main(folder):
     lines = List()
     for case in CASES:
         case(lines)
+    assert len("".join(lines.stdin)) <= STDIN, "the program does not read so much"
     for name, text in [("stdin", lines.stdin), ("stdout", lines.stdout)]:
         with open(os.path.join(folder, name), "w") as file:
             file.writelines(text)

@@ -197,6 +197,35 @@ mod tests {
     }
 
     #[test]
+    fn a_forged_piece_of_a_hello_does_not_keep_the_right_ones_out() {
+        let body = body(CLIENT_HELLO, 2000);
+        let [first, second] = [0, 1000].map(|offset| piece(CLIENT_HELLO, 0, &body, offset, 1000));
+        // Another type, total or byte: the right first piece disagrees with it, and is held by a new assembly.
+        for at in [0, 3, 500] {
+            let mut forged = first.clone();
+            forged[at] ^= 8;
+            let mut messages = Messages::new(CLIENT_HELLO);
+            assert!(messages.give(0, &forged).new);
+            assert_eq!(messages.give(0, &first), Brought { new: true, ..Brought::default() }, "{at}");
+            assert_eq!(messages.give(0, &second), message(CLIENT_HELLO, 2), "{at}");
+        }
+    }
+
+    #[test]
+    fn a_sealed_piece_that_disagrees_is_refused_and_the_message_comes_out() {
+        let (mut messages, body) = (messages(), body(CERTIFICATE, 1000));
+        let [first, second] = [0, 500].map(|offset| piece(CERTIFICATE, 1, &body, offset, 500));
+        assert!(messages.give(2, &first).new);
+        for at in [0, 3, 12, 511] {
+            let mut changed = first.clone();
+            changed[at] ^= 1;
+            assert_eq!(messages.give(2, &changed), Brought { refused: true, ..Brought::default() }, "{at}");
+        }
+        assert_eq!(messages.give(2, &first), Brought { same: true, ..Brought::default() });
+        assert_eq!(messages.give(2, &second), message(CERTIFICATE, 2));
+    }
+
+    #[test]
     fn a_message_of_the_wrong_epoch_is_wrong() {
         let hello = piece(CLIENT_HELLO, 1, &body(CLIENT_HELLO, 100), 0, 100);
         assert!(messages().give(2, &hello).wrong);

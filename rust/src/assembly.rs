@@ -37,8 +37,9 @@ use crate::Refusal;
 /// # Ok::<(), Refusal>(())
 /// ```
 ///
-/// Type and total of a message are those of the first piece held, and where pieces overlap the earlier bytes stay. Anyone can write a
-/// piece in plaintext: where a message of epoch 0 turns out wrong, or does not become whole, begin a new assembly.
+/// Every piece of a message has the type and total of the first one held, and where pieces overlap their bytes are equal; a piece that
+/// disagrees is refused with [`Refusal::PiecesDisagree`] (28). Anyone can write a piece in plaintext: where a message of epoch 0 turns out
+/// wrong, or does not become whole, begin a new assembly.
 ///
 /// The state is private, and it is not cloned: a clone would hand over every message once more.
 ///
@@ -99,7 +100,7 @@ pub enum Piece<'b> {
     },
     /// A piece of the message, which is not whole yet.
     Held,
-    /// A piece with the offset and length of one that is held: nothing has changed.
+    /// A piece that is one held: type, total, offset, length and every byte agree. Nothing has changed.
     Same,
     /// A piece of another message, passed over: nothing has changed, and it is not held.
     Other {
@@ -129,13 +130,14 @@ pub struct Pieces<'a> {
 
 impl Pieces<'_> {
     /// Takes the next piece; none at the end of the record. The buffer has at least [`Assembly::MESSAGE_ROOM`] bytes. While a piece is
-    /// held, lend it as the last call left it: the bytes of that piece are there.
+    /// held, lend it as the last call left it: the bytes of that piece are there, and later pieces are compared with them. With other
+    /// bytes there the right piece is refused with 28.
     ///
     /// # Errors
     ///
     /// Refused with [`Refusal::BufferTooSmall`] (16), which says what is needed: nothing has changed, and the same piece can be asked for
-    /// again. Refused with [`Refusal::BadPiece`] (24) and [`Refusal::TooManyPieces`] (25), which the far end or a stranger causes: the
-    /// record ends there, the next call answers none, and what is held stays.
+    /// again. Refused with [`Refusal::BadPiece`] (24), [`Refusal::PiecesDisagree`] (28) and [`Refusal::TooManyPieces`] (25), which the far
+    /// end or a stranger causes: the record ends there, the next call answers none, and what is held stays.
     ///
     /// # Examples
     ///
@@ -150,6 +152,16 @@ impl Pieces<'_> {
     /// assert_eq!(pieces.next(&mut buffer), Ok(Some(Piece::Message { msg_type: 14, number: 0, body: b"" })));
     /// assert_eq!(pieces.next(&mut buffer), Err(Refusal::BadPiece));
     /// assert_eq!(pieces.next(&mut buffer), Ok(None));
+    ///
+    /// // Of message 1 a piece is held. It comes again with another byte, and then right, with the rest.
+    /// let held = *b"\x0B\0\0\x04\0\x01\0\0\0\0\0\x0214";
+    /// let (other, whole) = (*b"\x0B\0\0\x04\0\x01\0\0\0\0\0\x0215", *b"\x0B\0\0\x04\0\x01\0\0\0\0\0\x0414.2");
+    /// assert_eq!(assembly.pieces(&held).next(&mut buffer), Ok(Some(Piece::Held)));
+    /// assert_eq!(assembly.pieces(&other).next(&mut buffer), Err(Refusal::PiecesDisagree));
+    /// assert_eq!(
+    ///     assembly.pieces(&whole).next(&mut buffer),
+    ///     Ok(Some(Piece::Message { msg_type: 11, number: 1, body: b"14.2" }))
+    /// );
     /// ```
     pub fn next<'b>(&mut self, buffer: &'b mut [u8]) -> Result<Option<Piece<'b>>, Refusal> {
         let p = self.state.take(self.content, buffer);

@@ -69,6 +69,9 @@ pub enum Refusal {
     /// 24: a piece of a message runs past its own total, that of the first piece or its record, its total is over 16,384, or the message
     /// numbers are spent; the record ends there.
     BadPiece,
+    /// 28: a piece has another type or total than the first piece held of its message, or another byte in a place that pieces held have;
+    /// the record ends there. The message so far is kept, and the piece that agrees can still come.
+    PiecesDisagree,
     /// 25: a fifty-first different piece of one message; the record ends there.
     TooManyPieces,
     /// 27: the mask key has not 32 bytes.
@@ -76,7 +79,7 @@ pub enum Refusal {
 }
 
 impl Refusal {
-    /// The specification's number, 1 to 27.
+    /// The specification's number, 1 to 28.
     pub fn number(self) -> u8 {
         match self {
             Refusal::DatagramTooLong => 1,
@@ -104,6 +107,7 @@ impl Refusal {
             Refusal::ResendsSpent => 22,
             Refusal::Waiting => 23,
             Refusal::BadPiece => 24,
+            Refusal::PiecesDisagree => 28,
             Refusal::TooManyPieces => 25,
             Refusal::BadMaskKey => 27,
         }
@@ -139,6 +143,7 @@ impl Refusal {
             25 => Refusal::TooManyPieces,
             26 => Refusal::TooOld,
             27 => Refusal::BadMaskKey,
+            28 => Refusal::PiecesDisagree,
             _ => panic!("the library refuses by {number}, it is of another version than this crate"),
         }
     }
@@ -193,6 +198,9 @@ impl fmt::Display for Refusal {
             Refusal::Waiting => "a sealing still waits, or four application epochs are keyed to receive",
             Refusal::BadPiece => {
                 "a piece runs past its message or its record, its total is over 16,384 bytes, or the message numbers are spent"
+            }
+            Refusal::PiecesDisagree => {
+                "a piece disagrees with the pieces held of its message: another type or total, or other bytes in the same place"
             }
             Refusal::TooManyPieces => "the message has more than 50 different pieces",
             Refusal::BadMaskKey => "the mask key has not 32 bytes",

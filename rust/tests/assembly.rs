@@ -1,4 +1,4 @@
-//! Handshake messages put together from pieces: their order, overlaps, limits, and records that end early.
+//! Handshake messages put together from pieces: their order, overlaps, pieces that disagree, limits, and records that end early.
 
 #[cfg(feature = "alloc")]
 mod toy;
@@ -18,6 +18,7 @@ enum Came {
 use Came::{Held, Message, Other, Refused, Same};
 
 const BAD: Came = Refused(Refusal::BadPiece);
+const DISAGREE: Came = Refused(Refusal::PiecesDisagree);
 const TOO_MANY: Came = Refused(Refusal::TooManyPieces);
 
 fn came(answer: Result<Piece<'_>, Refusal>) -> Came {
@@ -108,16 +109,16 @@ fn one_message_after_the_other() {
 }
 
 #[test]
-fn where_pieces_overlap_the_earlier_bytes_stay() {
-    let (low, high) = (of_ten(0, b"aaaaaaa"), of_ten(3, b"bbbbbbb"));
-    assert_eq!(Bench::new().give(&[&low[..], &high].concat()), [Held, ten(b"aaaaaaabbb")]);
-    assert_eq!(Bench::new().give(&[&high[..], &low].concat()), [Held, ten(b"aaabbbbbbb")]);
+fn pieces_overlap_where_their_bytes_are_equal() {
+    let (low, high) = (of_ten(0, b"0123456"), of_ten(3, b"3456789"));
+    assert_eq!(Bench::new().give(&[&low[..], &high].concat()), [Held, ten(b"0123456789")]);
+    assert_eq!(Bench::new().give(&[&high[..], &low].concat()), [Held, ten(b"0123456789")]);
     // One over two that leave a gap, and one inside another.
-    let wide = of_ten(0, b"cccccccccc");
-    let record = [of_ten(1, b"aa"), of_ten(6, b"bb"), wide.clone()].concat();
-    assert_eq!(Bench::new().give(&record), [Held, Held, ten(b"caacccbbcc")]);
-    let record = [of_ten(1, b"aaaaaa"), of_ten(2, b"bb"), wide].concat();
-    assert_eq!(Bench::new().give(&record), [Held, Held, ten(b"caaaaaaccc")]);
+    let wide = of_ten(0, b"0123456789");
+    let record = [of_ten(1, b"12"), of_ten(6, b"67"), wide.clone()].concat();
+    assert_eq!(Bench::new().give(&record), [Held, Held, ten(b"0123456789")]);
+    let record = [of_ten(1, b"123456"), of_ten(2, b"23"), wide].concat();
+    assert_eq!(Bench::new().give(&record), [Held, Held, ten(b"0123456789")]);
 }
 
 #[test]
@@ -125,9 +126,7 @@ fn a_doubled_piece_changes_nothing() {
     let mut bench = Bench::new();
     assert_eq!(bench.give(&of_ten(4, b"456789")), [Held]);
     let before = bench.buffer.clone();
-    // The same by number, offset and length, whatever else stands in it.
-    let again = [of_ten(4, b"456789"), of_ten(4, b"xxxxxx"), piece(99, 500, 0, 4, b"yyyyyy")].concat();
-    assert_eq!(bench.give(&again), [Same, Same, Same]);
+    assert_eq!(bench.give(&of_ten(4, b"456789").repeat(3)), [Same, Same, Same]);
     // But 24 comes before: past its own total, and a total over 16,384.
     assert_eq!(bench.give(&piece(11, 9, 0, 4, b"456789")), [BAD]);
     assert_eq!(bench.give(&piece(11, 16_385, 0, 4, b"456789")), [BAD]);
@@ -135,6 +134,82 @@ fn a_doubled_piece_changes_nothing() {
     // Another length is another piece.
     assert_eq!(bench.give(&of_ten(4, b"45")), [Held]);
     assert_eq!(bench.give(&of_ten(0, b"0123")), [ten(b"0123456789")]);
+}
+
+#[test]
+fn another_byte_in_the_same_place_disagrees() {
+    let body = *b"0123456789";
+    for (start, end) in [(3, 7), (2, 8), (0, 4), (6, 10), (4, 6), (3, 4)] {
+        for at in start..end {
+            let mut bench = Bench::new();
+            assert_eq!(bench.give(&of_ten(3, &body[3..7])), [Held]);
+            let before = bench.buffer.clone();
+            let mut other = body;
+            other[at] ^= 1;
+            let (given, is_shared) = (of_ten(start, &other[start..end]), (3..7).contains(&at));
+            assert_eq!(bench.give(&given), [if is_shared { DISAGREE } else { Held }], "{start} {end} {at}");
+            assert_eq!(bench.buffer == before, is_shared);
+        }
+    }
+    // Of several pieces held, each has its bytes.
+    let held = [of_ten(0, b"01"), of_ten(4, b"45"), of_ten(8, b"8")].concat();
+    for wrong in [b"x1234567", b"0x234567", b"0123x567", b"01234x67"] {
+        assert_eq!(Bench::new().give(&[&held[..], &of_ten(0, wrong)].concat()), [Held, Held, Held, DISAGREE]);
+    }
+    assert_eq!(Bench::new().give(&[&held[..], &of_ten(0, b"01xx45xx")].concat()), [Held, Held, Held, Held]);
+}
+
+#[test]
+fn another_type_or_total_disagrees() {
+    let mut bench = Bench::new();
+    assert_eq!(bench.give(&of_ten(0, b"01234")), [Held]);
+    // Whether it is the same otherwise, overlaps, touches, or is empty.
+    for (offset, part) in [(0, &b"01234"[..]), (3, b"34567"), (5, b"56789"), (8, b"8"), (0, b""), (5, b""), (10, b"")] {
+        assert_eq!(bench.give(&piece(12, 10, 0, offset, part)), [DISAGREE]);
+        assert_eq!(bench.give(&piece(11, 11, 0, offset, part)), [DISAGREE]);
+        assert_eq!(bench.give(&piece(11, 16_384, 0, offset, part)), [DISAGREE]);
+    }
+    assert_eq!(bench.give(&piece(11, 9, 0, 5, b"5678")), [DISAGREE]);
+    // 24 comes before: past the total held, though not past its own, and past its own, though not past the one held.
+    assert_eq!(bench.give(&piece(11, 20, 0, 5, b"567890")), [BAD]);
+    assert_eq!(bench.give(&piece(11, 9, 0, 9, b"9")), [BAD]);
+    assert_eq!(bench.give(&of_ten(5, b"56789")), [ten(b"0123456789")]);
+    // The first piece of the next message has any type and total.
+    assert_eq!(bench.give(&piece(12, 3, 1, 0, b"")), [Held]);
+    assert_eq!(bench.give(&piece(11, 3, 1, 0, b"")), [DISAGREE]);
+    assert_eq!(bench.give(&piece(12, 2, 1, 0, b"")), [DISAGREE]);
+    assert_eq!(bench.give(&piece(12, 3, 1, 0, b"abc")), [Message(12, 1, b"abc".to_vec())]);
+}
+
+#[test]
+fn a_piece_that_touches_another_shares_no_byte() {
+    let record = [of_ten(3, b"345"), of_ten(0, b"abc"), of_ten(6, b"6789")].concat();
+    assert_eq!(Bench::new().give(&record), [Held, Held, ten(b"abc3456789")]);
+    // An empty piece shares none either, wherever it stands.
+    let record = [of_ten(3, b"345"), of_ten(4, b""), of_ten(3, b""), of_ten(6, b"")].concat();
+    assert_eq!(Bench::new().give(&record), vec![Held; 4]);
+}
+
+#[test]
+fn a_piece_that_is_made_of_others_is_held() {
+    let mut bench = Bench::new();
+    assert_eq!(bench.give(&[of_ten(0, b"012"), of_ten(3, b"345"), of_ten(0, b"012345")].concat()), [Held, Held, Held]);
+    assert_eq!(bench.give(&[of_ten(0, b"012345"), of_ten(0, b"01234x")].concat()), [Same, DISAGREE]);
+    assert_eq!(bench.give(&of_ten(6, b"6789")), [ten(b"0123456789")]);
+}
+
+#[test]
+fn a_disagreement_ends_the_record_and_keeps_the_message_so_far() {
+    let mut bench = Bench::new();
+    assert_eq!(bench.give(&of_ten(0, b"0123")), [Held]);
+    let before = bench.buffer.clone();
+    let record = [of_ten(0, b"0123"), of_ten(2, b"2x45"), of_ten(4, b"456789")].concat();
+    assert_eq!(bench.give(&record), [Same, DISAGREE]);
+    assert_eq!(bench.buffer, before);
+    // What stood behind it is not held, and the message can be completed by pieces that agree.
+    assert_eq!(bench.give(&of_ten(4, b"abcd")), [Held]);
+    assert_eq!(bench.give(&of_ten(0, b"0123")), [Same]);
+    assert_eq!(bench.give(&[of_ten(2, b"23ab"), of_ten(8, b"89")].concat()), [Held, ten(b"0123abcd89")]);
 }
 
 #[test]
@@ -163,8 +238,14 @@ fn fifty_pieces_and_a_fifty_first() {
     let before = bench.buffer.clone();
     // A different one is refused, though it would make the message whole, and what stands behind it is left out.
     assert_eq!(bench.give(&[piece(11, 51, 0, 50, b"!"), piece(11, 51, 0, 0, &[0])].concat()), [TOO_MANY]);
-    // The same as one held is none more, and 24 comes before 25.
+    // So is one that is made of others, with all their bytes.
+    assert_eq!(bench.give(&piece(11, 51, 0, 0, &[0, 1])), [TOO_MANY]);
+    // The same as one held is none more, and 24 and 28 come before 25.
     assert_eq!(bench.give(&[piece(11, 51, 0, 0, &[0]), piece(11, 51, 0, 51, b"!")].concat()), [Same, BAD]);
+    assert_eq!(bench.give(&[piece(11, 51, 0, 0, &[0]), piece(11, 51, 0, 0, &[0, 2])].concat()), [Same, DISAGREE]);
+    assert_eq!(bench.give(&piece(11, 51, 0, 0, &[1])), [DISAGREE]);
+    assert_eq!(bench.give(&piece(12, 51, 0, 50, b"!")), [DISAGREE]);
+    assert_eq!(bench.give(&piece(11, 52, 0, 50, b"!")), [DISAGREE]);
     assert_eq!(bench.buffer, before);
 }
 
@@ -189,18 +270,6 @@ fn a_piece_past_its_total() {
     assert_eq!(bench.buffer, [0xEE; Assembly::MESSAGE_ROOM]);
     // None of them was the first piece held.
     assert_eq!(bench.give(&piece(1, 2, 0, 0, b"ok")), [Message(1, 0, b"ok".to_vec())]);
-}
-
-#[test]
-fn type_and_total_are_those_of_the_first_piece_held() {
-    let mut bench = Bench::new();
-    assert_eq!(bench.give(&of_ten(0, b"01234")), [Held]);
-    // Past the total held, though not past its own.
-    assert_eq!(bench.give(&piece(12, 20, 0, 5, b"567890")), [BAD]);
-    assert_eq!(bench.give(&piece(12, 20, 0, 5, b"5678")), [Held]);
-    // Past its own, though not past the one held.
-    assert_eq!(bench.give(&piece(12, 9, 0, 9, b"9")), [BAD]);
-    assert_eq!(bench.give(&piece(12, 20, 0, 9, b"9")), [ten(b"0123456789")]);
 }
 
 #[test]
@@ -254,7 +323,7 @@ fn a_refusal_ends_the_record_and_keeps_the_earlier_pieces() {
     let record = [of_ten(0, b"0123"), of_ten(8, b"89x"), of_ten(4, b"4567"), of_ten(8, b"89")].concat();
     assert_eq!(bench.give(&record), [Held, BAD]);
     // The record was over: what stood behind the bad piece is not held.
-    assert_eq!(bench.give(&[of_ten(0, b"xxxx"), of_ten(8, b"89")].concat()), [Same, Held]);
+    assert_eq!(bench.give(&[of_ten(0, b"0123"), of_ten(8, b"89")].concat()), [Same, Held]);
     assert_eq!(bench.give(&of_ten(4, b"4567")), [ten(b"0123456789")]);
 }
 

@@ -77,6 +77,7 @@ fn each_refusal_has_the_headers_text() {
         Refusal::TooManyPieces,
         Refusal::TooOld,
         Refusal::BadMaskKey,
+        Refusal::PiecesDisagree,
     ];
     assert_eq!(texts.len(), 1 + refusals.len());
     for (number, refusal) in (1..).zip(refusals) {

@@ -1,4 +1,4 @@
--- A piece taken: the order of the tests, the answer, and the words and the buffer behind it (02, 2). Assumes nothing.
+-- A piece taken: the order of the tests, the answer, and the words and the buffer behind it (02, 2 and 7). Assumes nothing.
 use mathlib.Core.Bool.{Bool, true}
 use mathlib.Core.List.{List}
 use mathlib.Core.Path.{_≡_}
@@ -7,14 +7,14 @@ use lib.Dec.{leb, ltb, eqb}
 use lib.ListN.{length, set, drop, replicate}
 use borrow.Author.Tests.{ltb-true, leb-true}
 use Rattle.base.specs.Choose.{choose, both, either, both-left, both-right}
-use Rattle.base.specs.Parts.{part}
+use Rattle.base.specs.Parts.{part, splice}
 use Rattle.handshake.specs.declared.Header.{Header}
 use Rattle.handshake.specs.declared.ParsedHeader.{ParsedHeader}
 use Rattle.handshake.specs.declared.ParsedHeader.the-variants as parsed
 use Rattle.handshake.specs.Header.{parseHeader}
 use Rattle.assembly.specs.declared.Piece.{Piece}
 use Rattle.assembly.specs.declared.Piece.the-variants as piece
-use Rattle.assembly.specs.Spans.{most-pieces, most-bytes, last-number, header-length, words, expected-at, count-at, type-at, total-at, size-at, place-at, offset-at, length-at, expectedOf, countOf, typeOf, totalOf, sizeOf, placeOf, isWhole, isSame, written}
+use Rattle.assembly.specs.Spans.{most-pieces, most-bytes, last-number, header-length, words, expected-at, count-at, type-at, total-at, size-at, place-at, offset-at, length-at, expectedOf, countOf, typeOf, totalOf, sizeOf, placeOf, isWhole, isSame, allShared}
 
 -- what a call leaves: its answer, the words, the buffer
 pub record Outcome : Type 0 where
@@ -94,14 +94,23 @@ unfoldable pub finished : List ℕ → List ℕ → Outcome
 finished w d =
     choose (isWhole w) (outcome (piece.Message (typeOf w % 256) (expectedOf w % 65536) (totalOf w)) (handed w) d) (outcome piece.Held w d)
 
--- a piece of the number expected, with its body: 24, the same as one held, "then 25 for a fifty-first different piece"
+-- 28: "Every piece must have the held type and total"; none is held, or it has
+unfoldable pub isAlike : List ℕ → Header → Bool
+isAlike w h = either (eqb (countOf w) 0) (both (eqb (typeOf w % 256) (h .«msg_type» % 256)) (eqb (totalOf w) (h .length)))
+
+-- and "shared bytes must be equal": b its body, d the buffer
+unfoldable pub isAgreed : List ℕ → Header → List ℕ → List ℕ → Bool
+isAgreed w h b d = both (isAlike w h) (allShared w (countOf w) (h .«fragment_offset») b d (length b))
+
+-- a piece of the number expected, with its body: 24, 28, the same as one held, "then 25 for a fifty-first different piece"; else the body is put at its
+-- place
 unfoldable pub offered : List ℕ → Header → List ℕ → ℕ → List ℕ → Outcome
 offered w h b next d =
     choose (isFit w h)
+    (choose (isAgreed w h b d)
     (choose (isSame w (countOf w) (h .«fragment_offset») (h .«fragment_length»)) (outcome piece.Same (moved w next) d)
-    (choose (ltb (countOf w) most-pieces)
-    (finished (held w h next) (written w (countOf w) (h .«fragment_offset») b (h .«fragment_length») d))
-    (outcome piece.TooMany (ended w) d)))
+    (choose (ltb (countOf w) most-pieces) (finished (held w h next) (splice (h .«fragment_offset») b d)) (outcome piece.TooMany (ended w) d)))
+    (outcome piece.Disagrees (ended w) d))
     (outcome piece.Malformed (ended w) d)
 
 -- what stands at the place reached: 24 where it runs past the record; "Pieces of other messages change nothing and are only measured against the

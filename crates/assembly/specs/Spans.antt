@@ -1,11 +1,12 @@
--- The next handshake message, put together from its pieces (RFC 9147, section 5.5; 02, 2), in words that the host keeps: which word is which,
--- which bytes the pieces held cover, and what a piece writes. Assumes nothing.
+-- The next handshake message, put together from its pieces (RFC 9147, section 5.5; 02, 2 and 7), in words that the host keeps: which word is which,
+-- which bytes the pieces held cover, and which of a piece's bytes have to be there already. Assumes nothing.
 use mathlib.Core.Bool.{Bool, true, false}
 use mathlib.Core.List.{List}
 use Prim.Native.Nat.{ℕ, zero, suc, _+_, _-_}
 use lib.Dec.{leb, ltb, eqb}
-use lib.ListN.{getD, set}
+use lib.ListN.{getD}
 use Rattle.base.specs.Choose.{choose, both, either}
+use Rattle.base.specs.Every.{every}
 
 -- ---- limits
 
@@ -98,21 +99,23 @@ covered w (suc n) i = either (within (startOf w n) (spanOf w n) i) (covered w n 
 
 -- every byte below t does
 unfoldable pub allCovered : List ℕ → ℕ → ℕ → Bool
-allCovered w n zero = true
-allCovered w n (suc i) = both (covered w n i) (allCovered w n i)
+allCovered w n t = every (covered w n) t
 
 -- "when every byte is covered": below the total, by the pieces held
 unfoldable pub isWhole : List ℕ → Bool
 isWhole w = allCovered w (countOf w) (totalOf w)
 
--- "the same when message number, offset and length agree": one of the first n pieces held, all of the number expected, has this offset and length
+-- one of the first n pieces held has this offset and this length. "the same exactly when message number, type, total length, offset, length and
+-- every byte agree": the number is the one expected, and the rest is asked before (Assembly, isAgreed)
 unfoldable pub isSame : List ℕ → ℕ → ℕ → ℕ → Bool
 isSame w zero o l = false
 isSame w (suc n) o l = either (both (eqb (startOf w n) o) (eqb (spanOf w n) l)) (isSame w n o l)
 
--- "where others overlap, the earlier bytes stay": d with the first m bytes of b written from o on, each where none of the first n pieces held has
--- put one
-unfoldable pub written : List ℕ → ℕ → ℕ → List ℕ → ℕ → List ℕ → List ℕ
-written w n o b zero d = d
-written w n o b (suc m) d =
-    choose (covered w n (o + m)) (written w n o b m d) (set (written w n o b m d) (o + m) (getD b m 0))
+-- "where pieces overlap, shared bytes must be equal": byte i of a body b that goes to place o lies in none of the first n pieces held, or is the byte
+-- that d has there
+unfoldable pub isShared : List ℕ → ℕ → ℕ → List ℕ → List ℕ → ℕ → Bool
+isShared w n o b d i = choose (covered w n (o + i)) (eqb (getD b i 0) (getD d (o + i) 0)) true
+
+-- so do the first m bytes
+unfoldable pub allShared : List ℕ → ℕ → ℕ → List ℕ → List ℕ → ℕ → Bool
+allShared w n o b d m = every (isShared w n o b d) m

@@ -7,8 +7,9 @@ pub enum Piece {
     Reply,
     // The record is over.
     End,
-    // Refused by 24 and by 25: the record is over.
+    // Refused by 24, by 28 and by 25: the record is over.
     Malformed,
+    Disagrees,
     TooMany,
     // Of another message, whose number is told; the same as one held.
     Passed {

@@ -21,6 +21,7 @@ flatPiece piece.Setting = told 0 12 0 0
 flatPiece piece.Reply = told 0 15 0 0
 flatPiece piece.End = told 1 0 0 0
 flatPiece piece.Malformed = told 0 24 0 0
+flatPiece piece.Disagrees = told 0 28 0 0
 flatPiece piece.TooMany = told 0 25 0 0
 flatPiece (piece.Passed n) = told 2 0 n 0
 flatPiece piece.Same = told 3 0 0 0

@@ -13,7 +13,7 @@ use base::MOST_MOVED;
 use handshake::ParsedHeader;
 
 // What a call says of the next piece of a record. Kind 0 is refused: by 12, 15 or 16, and nothing has changed, length for 16 being what the buffer
-// needs; or by 24 or 25, and the record is over. 1 the record is over; 2 a piece of another message, of that number; 3 the same as one held; 4 held; 5 a message:
+// needs; or by 24, 28 or 25, and the record is over. 1 the record is over; 2 a piece of another message, of that number; 3 the same as one held; 4 held; 5 a message:
 // its type, number and length.
 #[repr(C)]
 pub struct HuskPiece {
@@ -47,6 +47,7 @@ fn flat_piece(p: Piece) -> HuskPiece
         Piece::Reply => told(0, 15, 0, 0),
         Piece::End => told(1, 0, 0, 0),
         Piece::Malformed => told(0, 24, 0, 0),
+        Piece::Disagrees => told(0, 28, 0, 0),
         Piece::TooMany => told(0, 25, 0, 0),
         Piece::Passed { number } => told(2, 0, number, 0),
         Piece::Same => told(3, 0, 0, 0),

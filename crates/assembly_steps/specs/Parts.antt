@@ -1,4 +1,4 @@
--- What the parts of a call leave: how far bytes are covered or not, and a body written so far. Assumes nothing.
+-- What the parts of a call leave: how far bytes are covered or not, and how far a body's are shared. Assumes nothing.
 use mathlib.Core.Bool.{true, false}
 use mathlib.Core.List.{List}
 use mathlib.Core.Path.{_≡_}
@@ -7,7 +7,7 @@ use lib.ListN.{length}
 use Rattle.handshake.specs.declared.Header.{Header}
 use Rattle.handshake.specs.declared.ParsedHeader.{ParsedHeader}
 use Rattle.handshake.specs.declared.ParsedHeader.the-variants as parsed
-use Rattle.assembly.specs.Spans.{most-pieces, most-bytes, header-length, countOf, covered, written}
+use Rattle.assembly.specs.Spans.{most-pieces, most-bytes, header-length, countOf, covered, allShared}
 
 -- r bytes from i on are covered; none where i is not
 pub record Reach (w : List ℕ) (n i r : ℕ) : Type 0 where
@@ -26,11 +26,12 @@ pub record Gap (w : List ℕ) (n i l r : ℕ) : Type 0 where
   pub some : 0 < r
   pub bare : (j : ℕ) → j < r → covered w n (i + j) ≡ false
 
--- a body written to place i in d is written to place r in e
-pub record Run (w : List ℕ) (n o : ℕ) (b : List ℕ) (i r : ℕ) (d e : List ℕ) : Type 0 where
-  pub on : i < r
+-- a body's bytes from i to r are as d has them or not covered; where r is i, one is covered and other
+pub record Shared (w : List ℕ) (n o : ℕ) (b d : List ℕ) (i r : ℕ) : Type 0 where
+  pub on : i ≤ r
   pub most : r ≤ length b
-  pub is : (z : List ℕ) → d ≡ written w n o b i z → e ≡ written w n o b r z
+  pub is : i < r → allShared w n o b d r ≡ allShared w n o b d i
+  pub other : r ≡ i → allShared w n o b d (length b) ≡ false
 
 -- a piece that was read lies in its record
 pub record Measured (p : ParsedHeader) (c : List ℕ) (at : ℕ) : Type 0 where

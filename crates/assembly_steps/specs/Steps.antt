@@ -8,15 +8,15 @@ use lib.Dec.{leb}
 use lib.ListN.{length, drop, length-drop}
 use borrow.Author.Tests.{leb-true, lt-ltb, le-ltb, eq-eqb, ne-eqb}
 use Rattle.base.specs.Choose.{if-true, if-false, both-left, both-right}
-use Rattle.base.specs.Parts.{part, length-part}
+use Rattle.base.specs.Parts.{part, length-part, splice}
 use Rattle.handshake.specs.declared.Header.{Header}
 use Rattle.handshake.specs.declared.ParsedHeader.{ParsedHeader}
 use Rattle.handshake.specs.declared.ParsedHeader.the-variants as parsed
 use Rattle.handshake.specs.Header.{parseHeader}
 use Rattle.assembly.specs.declared.Piece.{Piece}
 use Rattle.assembly.specs.declared.Piece.the-variants as piece
-use Rattle.assembly.specs.Spans.{most-pieces, most-bytes, last-number, header-length, expectedOf, countOf, sizeOf, placeOf, isSame, written}
-use Rattle.assembly.specs.Assembly.{Outcome, outcome, isSound, moved, ended, held, measured, pieceAt, nextAt, isFit, finished, offered, readAt, taken}
+use Rattle.assembly.specs.Spans.{most-pieces, most-bytes, last-number, header-length, expectedOf, countOf, sizeOf, placeOf, isSame}
+use Rattle.assembly.specs.Assembly.{Outcome, outcome, isSound, moved, ended, held, measured, pieceAt, nextAt, isFit, isAgreed, finished, offered, readAt, taken}
 use Rattle.assembly_steps.specs.Parts.{Measured, Offers}
 
 -- ---- a piece read
@@ -53,18 +53,17 @@ module _ (w c d : List ℕ) (room : most-bytes ≤ length d) (sound : isSound w 
         room = room;
       }
 
--- ---- a piece that no test refuses is written and held
+-- ---- a piece that no test refuses is put at its place and held
 
-module _ (w : List ℕ) (h : Header) (b : List ℕ) (next : ℕ) (d : List ℕ) (fit : isFit w h ≡ true)
+module _ (w : List ℕ) (h : Header) (b : List ℕ) (next : ℕ) (d : List ℕ) (fit : isFit w h ≡ true) (agreed : isAgreed w h b d ≡ true)
     (other : isSame w (countOf w) (h .«fragment_offset») (h .«fragment_length») ≡ false) (few : countOf w < most-pieces) where
-  offered-held : offered w h b next d ≡ finished (held w h next) (written w (countOf w) (h .«fragment_offset») b (h .«fragment_length») d)
+  offered-held : offered w h b next d ≡ finished (held w h next) (splice (h .«fragment_offset») b d)
   unfolding offered
-  offered-held = if-true _ _ fit ∙ if-false _ _ other ∙ if-true _ _ (lt-ltb _ _ few)
+  offered-held = if-true _ _ fit ∙ if-true _ _ agreed ∙ if-false _ _ other ∙ if-true _ _ (lt-ltb _ _ few)
 
   pub holds : (r : Piece) (v u x : List ℕ) → ((z : List ℕ) → outcome r v z ≡ finished u z) → u ≡ held w h next
-      → x ≡ written w (countOf w) (h .«fragment_offset») b (length b) d → length b ≡ h .«fragment_length» → outcome r v x ≡ offered w h b next d
-  holds r v u x f e g l =
-      f x ∙ ap (λ (y : List ℕ). finished y x) e ∙ ap (finished (held w h next)) (g ∙ ap (λ (m : ℕ). written w (countOf w) (h .«fragment_offset») b m d) l) ∙ sym offered-held
+      → x ≡ splice (h .«fragment_offset») b d → outcome r v x ≡ offered w h b next d
+  holds r v u x f e g = f x ∙ ap (λ (y : List ℕ). finished y x) e ∙ ap (finished (held w h next)) g ∙ sym offered-held
 
 -- ---- what stands at the place reached
 

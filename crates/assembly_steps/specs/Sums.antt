@@ -5,6 +5,7 @@ use mathlib.Core.Path.{_≡_, refl}
 use Prim.Native.Nat.{ℕ, zero, suc, _+_, _-_, _≤_, _<_, min}
 use native.Mathlib.Omega.{arith}
 use Rattle.base.specs.Choose.{choose, either, if-true, if-false, test-cases, both-left, both-right}
+use Rattle.base.specs.Every.{every}
 use Rattle.assembly.specs.Spans.{startOf, spanOf, within, covered, allCovered}
 use Rattle.assembly.specs.Covering.{within-from, within-to}
 
@@ -68,7 +69,7 @@ all-low w (suc n) t =
     omega arith
 
 whole-count : (w : List ℕ) (n t : ℕ) → allCovered w n t ≡ true → countAll w n t ≡ t
-unfolding allCovered
+unfolding allCovered every
 whole-count w n zero e = refl
 whole-count w n (suc t) e =
     let z : one (covered w n t) ≡ 1 = if-true _ _ (both-left _ _ e) in

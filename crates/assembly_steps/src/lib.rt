@@ -6,9 +6,10 @@ ghost use lib.ListN.{length};
 ghost use mathlib.Core.List.{List};
 ghost use lib.Dec.{eqb};
 ghost use Rattle.base.specs.Choose.{both};
-ghost use Rattle.assembly.specs.Spans.{most-pieces, most-bytes, last-number, words, expectedOf, countOf, within, covered, allCovered, isWhole, isSame, written};
-ghost use Rattle.assembly.specs.Assembly.{outcome, isSound, headed, held, pieceAt, isFit, finished, offered};
-ghost use Rattle.assembly_steps.specs.Parts.{Reach, Ahead, Gap, Run, Measured, Offers};
+ghost use Rattle.base.specs.Parts.{splice};
+ghost use Rattle.assembly.specs.Spans.{most-pieces, most-bytes, last-number, words, expectedOf, countOf, within, covered, allCovered, isWhole, isSame, allShared};
+ghost use Rattle.assembly.specs.Assembly.{outcome, isSound, headed, held, pieceAt, isFit, isAlike, isAgreed, finished, offered};
+ghost use Rattle.assembly_steps.specs.Parts.{Reach, Ahead, Gap, Shared, Measured, Offers};
 ghost use Rattle.assembly_steps.specs.Sums.{lengthsOf};
 use assembly::Piece;
 use handshake::Header;
@@ -199,7 +200,7 @@ fn is_whole(w: &[u64; WORDS]) -> bool
     covers_all(w, w[COUNT] as usize, w[TOTAL])
 }
 
-// ---- a body written
+// ---- shared bytes
 
 // How many of the r bytes from i on lie before s, if s is behind i.
 fn ahead(s: u64, i: u64, r: u64) -> u64
@@ -229,37 +230,75 @@ fn gap(w: &[u64; WORDS], n: usize, i: u64, l: u64) -> u64
     r
 }
 
-// The bytes of a body from i on, to go to o + i, as far as they are all covered, and then stay as they are, or all not, and then are
-// written as one move; and the place behind them.
-fn write_run(w: &[u64; WORDS], n: usize, o: usize, b: &[u8], i: usize, d: &mut [u8]) -> usize
+// The bytes of a body from i on, to go to o + i, as far as they are all covered or all not, and the place behind them; i where they are covered
+// and the buffer has others.
+fn share_run(w: &[u64; WORDS], n: usize, o: usize, b: &[u8], i: usize, d: &[u8]) -> usize
     requires { ⌜ (n ≤ most-pieces) × (o + length (now b) ≤ length (now d)) × (length (now b) ≤ most-bytes) × (i < length (now b)) ⌝ }
-    ensures { λ r. ⌜ Run (now (w .entry)) n o (now (b .entry)) i r (now (d .entry)) (now (d .exit)) ⌝ }
+    ensures { λ r. ⌜ Shared (now (w .entry)) n o (now (b .entry)) (now (d .entry)) i r ⌝ }
 {
     let at = o + i;
     let left = b.len() - i;
     let s = reach(w, n, at as u64) as usize;
-    if left <= s {
-        return b.len();
+    if s == 0 {
+        return i + (gap(w, n, at as u64, left as u64) as usize);
     }
-    if 0 < s {
-        return i + s;
-    }
-    let g = gap(w, n, at as u64, left as u64) as usize;
+    let g = base::lesser(s, left);
     let e = i + g;
     let f = at + g;
-    base::move_bytes(&b[i..e], &mut d[at..f]);
-    e
+    if base::same_bytes(&b[i..e], &d[at..f]) {
+        return e;
+    }
+    i
 }
 
-// The bytes of a body written from o on, each where no piece held has put one.
-fn write_body(w: &[u64; WORDS], n: usize, o: usize, b: &[u8], d: &mut [u8])
-    requires { ⌜ (n ≤ most-pieces) × (o + length (now b) ≤ length (now d)) × (length (now b) ≤ most-bytes) ⌝ }
-    ensures { λ _. ⌜ now (d .exit) ≡ written (now (w .entry)) n o (now (b .entry)) (length (now (b .entry))) (now (d .entry)) ⌝ }
+// Whether the l bytes from s on end before o, or begin at e or behind it.
+fn is_apart(s: u64, l: u64, o: u64, e: u64) -> bool
+    ensures { λ r. ⌜ (r ≡ true → (i : ℕ) → o ≤ i → i < e → within s l i ≡ false) ⌝ }
 {
+    if e <= s {
+        return true;
+    }
+    if s <= o {
+        return l <= o - s;
+    }
+    false
+}
+
+// Whether the first n pieces held lie apart from the bytes o to e: most pieces do, which is told in one pass.
+fn is_bare(w: &[u64; WORDS], n: usize, o: u64, e: u64) -> bool
+    requires { ⌜ n ≤ most-pieces ⌝ }
+    ensures { λ r. ⌜ (r ≡ true → (i : ℕ) → o ≤ i → i < e → covered (now (w .entry)) n i ≡ false) ⌝ }
+{
+    let mut k = n;
+    while 0 < k {
+        let j = k - 1;
+        let a = OFFSETS + j;
+        let b = LENGTHS + j;
+        if !is_apart(w[a], w[b], o, e) {
+            return false;
+        }
+        k = j;
+    }
+    true
+}
+
+// Whether each byte of a body that goes to o on is as the buffer has it, where a piece held covers it.
+fn shares(w: &[u64; WORDS], n: usize, o: usize, b: &[u8], d: &[u8]) -> bool
+    requires { ⌜ (n ≤ most-pieces) × (o + length (now b) ≤ length (now d)) × (length (now b) ≤ most-bytes) ⌝ }
+    ensures { λ r. ⌜ r ≡ allShared (now (w .entry)) n o (now (b .entry)) (now (d .entry)) (length (now (b .entry))) ⌝ }
+{
+    if is_bare(w, n, o as u64, (o + b.len()) as u64) {
+        return true;
+    }
     let mut i = 0;
     while i < b.len() {
-        i = write_run(w, n, o, b, i, d);
+        let e = share_run(w, n, o, b, i, d);
+        if e == i {
+            return false;
+        }
+        i = e;
     }
+    true
 }
 
 // ---- words written
@@ -349,6 +388,39 @@ fn is_fit(w: &[u64; WORDS], h: Header) -> bool
     end <= w[TOTAL]
 }
 
+// Whether a piece has type and total of the first piece held, if one is.
+fn is_alike(w: &[u64; WORDS], h: Header) -> bool
+    ensures { λ r. ⌜ r ≡ isAlike (now (w .entry)) h ⌝ }
+{
+    if w[COUNT] == 0 {
+        return true;
+    }
+    if low_byte(w[TYPE]) != h.msg_type {
+        return false;
+    }
+    w[TOTAL] == h.length as u64
+}
+
+// Whether a piece agrees with those held: type, total, and every byte that it shares with them.
+fn is_agreed(w: &[u64; WORDS], h: Header, b: &[u8], d: &[u8]) -> bool
+    requires { ⌜ Offers (now w) h (now b) (now d) × (isFit (now w) h ≡ true) ⌝ }
+    ensures { λ r. ⌜ r ≡ isAgreed (now (w .entry)) h (now (b .entry)) (now (d .entry)) ⌝ }
+{
+    if !is_alike(w, h) {
+        return false;
+    }
+    shares(w, w[COUNT] as usize, h.fragment_offset as usize, b, d)
+}
+
+// A body put at its place in the buffer.
+fn put_body(o: usize, b: &[u8], d: &mut [u8])
+    requires { ⌜ (o + length (now b) ≤ length (now d)) × (length (now b) ≤ most-bytes) ⌝ }
+    ensures { λ _. ⌜ now (d .exit) ≡ splice o (now (b .entry)) (now (d .entry)) ⌝ }
+{
+    let e = o + b.len();
+    base::move_bytes(b, &mut d[o..e]);
+}
+
 // A piece of the number expected, with its body.
 pub fn offer(w: &mut [u64; WORDS], h: Header, b: &[u8], next: usize, d: &mut [u8]) -> Piece
     requires { ⌜ Offers (now w) h (now b) (now d) ⌝ }
@@ -357,6 +429,10 @@ pub fn offer(w: &mut [u64; WORDS], h: Header, b: &[u8], next: usize, d: &mut [u8
     if !is_fit(w, h) {
         w[PLACE] = w[SIZE];
         return Piece::Malformed;
+    }
+    if !is_agreed(w, h, b, d) {
+        w[PLACE] = w[SIZE];
+        return Piece::Disagrees;
     }
     let n = w[COUNT] as usize;
     if is_same(w, n, h.fragment_offset as u64, h.fragment_length as u64) {
@@ -367,7 +443,7 @@ pub fn offer(w: &mut [u64; WORDS], h: Header, b: &[u8], next: usize, d: &mut [u8
         w[PLACE] = w[SIZE];
         return Piece::TooMany;
     }
-    write_body(w, n, h.fragment_offset as usize, b, d);
+    put_body(h.fragment_offset as usize, b, d);
     hold(w, n, h, next);
     finish(w)
 }

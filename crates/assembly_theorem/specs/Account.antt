@@ -1,13 +1,14 @@
--- What 02, 2 asks of reassembly (RFC 9147, section 5.5), by the claim's own account: kept from the records and buffers that the host gives, and from
+-- What 02, 2 and 7 ask of reassembly (RFC 9147, section 5.5), by the claim's own account: kept from the records and buffers that the host gives, and from
 -- nothing of the state. It cites no definition of the program.
 use mathlib.Core.Bool.{Bool, true, false}
 use mathlib.Core.List.{List, [], _∷_}
 use mathlib.Core.Option.{Option, none, some}
-use Prim.Native.Nat.{ℕ, zero, suc, _+_, _-_, _%_}
+use Prim.Native.Nat.{ℕ, suc, _+_, _-_, _%_}
 use lib.Dec.{leb, ltb, eqb}
 use lib.ListN.{length, getD, drop}
 use Rattle.base.specs.Bytes.{beAt}
 use Rattle.base.specs.Choose.{choose, both, either}
+use Rattle.base.specs.Every.{every, sameTo}
 use Rattle.base.specs.Parts.{part}
 
 -- ---- limits
@@ -50,6 +51,22 @@ endOf f = f .offset + length (f .body)
 unfoldable pub has : Fragment → ℕ → Bool
 has f i = both (leb (f .offset) i) (ltb i (endOf f))
 
+-- and has it as
+abbrev pub byteIn : Fragment → ℕ → ℕ
+byteIn f i = getD (f .body) (i - f .offset) 0
+
+-- "the same exactly when message number, type, total length, offset, length and every byte agree" (02, 7)
+unfoldable pub isSame : Fragment → Fragment → Bool
+isSame f g =
+    both (eqb (g .number) (f .number))
+    (both (eqb (g .kind) (f .kind))
+    (both (eqb (g .total) (f .total))
+    (both (eqb (g .offset) (f .offset)) (both (eqb (length (g .body)) (length (f .body))) (sameTo (g .body) (f .body) (length (f .body)))))))
+
+-- "where pieces overlap, shared bytes must be equal": byte i, where both have it
+unfoldable pub isShared : Fragment → Fragment → ℕ → Bool
+isShared f g i = choose (both (has f i) (has g i)) (eqb (byteIn f i) (byteIn g i)) true
+
 -- ---- pieces taken, the newest first
 
 -- one of them has byte i
@@ -59,8 +76,7 @@ covers (f ∷ fs) i = either (has f i) (covers fs i)
 
 -- they have every byte below n
 unfoldable pub coversAll : List Fragment → ℕ → Bool
-coversAll fs zero = true
-coversAll fs (suc i) = both (covers fs i) (coversAll fs i)
+coversAll fs n = every (covers fs) n
 
 -- "the earlier bytes stay": byte i as the first piece that has it
 unfoldable pub byteOf : List Fragment → ℕ → ℕ
@@ -72,10 +88,15 @@ unfoldable pub oldest : Fragment → List Fragment → Fragment
 oldest f [] = f
 oldest f (g ∷ gs) = oldest g gs
 
--- "the same when message number, offset and length agree": all taken have the number expected
+-- one of them is the same
 unfoldable pub isAmong : Fragment → List Fragment → Bool
 isAmong f [] = false
-isAmong f (g ∷ gs) = either (both (eqb (g .offset) (f .offset)) (eqb (length (g .body)) (length (f .body)))) (isAmong f gs)
+isAmong f (g ∷ gs) = either (isSame f g) (isAmong f gs)
+
+-- every byte that it shares with one of them is equal
+unfoldable pub sharesAll : Fragment → List Fragment → Bool
+sharesAll f [] = true
+sharesAll f (g ∷ gs) = both (every (isShared f g) (endOf f)) (sharesAll f gs)
 
 -- ---- the account
 
@@ -108,14 +129,22 @@ isFit a f =
     both (ltb (a .out) lastNumber)
     (both (leb (f .total) longestBody) (both (leb (endOf f) (f .total)) (leb (endOf f) (oldest f (a .pieces) .total))))
 
+-- 28 spares it: "Every piece must have the held type and total, and where pieces overlap, shared bytes must be equal"
+unfoldable pub isAgreed : Account → Fragment → Bool
+isAgreed a f =
+    both (eqb (oldest f (a .pieces) .kind) (f .kind)) (both (eqb (oldest f (a .pieces) .total) (f .total)) (sharesAll f (a .pieces)))
+
 -- taken: "handed over once when every byte is covered", "Type and total are those of the first piece held"
 unfoldable pub takenAs : Account → Fragment → Verdict
 takenAs a f =
     choose (coversAll (f ∷ a .pieces) (oldest f (a .pieces) .total)) (whole (oldest f (a .pieces) .kind) (a .out) (oldest f (a .pieces) .total)) held
 
--- a piece of the number expected: 24, "before sameness", "then 25 for a fifty-first different piece"
+-- a piece of the number expected: 24, "before sameness", 28, "after 24 and before 25", "then 25 for a fifty-first different piece"
 unfoldable pub judged : Account → Fragment → Verdict
-judged a f = choose (isFit a f) (choose (isAmong f (a .pieces)) same (choose (ltb (length (a .pieces)) mostTaken) (takenAs a f) (ended 25))) (ended 24)
+judged a f =
+    choose (isFit a f)
+    (choose (isAgreed a f) (choose (isAmong f (a .pieces)) same (choose (ltb (length (a .pieces)) mostTaken) (takenAs a f) (ended 25))) (ended 28))
+    (ended 24)
 
 -- what stands at the place reached: 24 where it runs past its record; "Pieces of other messages change nothing and are only measured against the
 -- record"

@@ -10,7 +10,7 @@ use Rattle.base.specs.Choose.{choose, both}
 use Rattle.assembly.specs.Assembly as assembly
 use Rattle.assembly.specs.declared.Piece.{Piece}
 use Rattle.assembly.specs.declared.Piece.the-variants as piece
-use Rattle.assembly_theorem.specs.Account.{longestBody, Fragment, fragmentIn, has, covers, byteOf, oldest, Account, newAccount, Verdict, begun, turned, ended, over, other, same, held, whole, owed, begins, readsFrom, after}
+use Rattle.assembly_theorem.specs.Account.{longestBody, Fragment, fragmentIn, has, byteIn, covers, byteOf, oldest, Account, newAccount, Verdict, begun, turned, ended, over, other, same, held, whole, owed, begins, readsFrom, after}
 
 -- ---- the calls
 
@@ -71,6 +71,7 @@ verdictOf piece.Setting = turned 12
 verdictOf piece.Reply = turned 15
 verdictOf piece.End = over
 verdictOf piece.Malformed = ended 24
+verdictOf piece.Disagrees = ended 28
 verdictOf piece.TooMany = ended 25
 verdictOf (piece.Passed n) = other n
 verdictOf piece.Same = same
@@ -159,12 +160,20 @@ pub record WroteOnly (u : Wrote) : Type 0 where
   pub bytes : (i : ℕ) → getD (u .behind) i 0 ≡ choose (brings u i) (getD (u .piece .body) (i - u .piece .offset) 0) (getD (u .before) i 0)
   pub spared : isTaken (u .verdict) ≡ false → u .behind ≡ u .before
 
--- a message has the type and the length of the first of its pieces, a piece for every byte, and each byte as the first piece that has it
+-- a message agrees with a piece: type, length, and every byte that the piece has
+pub record Agrees (m : Out) (f : Fragment) : Type 0 where
+  pub kind : f .kind ≡ m .kind
+  pub total : f .total ≡ length (m .body)
+  pub byte : (i : ℕ) → has f i ≡ true → getD (m .body) i 0 ≡ byteIn f i
+
+-- a message has the type and the length of the first of its pieces, a piece for every byte, and each byte as the first piece that has it; and it agrees
+-- with every piece that was taken for it, not only with the first to have a byte (02, 7)
 pub record Right (m : Out) : Type 0 where
   pub kind : m .kind ≡ oldest (m .last) (m .earlier) .kind
   pub total : length (m .body) ≡ oldest (m .last) (m .earlier) .total
   pub whole : (i : ℕ) → i < length (m .body) → covers (m .last ∷ m .earlier) i ≡ true
   pub byte : (i : ℕ) → i < length (m .body) → getD (m .body) i 0 ≡ byteOf (m .last ∷ m .earlier) i
+  pub each : (f : Fragment) → Mem f (m .last ∷ m .earlier) → Agrees m f
 
 -- "Number 0 is expected first, then one more after each message", "handed over once": messages, the newest first, numbered from 0 on
 pub data Log : List Out → Type 0 where
@@ -176,7 +185,7 @@ abbrev pub Came : List Given → Fragment → Type 0
 Came gs f = (g : Given) × Mem g gs × (fragmentIn (drop (g .place) (g .content)) ≡ some f)
 
 pub record Assembled (p : Piecing) : Type 0 where
-  -- each call was answered as the account says: 12 never, 15, 16, 24, 25, the end, another message's, the same, held, a message exactly if
+  -- each call was answered as the account says: 12 never, 15, 16, 24, 28, 25, the end, another message's, the same, held, a message exactly if
   pub answers : (a : Told) → Mem a (p .told) → a .reply ≡ a .owed
   -- the buffer changed by what a taken piece brings anew, and by nothing else
   pub writes : (u : Wrote) → Mem u (p .wrote) → WroteOnly u

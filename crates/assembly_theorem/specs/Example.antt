@@ -1,4 +1,4 @@
--- Worked records, computed: by the account alone, each edge of 02, 2 as the last that is done and the first that is refused; then a list of calls whose
+-- Worked records, computed: by the account alone, each edge of 02, 2 and 7 as the last that is done and the first that is refused; then a list of calls whose
 -- premises are met, and its messages. Assumes nothing.
 use mathlib.Core.Bool.{true, false≢true}
 use mathlib.Core.List.{List, [], _∷_, _++_}
@@ -9,6 +9,8 @@ use borrow.Author.Tests.{ltb-true}
 use lib.Dec.{leb}
 use lib.ListN.{length, getD, replicate}
 use Rattle.base.specs.Choose as base-choose
+use Rattle.base.specs.Every as base-every
+use Rattle.base.specs.Parts as base-parts
 use Rattle.base.specs.Choose.{both-right}
 use Rattle.handshake.specs.Header as header
 use Rattle.history_theorem.specs.Lists.{either-cases}
@@ -22,7 +24,7 @@ use Rattle.assembly_theorem.specs.Rules.{lends-again}
 
 -- every definition that an account or a list computes with
 opened : Unit {0}
-unfolding base-choose.choose base-choose.both base-choose.either account.fragmentIn account.has account.covers account.coversAll account.byteOf account.oldest account.isAmong account.isFit account.takenAs account.judged account.readAs account.owed header.headerAt header.parseHeader spans.within spans.covered spans.allCovered spans.isWhole spans.isSame spans.written assembly.isSound assembly.held assembly.pieceAt assembly.isFit assembly.finished assembly.offered assembly.readAt assembly.taken
+unfolding base-choose.choose base-choose.both base-choose.either base-every.every base-every.sameTo base-parts.splice account.fragmentIn account.has account.isSame account.isShared account.covers account.coversAll account.byteOf account.oldest account.isAmong account.sharesAll account.isFit account.isAgreed account.takenAs account.judged account.readAs account.owed header.headerAt header.parseHeader spans.within spans.covered spans.allCovered spans.isWhole spans.isSame spans.isShared spans.allShared assembly.isSound assembly.held assembly.pieceAt assembly.isFit assembly.isAlike assembly.isAgreed assembly.finished assembly.offered assembly.readAt assembly.taken
 opened = tt
 
 -- ---- a record's pieces taken in turn, over a buffer of 16,384 bytes
@@ -49,26 +51,26 @@ piece kind total number offset body =
 
 -- ---- message 0, of type 11 and 4 bytes
 
--- its last three bytes; the same place with other bytes; its first two, with another type, another total and another byte where they overlap
+-- its last three bytes; the same again; its first two, of which the last three have one
 abbrev back : List ℕ
 back = piece 11 4 0 1 (20 ∷ 30 ∷ 40 ∷ [])
 
 abbrev again : List ℕ
-again = piece 11 4 0 1 (99 ∷ 99 ∷ 99 ∷ [])
+again = piece 11 4 0 1 (20 ∷ 30 ∷ 40 ∷ [])
 
 abbrev front : List ℕ
-front = piece 22 9 0 0 (10 ∷ 77 ∷ [])
+front = piece 11 4 0 0 (10 ∷ 20 ∷ [])
 
 abbrev backPiece : Fragment
 backPiece = record { kind = 11; total = 4; number = 0; offset = 1; body = 20 ∷ 30 ∷ 40 ∷ [] }
 
 abbrev frontPiece : Fragment
-frontPiece = record { kind = 22; total = 9; number = 0; offset = 0; body = 10 ∷ 77 ∷ [] }
+frontPiece = record { kind = 11; total = 4; number = 0; offset = 0; body = 10 ∷ 20 ∷ [] }
 
 abbrev withBack : Account
 withBack = behind 1 newAccount back
 
--- the pieces come in reverse order and the first doubled: the message has the first one's type and total
+-- the pieces come in reverse order and the first doubled
 in-three-records : (told 2 newAccount back ≡ held ∷ over ∷ []) × (told 2 withBack again ≡ same ∷ over ∷ [])
     × (told 2 (behind 1 withBack again) front ≡ whole 11 0 4 ∷ over ∷ [])
 unfolding opened
@@ -80,13 +82,38 @@ in-one-record : (told 4 newAccount (back ++ again ++ front) ≡ held ∷ same �
 unfolding opened
 in-one-record = (refl, refl, refl)
 
--- "the earlier bytes stay": 20 at place 1, and not 77
+-- each byte as the first piece that has it
 bytes-of : (byteOf (frontPiece ∷ backPiece ∷ []) 0 ≡ 10) × (byteOf (frontPiece ∷ backPiece ∷ []) 1 ≡ 20)
     × (byteOf (frontPiece ∷ backPiece ∷ []) 2 ≡ 30) × (byteOf (frontPiece ∷ backPiece ∷ []) 3 ≡ 40)
 unfolding opened
 bytes-of = (refl, refl, refl, refl)
 
--- another length at the same offset is a different piece, and so is the same length at another; an empty one too
+-- ---- 28
+
+-- the same place with other bytes, the first, the middle and the last of them; a shared byte of a piece at another place; another type; another total,
+-- also of an empty piece
+disagreements : (told 1 withBack (piece 11 4 0 1 (21 ∷ 30 ∷ 40 ∷ [])) ≡ ended 28 ∷ []) × (told 1 withBack (piece 11 4 0 1 (20 ∷ 31 ∷ 40 ∷ [])) ≡ ended 28 ∷ [])
+    × (told 1 withBack (piece 11 4 0 1 (20 ∷ 30 ∷ 41 ∷ [])) ≡ ended 28 ∷ []) × (told 1 withBack (piece 11 4 0 0 (10 ∷ 77 ∷ [])) ≡ ended 28 ∷ [])
+    × (told 1 withBack (piece 22 4 0 0 (10 ∷ 20 ∷ [])) ≡ ended 28 ∷ []) × (told 1 withBack (piece 22 4 0 1 (20 ∷ 30 ∷ 40 ∷ [])) ≡ ended 28 ∷ [])
+    × (told 1 withBack (piece 11 9 0 0 (10 ∷ 20 ∷ [])) ≡ ended 28 ∷ []) × (told 1 withBack (piece 11 5 0 1 []) ≡ ended 28 ∷ [])
+unfolding opened
+disagreements = (refl, refl, refl, refl, refl, refl, refl, refl)
+
+-- a piece that only touches shares no byte, whatever it brings; the first piece disagrees with none
+touching : (told 1 withBack (piece 11 4 0 0 (77 ∷ [])) ≡ whole 11 0 4 ∷ []) × (told 1 newAccount (piece 22 9 0 1 (99 ∷ [])) ≡ held ∷ [])
+unfolding opened
+touching = (refl, refl)
+
+-- "the message so far is kept", and the record is over: the right piece completes it afterwards
+kept-so-far : (told 3 withBack (piece 11 4 0 0 (10 ∷ 77 ∷ []) ++ front) ≡ ended 28 ∷ over ∷ over ∷ [])
+    × (behind 3 withBack (piece 11 4 0 0 (10 ∷ 77 ∷ []) ++ front) ≡ record { out = 0; pieces = backPiece ∷ []; size = 28; place = 28 })
+    × (told 1 (behind 3 withBack (piece 11 4 0 0 (10 ∷ 77 ∷ []) ++ front)) front ≡ whole 11 0 4 ∷ [])
+unfolding opened
+kept-so-far = (refl, refl, refl)
+
+-- ---- the same, and different
+
+-- another length at the same offset is a different piece, and so is the same length at another, also where all its bytes are there; an empty one too
 different : told 5 newAccount (back ++ piece 11 4 0 1 (20 ∷ []) ++ piece 11 4 0 1 [] ++ piece 11 4 0 1 [] ++ piece 11 4 0 2 (30 ∷ []))
     ≡ held ∷ held ∷ held ∷ same ∷ held ∷ []
 unfolding opened
@@ -116,8 +143,9 @@ past-own-total : (told 4 newAccount (back ++ piece 11 4 0 3 (40 ∷ 50 ∷ []) +
 unfolding opened
 past-own-total = (refl, refl, refl, refl)
 
--- past the held total, though within its own; before sameness, a total of its own that is too small
-past-held-total : (told 1 withBack (piece 11 9 0 4 (50 ∷ [])) ≡ ended 24 ∷ []) × (told 1 withBack (piece 11 9 0 3 (40 ∷ [])) ≡ held ∷ [])
+-- past the held total, though within its own, and before 28; a piece of that total which does not run past the held one is 28; before sameness, a total of
+-- its own that is too small
+past-held-total : (told 1 withBack (piece 11 9 0 4 (50 ∷ [])) ≡ ended 24 ∷ []) × (told 1 withBack (piece 11 9 0 3 (40 ∷ [])) ≡ ended 28 ∷ [])
     × (told 1 withBack (piece 11 3 0 1 (20 ∷ 30 ∷ 40 ∷ [])) ≡ ended 24 ∷ [])
 unfolding opened
 past-held-total = (refl, refl, refl)
@@ -169,13 +197,13 @@ singles (suc k) = record { kind = 1; total = 51; number = 0; offset = k; body = 
 abbrev holding : ℕ → Account
 holding n = record { out = 0; pieces = singles n; size = 0; place = 0 }
 
--- a fiftieth piece is taken; with 50 taken the same again is the same, 24 comes first, and a fifty-first is 25, though it is the last that is missing
+-- a fiftieth piece is taken; with 50 taken the same again is the same, 24 and 28 come first, and a fifty-first is 25, though it is the last that is missing
 fifty : (told 1 (holding 49) (single 49) ≡ held ∷ []) × (told 3 (holding 50) (single 49 ++ single 50 ++ single 0) ≡ same ∷ ended 25 ∷ over ∷ [])
-    × (told 1 (holding 50) (piece 1 51 0 51 (7 ∷ [])) ≡ ended 24 ∷ [])
+    × (told 1 (holding 50) (piece 1 51 0 51 (7 ∷ [])) ≡ ended 24 ∷ []) × (told 1 (holding 50) (piece 1 51 0 49 (8 ∷ 7 ∷ [])) ≡ ended 28 ∷ [])
     × (behind 2 (holding 50) (single 49 ++ single 50) ≡ record { out = 0; pieces = singles 50; size = 26; place = 26 })
     × (told 1 (holding 49) (piece 1 51 0 49 (7 ∷ 8 ∷ [])) ≡ whole 1 0 51 ∷ [])
 unfolding opened
-fifty = (refl, refl, refl, refl, refl)
+fifty = (refl, refl, refl, refl, refl, refl)
 
 -- ---- 16 and 15
 
@@ -199,19 +227,27 @@ lends-fair : (p : Piecing) (c : List ℕ) (k : ℕ) → AllFair p (lends p c k)
 lends-fair p c zero = tt
 lends-fair p c (suc k) = (lends-again p c, lends-fair (does p (take· c (p .left))) c k)
 
+-- the place of the first piece with another byte, as a gateway with faulty memory sends it
+abbrev altered : List ℕ
+altered = piece 11 4 0 1 (20 ∷ 31 ∷ 40 ∷ [])
+
 -- the same again, the first bytes, message 1 with an empty body, and a piece of message 0
 abbrev later : List ℕ
 later = again ++ front ++ piece 14 0 1 0 [] ++ front
 
--- a buffer of 16,384 zeros is lent for the first piece, then one that is too short, then one that has the piece's three bytes and nines around them
+-- a buffer of 16,384 zeros is lent for the first piece and as it was left for the altered one, then one that is too short, then one that has the
+-- first piece's three bytes and nines around them
 abbrev zeros : List ℕ
 zeros = replicate 16384 0
 
 abbrev nines : List ℕ
 nines = 9 ∷ 20 ∷ 30 ∷ 40 ∷ replicate 16380 9
 
+abbrev first : Piecing
+first = ran newPiecing (begin· 15 ∷ take· back zeros ∷ begin· 15 ∷ [])
+
 abbrev early : List PieceCall
-early = begin· 15 ∷ take· back zeros ∷ begin· 55 ∷ take· later (1 ∷ []) ∷ []
+early = begin· 15 ∷ take· back zeros ∷ begin· 15 ∷ take· altered (first .left) ∷ begin· 55 ∷ take· later (1 ∷ []) ∷ []
 
 abbrev between : Piecing
 between = ran newPiecing early
@@ -233,7 +269,10 @@ calls-fair : AllFair newPiecing calls
 unfolding opened calls
 calls-fair = (
   tt,
-  (λ room i e. absurd (false≢true e), (tt, (λ room. absurd (omega arith), (λ room. nines-fair, lends-fair (does between (take· later nines)) later 4)))),
+  (
+    λ room i e. absurd (false≢true e),
+    (tt, (lends-again first altered, (tt, (λ room. absurd (omega arith), (λ room. nines-fair, lends-fair (does between (take· later nines)) later 4))))),
+  ),
 )
 
 -- so all that is claimed holds of it
@@ -244,9 +283,9 @@ abbrev replies : List Told → List Verdict
 replies [] = []
 replies (t ∷ ts) = t .reply ∷ replies ts
 
--- what the host is told, the last first; and the messages, the last first, with 20 as the first piece brought it and no nine
+-- what the host is told, the last first; and the messages, the last first, with 30 as the first piece brought it, no 31 and no nine
 calls-told : replies (ran newPiecing calls .told)
-    ≡ over ∷ other 0 ∷ whole 14 1 0 ∷ whole 11 0 4 ∷ same ∷ turned 16 ∷ begun ∷ held ∷ begun ∷ []
+    ≡ over ∷ other 0 ∷ whole 14 1 0 ∷ whole 11 0 4 ∷ same ∷ turned 16 ∷ begun ∷ ended 28 ∷ begun ∷ held ∷ begun ∷ []
 unfolding opened calls
 calls-told = refl
 
@@ -255,6 +294,55 @@ calls-messages : ran newPiecing calls .messages
     ∷ record { kind = 11; number = 0; body = 10 ∷ 20 ∷ 30 ∷ 40 ∷ []; last = frontPiece; earlier = backPiece ∷ [] } ∷ []
 unfolding opened calls
 calls-messages = refl
+
+-- ---- a list of pieces that disagree
+
+-- records of one piece, each begun and asked for over the buffer as the last call left it
+abbrev tries : Piecing → List (List ℕ) → List PieceCall
+tries p [] = []
+tries p (c ∷ cs) = begin· (length c) ∷ take· c (p .left) ∷ tries (ran p (begin· (length c) ∷ take· c (p .left) ∷ [])) cs
+
+tries-fair : (p : Piecing) (cs : List (List ℕ)) → AllFair p (tries p cs)
+tries-fair p [] = tt
+tries-fair p (c ∷ cs) = (tt, (λ room i e. refl, tries-fair (ran p (begin· (length c) ∷ take· c (p .left) ∷ [])) cs))
+
+-- behind the last three bytes of four: other bytes in their place, the middle and the last; another type; another total, within the held one and past it;
+-- an empty piece of another type. Then two pieces that agree: one whose bytes are all there, and one that only touches, with a byte of its own
+abbrev disputes : List (List ℕ)
+disputes =
+    altered ∷ piece 11 4 0 1 (20 ∷ 30 ∷ 41 ∷ []) ∷ piece 22 4 0 1 (20 ∷ 30 ∷ 40 ∷ []) ∷ piece 11 5 0 1 (20 ∷ 30 ∷ 40 ∷ []) ∷ piece 11 5 0 3 (40 ∷ 50 ∷ [])
+    ∷ piece 22 4 0 4 [] ∷ piece 11 4 0 2 (30 ∷ []) ∷ piece 11 4 0 0 (77 ∷ []) ∷ []
+
+abbrev start : List PieceCall
+start = begin· 15 ∷ take· back zeros ∷ []
+
+disputed : List PieceCall
+disputed = start ++ tries (ran newPiecing start) disputes
+
+disputed-fair : AllFair newPiecing disputed
+unfolding opened disputed
+disputed-fair = (tt, (λ room i e. absurd (false≢true e), tries-fair (ran newPiecing start) disputes))
+
+disputed-hold : Assembled (ran newPiecing disputed)
+disputed-hold = every-run disputed disputed-fair
+
+disputed-told : replies (ran newPiecing disputed .told)
+    ≡ whole 11 0 4 ∷ begun ∷ held ∷ begun ∷ ended 28 ∷ begun ∷ ended 24 ∷ begun ∷ ended 28 ∷ begun ∷ ended 28 ∷ begun ∷ ended 28 ∷ begun ∷ ended 28 ∷ begun
+    ∷ held ∷ begun ∷ []
+unfolding opened disputed
+disputed-told = refl
+
+-- the message has the bytes of all three pieces taken for it
+disputed-message : ran newPiecing disputed .messages
+    ≡ record {
+      kind = 11;
+      number = 0;
+      body = 77 ∷ 20 ∷ 30 ∷ 40 ∷ [];
+      last = record { kind = 11; total = 4; number = 0; offset = 0; body = 77 ∷ [] };
+      earlier = record { kind = 11; total = 4; number = 0; offset = 2; body = 30 ∷ [] } ∷ backPiece ∷ [];
+    } ∷ []
+unfolding opened disputed
+disputed-message = refl
 
 -- 12 is told only of words that no call made, here with 51 pieces held
 setting-told : verdictOf (assembly.taken (0 ∷ 51 ∷ replicate 104 0) [] zeros .answer) ≡ turned 12

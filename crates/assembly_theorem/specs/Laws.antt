@@ -1,26 +1,29 @@
--- What a call does, by cases, and its laws: what is not taken changes neither the buffer nor a word but the place reached; a byte that is covered is
--- never written; a message is handed over exactly when every byte of it is covered. Assumes nothing.
-use mathlib.Core.Bool.{true, false, false≢true}
+-- What a call does, by cases, and its laws: what is not taken changes neither the buffer nor a word but the place reached; a byte that is covered
+-- stays; a message is handed over exactly when every byte of it is covered. Assumes nothing.
+use mathlib.Core.Bool.{Bool, true, false, false≢true}
 use mathlib.Core.List.{List}
 use mathlib.Core.Logic.{⊎-elim}
 use mathlib.Core.Path.{_≡_, refl, sym, ap, _∙_}
-use Prim.Native.Nat.{ℕ, zero, suc, _+_, _-_, _%_, _≤_, _<_}
+use Prim.Native.Nat.{ℕ, _+_, _-_, _%_, _≤_, _<_}
 use native.Mathlib.Omega.{arith}
-use borrow.Author.Tests.{ltb-false, leb-true, eqb-true, le-leb, le-ltb}
+use borrow.Author.Tests.{ltb-false, leb-true, eqb-true, eq-eqb, le-leb, le-ltb}
 use lib.Dec.{leb}
-use lib.ListN.{length, getD, set, drop}
-use lib.Seq.{getD-set-same, getD-set-other}
-use Rattle.base.specs.Choose.{choose, by-test, by-less, if-true, if-false, test-cases, lt-or-ge, eq-or-ne, both-true, both-left, both-right}
+use lib.ListN.{length, getD, drop}
+use lib.Seq.{getD-set-other}
+use Rattle.base.specs.Choose.{choose, by-test, by-less, if-true, if-false, test-cases, eq-or-ne, both-true, both-left, both-right}
+use Rattle.base.specs.Every.{each-every, every-each}
+use Rattle.base.specs.Parts.{length-part, splice, length-splice, splice-at}
 use Rattle.handshake.specs.declared.Header.{Header}
 use Rattle.handshake.specs.declared.ParsedHeader.{ParsedHeader}
 use Rattle.handshake.specs.declared.ParsedHeader.the-variants as parsed
 use Rattle.handshake.specs.Header.{parseHeader}
 use Rattle.assembly.specs.declared.Piece.{Piece}
 use Rattle.assembly.specs.declared.Piece.the-variants as piece
-use Rattle.assembly.specs.Spans.{most-pieces, most-bytes, last-number, header-length, words, place-at, expectedOf, countOf, typeOf, totalOf, sizeOf, placeOf, within, covered, isWhole, isSame, written}
-use Rattle.assembly.specs.Covering.{within-from, within-to, is-within, all-each, length-written}
-use Rattle.assembly.specs.Assembly.{Outcome, outcome, isSound, moved, ended, held, measured, pieceAt, bodyAt, nextAt, isFit, finished, offered, readAt, taken, fit-total}
+use Rattle.assembly.specs.Spans.{most-pieces, most-bytes, last-number, header-length, words, place-at, expectedOf, countOf, typeOf, totalOf, sizeOf, placeOf, within, covered, isWhole, isSame, isShared, allShared}
+use Rattle.assembly.specs.Covering.{within-from, within-to, is-within, all-each}
+use Rattle.assembly.specs.Assembly.{Outcome, outcome, isSound, moved, ended, held, measured, pieceAt, bodyAt, nextAt, isFit, isAlike, isAgreed, finished, offered, readAt, taken, fit-total, fit-end}
 use Rattle.assembly.specs.Words.{first-total, later-total}
+use Rattle.history_theorem.specs.Lists.{splice-other}
 use Rattle.assembly_theorem.specs.Claim.{verdictOf, isTaken}
 
 -- ---- a call by cases
@@ -33,6 +36,7 @@ pub record Keeps (w c d : List ℕ) (h : Header) : Type 0 where
   pub read : pieceAt c (placeOf w) ≡ parsed.Read h
   pub number : h .«message_seq» ≡ expectedOf w
   pub fit : isFit w h ≡ true
+  pub agreed : isAgreed w h (bodyAt c (placeOf w) h) d ≡ true
   pub other : isSame w (countOf w) (h .«fragment_offset») (h .«fragment_length») ≡ false
   pub few : countOf w < most-pieces
 
@@ -41,7 +45,7 @@ abbrev pub wordsHeld : List ℕ → Header → List ℕ
 wordsHeld w h = held w h (nextAt (placeOf w) h)
 
 abbrev pub bytesHeld : List ℕ → List ℕ → List ℕ → Header → List ℕ
-bytesHeld w c d h = written w (countOf w) (h .«fragment_offset») (bodyAt c (placeOf w) h) (h .«fragment_length») d
+bytesHeld w c d h = splice (h .«fragment_offset») (bodyAt c (placeOf w) h) d
 
 -- an answer that takes nothing, with the words as they were or at another place of the record; or a piece held
 module _ (w c d : List ℕ) (P : Outcome → Type 0) (unchanged : (a : Piece) → isTaken (verdictOf a) ≡ false → P (outcome a w d))
@@ -53,10 +57,12 @@ module _ (w c d : List ℕ) (P : Outcome → Type 0) (unchanged : (a : Piece) �
     unfolding offered
     by-offered h r e =
         by-test P
-        (λ fit. by-test P (λ s. placed piece.Same (nextAt (placeOf w) h) refl)
+        (λ fit. by-test P
+        (λ agreed. by-test P (λ s. placed piece.Same (nextAt (placeOf w) h) refl)
         (λ o. by-less P (countOf w) most-pieces
-        (λ few. kept h (record { room = room; sound = sound; record-length = n; read = r; number = e; fit = fit; other = o; few = few }))
+        (λ few. kept h (record { room = room; sound = sound; record-length = n; read = r; number = e; fit = fit; agreed = agreed; other = o; few = few }))
         (λ m. placed piece.TooMany (sizeOf w) refl)))
+        (λ t. placed piece.Disagrees (sizeOf w) refl))
         (λ f. placed piece.Malformed (sizeOf w) refl)
 
     by-read : (p : ParsedHeader) → pieceAt c (placeOf w) ≡ p → P (readAt w c d p)
@@ -100,52 +106,59 @@ piece-inside c at h e = omega (arith, measured-inside (length c - at) (parseHead
 
 -- ---- what a body writes
 
-fewer : (o m i : ℕ) → within o (suc m) i ≡ false → within o m i ≡ false
-fewer o m i e =
-    test-cases (within o m i)
-    (λ q. let f = within-from o m i q in
-    let g = within-to o m i q in
-    absurd (false≢true (sym e ∙ is-within o (suc m) i f (omega arith))))
-    (λ q. q)
+module _ (w : List ℕ) (n o : ℕ) (b d : List ℕ) (m : ℕ) where
+  pub shared-each : allShared w n o b d m ≡ true → (j : ℕ) → j < m → covered w n (o + j) ≡ true → getD b j 0 ≡ getD d (o + j) 0
+  unfolding allShared isShared
+  shared-each e j h t = eqb-true _ _ (sym (if-true _ _ t) ∙ every-each (isShared w n o b d) m e j h)
 
-less : (o m i : ℕ) → (i ≡ o + m → ⊥) → o ≤ i → i - o < suc m → i - o < m
-less o m i q k g = ⊎-elim (λ p. p) (λ p. absurd (q (omega arith))) (lt-or-ge (i - o) m)
+  pub each-shared : ((j : ℕ) → j < m → covered w n (o + j) ≡ true → getD b j 0 ≡ getD d (o + j) 0) → allShared w n o b d m ≡ true
+  unfolding allShared isShared
+  each-shared f = each-every (isShared w n o b d) m (λ j h. by-test (λ (t : Bool). t ≡ true) (λ t. eq-eqb _ _ (f j h t)) (λ t. refl))
 
-module _ (w : List ℕ) (n o : ℕ) (b d : List ℕ) where
-  -- not a byte that is covered
-  pub written-covered : (m i : ℕ) → covered w n i ≡ true → getD (written w n o b m d) i 0 ≡ getD d i 0
-  unfolding written
-  written-covered zero i e = refl
-  written-covered (suc m) i e =
-      by-test (λ (l : List ℕ). getD l i 0 ≡ getD d i 0) (λ t. written-covered m i e)
-      (λ t. getD-set-other (written w n o b m d) (o + m) i (getD b m 0) 0 (λ q. false≢true (sym t ∙ ap (covered w n) (sym q) ∙ e)) ∙ written-covered m i e)
+-- a piece that was read and that 24 spares, over a buffer that is long enough
+module _ (w c d : List ℕ) (h : Header) (room : most-bytes ≤ length d) (read : pieceAt c (placeOf w) ≡ parsed.Read h) (fit : isFit w h ≡ true) where
+  abbrev b : List ℕ
+  b = bodyAt c (placeOf w) h
 
-  -- nor one beyond the body
-  pub written-beside : (m i : ℕ) → within o m i ≡ false → getD (written w n o b m d) i 0 ≡ getD d i 0
-  unfolding written
-  written-beside zero i e = refl
-  written-beside (suc m) i e =
-      by-test (λ (l : List ℕ). getD l i 0 ≡ getD d i 0) (λ t. written-beside m i (fewer o m i e))
-      (λ t. getD-set-other (written w n o b m d) (o + m) i (getD b m 0) 0 (λ q. false≢true (sym e ∙ is-within o (suc m) i (omega arith) (omega arith)))
-      ∙ written-beside m i (fewer o m i e))
+  abbrev o : ℕ
+  o = h .«fragment_offset»
 
-  -- and every other byte of the body
-  pub written-here : (m i : ℕ) → o + m ≤ length d → within o m i ≡ true → covered w n i ≡ false → getD (written w n o b m d) i 0 ≡ getD b (i - o) 0
-  unfolding written
-  written-here zero i l e f = let g = within-to o 0 i e in absurd (omega arith)
-  written-here (suc m) i l e f =
-      let g = within-to o (suc m) i e in
-      let k = within-from o (suc m) i e in
-      let z = length-written w n o b d m in
-      ⊎-elim
-      (λ q. let j : i - o ≡ m = omega arith in
-      ap (λ (l : List ℕ). getD l i 0) (if-false _ _ (ap (covered w n) (sym q) ∙ f))
-      ∙ ap (λ (x : ℕ). getD (set (written w n o b m d) (o + m) (getD b m 0)) x 0) q
-      ∙ getD-set-same (written w n o b m d) (o + m) (getD b m 0) 0 (omega arith) ∙ ap (λ (x : ℕ). getD b x 0) (sym j))
-      (λ q. by-test (λ (x : List ℕ). getD x i 0 ≡ getD b (i - o) 0)
-      (λ t. written-here m i (omega arith) (is-within o m i k (less o m i q k g)) f)
-      (λ t. getD-set-other (written w n o b m d) (o + m) i (getD b m 0) 0 q ∙ written-here m i (omega arith) (is-within o m i k (less o m i q k g)) f))
-      (eq-or-ne i (o + m))
+  body-size : length b ≡ h .«fragment_length»
+  body-size = length-part (placeOf w + header-length) (h .«fragment_length») c (piece-inside c (placeOf w) h read)
+
+  body-fits : o + length b ≤ length d
+  body-fits = let e = body-size in let p = fit-total w h fit in let q = fit-end w h fit in omega arith
+
+  pub length-put : length (bytesHeld w c d h) ≡ length d
+  length-put = length-splice o b d body-fits
+
+  -- a byte of the body, and one beyond it
+  pub put-here : (i : ℕ) → within o (h .«fragment_length») i ≡ true → getD (bytesHeld w c d h) i 0 ≡ getD b (i - o) 0
+  put-here i e =
+      let p = within-from o (h .«fragment_length») i e in
+      let q = within-to o (h .«fragment_length») i e in
+      let l = body-size in
+      let k : i ≡ o + (i - o) = omega arith in
+      ap (λ (j : ℕ). getD (bytesHeld w c d h) j 0) k ∙ splice-at o b d body-fits (i - o) (omega arith)
+
+  pub put-beside : (i : ℕ) → within o (h .«fragment_length») i ≡ false → getD (bytesHeld w c d h) i 0 ≡ getD d i 0
+  put-beside i e =
+      let l = body-size in
+      splice-other o b d body-fits i (λ p q. false≢true (sym e ∙ is-within o (h .«fragment_length») i p (omega arith)))
+
+  -- a byte that is covered stays: where the body has it, too, it is the same
+  pub put-covered : isAgreed w h b d ≡ true → (i : ℕ) → covered w (countOf w) i ≡ true → getD (bytesHeld w c d h) i 0 ≡ getD d i 0
+  unfolding isAgreed
+  put-covered e i t =
+      test-cases (within o (h .«fragment_length») i)
+      (λ u. let p = within-from o (h .«fragment_length») i u in
+      let q = within-to o (h .«fragment_length») i u in
+      let l = body-size in
+      let k : o + (i - o) ≡ i = omega arith in
+      put-here i u
+      ∙ shared-each w (countOf w) o b d (length b) (both-right (isAlike w h) _ e) (i - o) (omega arith) (ap (covered w (countOf w)) k ∙ t)
+      ∙ ap (λ (j : ℕ). getD d j 0) k)
+      (λ u. put-beside i u)
 
 -- ---- the laws
 
@@ -158,19 +171,18 @@ finished-takes : (v x : List ℕ) → isTaken (verdictOf (finished v x .answer))
 unfolding finished
 finished-takes v x = by-test (λ (o : Outcome). isTaken (verdictOf (o .answer)) ≡ true) (λ e. refl) (λ e. refl)
 
--- a call never writes a byte that is covered
+-- a call never changes a byte that is covered
 pub covered-stays : (w c d : List ℕ) (i : ℕ) → covered w (countOf w) i ≡ true → getD (taken w c d .bytes) i 0 ≡ getD d i 0
 covered-stays w c d i e =
     by-taken w c d (λ (o : Outcome). getD (o .bytes) i 0 ≡ getD d i 0) (λ a u. refl) (λ a n u. refl)
     (λ h k. ap (λ (l : List ℕ). getD l i 0) (finished-bytes (wordsHeld w h) (bytesHeld w c d h))
-    ∙ written-covered w (countOf w) (h .«fragment_offset») (bodyAt c (placeOf w) h) d (h .«fragment_length») i e)
+    ∙ put-covered w c d h (k .room) (k .read) (k .fit) (k .agreed) i e)
 
 -- nor is the buffer's length changed
 pub length-stays : (w c d : List ℕ) → length (taken w c d .bytes) ≡ length d
 length-stays w c d =
     by-taken w c d (λ (o : Outcome). length (o .bytes) ≡ length d) (λ a u. refl) (λ a n u. refl)
-    (λ h k. ap length (finished-bytes (wordsHeld w h) (bytesHeld w c d h))
-    ∙ length-written w (countOf w) (h .«fragment_offset») (bodyAt c (placeOf w) h) d (h .«fragment_length»))
+    (λ h k. ap length (finished-bytes (wordsHeld w h) (bytesHeld w c d h)) ∙ length-put w c d h (k .room) (k .read) (k .fit))
 
 -- "change nothing": what is not taken, refused or the same or another message's, changes neither the buffer nor a word but the place reached
 pub record Aside (w d : List ℕ) (o : Outcome) : Type 0 where
@@ -183,17 +195,24 @@ not-taken w c d =
     (λ a next u f. record { bytes = refl; words = λ j n. getD-set-other w place-at j next 0 n })
     (λ h k f. absurd (false≢true (sym f ∙ finished-takes (wordsHeld w h) (bytesHeld w c d h))))
 
--- the same piece again changes nothing but the place reached, also with 50 held
-pub same-again : (w : List ℕ) (h : Header) (b : List ℕ) (next : ℕ) (d : List ℕ) → isFit w h ≡ true
-    → isSame w (countOf w) (h .«fragment_offset») (h .«fragment_length») ≡ true → offered w h b next d ≡ outcome piece.Same (moved w next) d
-unfolding offered
-same-again w h b next d f s = if-true _ _ f ∙ if-true _ _ s
+-- a piece of the number expected that 24 spares
+module _ (w : List ℕ) (h : Header) (b : List ℕ) (next : ℕ) (d : List ℕ) (fit : isFit w h ≡ true) where
+  -- 28 exactly if type, total or a shared byte differs: the record is over, the buffer and what is held are as they were, also with 50 held
+  pub disagreed : isAgreed w h b d ≡ false → offered w h b next d ≡ outcome piece.Disagrees (ended w) d
+  unfolding offered
+  disagreed e = if-true _ _ fit ∙ if-false _ _ e
 
--- a fifty-first different piece is refused, also if it were the last that is missing
-pub one-too-many : (w : List ℕ) (h : Header) (b : List ℕ) (next : ℕ) (d : List ℕ) → isFit w h ≡ true
-    → isSame w (countOf w) (h .«fragment_offset») (h .«fragment_length») ≡ false → most-pieces ≤ countOf w → offered w h b next d ≡ outcome piece.TooMany (ended w) d
-unfolding offered
-one-too-many w h b next d f s l = if-true _ _ f ∙ if-false _ _ s ∙ if-false _ _ (le-ltb _ _ l)
+  module _ (agreed : isAgreed w h b d ≡ true) where
+    -- the same piece again changes nothing but the place reached, also with 50 held
+    pub same-again : isSame w (countOf w) (h .«fragment_offset») (h .«fragment_length») ≡ true → offered w h b next d ≡ outcome piece.Same (moved w next) d
+    unfolding offered
+    same-again s = if-true _ _ fit ∙ if-true _ _ agreed ∙ if-true _ _ s
+
+    -- a fifty-first different piece is refused, also if it were the last that is missing
+    pub one-too-many : isSame w (countOf w) (h .«fragment_offset») (h .«fragment_length») ≡ false → most-pieces ≤ countOf w
+        → offered w h b next d ≡ outcome piece.TooMany (ended w) d
+    unfolding offered
+    one-too-many s l = if-true _ _ fit ∙ if-true _ _ agreed ∙ if-false _ _ s ∙ if-false _ _ (le-ltb _ _ l)
 
 -- a piece that is held hands the message over exactly when every byte is then covered
 pub handed-whole : (w d : List ℕ) → verdictOf (finished w d .answer) ≡ choose (isWhole w) (verdictOf (piece.Message (typeOf w % 256) (expectedOf w % 65536) (totalOf w))) (verdictOf piece.Held)
@@ -215,6 +234,7 @@ toldLength piece.Setting = 0
 toldLength piece.Reply = 0
 toldLength piece.End = 0
 toldLength piece.Malformed = 0
+toldLength piece.Disagrees = 0
 toldLength piece.TooMany = 0
 toldLength (piece.Passed n) = 0
 toldLength piece.Same = 0
@@ -227,6 +247,7 @@ untaken-length piece.Setting m e = omega arith
 untaken-length piece.Reply m e = omega arith
 untaken-length piece.End m e = omega arith
 untaken-length piece.Malformed m e = omega arith
+untaken-length piece.Disagrees m e = omega arith
 untaken-length piece.TooMany m e = omega arith
 untaken-length (piece.Passed n) m e = omega arith
 untaken-length piece.Same m e = omega arith

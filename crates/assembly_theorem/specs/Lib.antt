@@ -1,4 +1,5 @@
 pub mod Account
+pub mod Agreement
 pub mod Claim
 pub mod Laws
 pub mod Reads

@@ -15,10 +15,11 @@ use Rattle.assembly.specs.Assembly as assembly
 use Rattle.assembly.specs.Assembly.{Outcome, outcome}
 use Rattle.assembly.specs.declared.Piece.the-variants as piece
 use Rattle.assembly_theorem.specs.Account.{longestBody, Fragment, fragmentIn, covers, Account, Verdict, begun, turned, ended, over, other, same, held, whole, readAs, owed, begins, settled, orNone, readsFrom, after}
+use Rattle.assembly_theorem.specs.Agreement.{one-covers}
 use Rattle.assembly_theorem.specs.Claim.{PieceCall, begin·, take·, Told, Given, Wrote, Out, Piecing, newPiecing, verdictOf, logged, takes, does, FairPiece, isTaken, WroteOnly, Log, none as no-message, Came, Assembled, ran, AllFair, EveryRun}
 use Rattle.assembly_theorem.specs.Laws.{is-sound}
 use Rattle.assembly_theorem.specs.Reads.{empty}
-use Rattle.assembly_theorem.specs.Story.{Stands, bare, begun-stands, long-step}
+use Rattle.assembly_theorem.specs.Story.{Stands, bare, held-still, begun-stands, long-step}
 
 -- the claim, and the words stand for the account
 pub record Story (p : Piecing) : Type 0 where
@@ -136,7 +137,7 @@ module _ (p : Piecing) (c d : List ℕ) (s : Story p) where
         head = st .head;
         size = st .size;
         place = st .place;
-        bytes = λ i e. fair room i e ∙ st .bytes i e;
+        each = λ f m. held-still refl refl (λ i e. fair room i (one-covers (a .pieces) f i m e)) (st .each f m);
       }
       in
       let k = long-step t (s .holds .log) (s .holds .count) c room in
@@ -189,7 +190,6 @@ does-story p (begin· n) fair s =
 does-story p (take· c d) fair s = ⊎-elim (λ l. short-story p c d s l) (λ l. long-story p c d s l fair) (lt-or-ge (length d) longestBody)
 
 pub new-story : Story newPiecing
-unfolding covers
 new-story = record {
   stands = record {
     long = refl;
@@ -199,7 +199,7 @@ new-story = record {
     head = bare;
     size = refl;
     place = refl;
-    bytes = λ i e. absurd (false≢true e);
+    each = λ f m. absurd (elim m [ ]);
   };
   holds = record {
     answers = λ a m. absurd (elim m [ ]);

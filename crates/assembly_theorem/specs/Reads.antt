@@ -1,15 +1,17 @@
 -- The program's reading of a piece, of spans and of covered bytes is the account's. Assumes nothing.
-use mathlib.Core.List.{List, [], _∷_}
+use mathlib.Core.Bool.{true, false≢true}
+use mathlib.Core.List.{List, [], _∷_, List·Memᴰ as Mem, List·Memᴰ·head as here, List·Memᴰ·tail as there}
 use mathlib.Core.Logic.{⊎-elim}
 use mathlib.Core.Option.{Option, none, some}
 use mathlib.Core.Path.{_≡_, refl, sym, ap, _∙_}
-use Prim.Native.Nat.{ℕ, zero, suc, _+_, _-_, _%_, _<_}
+use Prim.Native.Nat.{ℕ, suc, _+_, _-_, _%_, _<_}
 use native.Mathlib.Omega.{arith}
-use borrow.Author.Tests.{lt-ltb, le-ltb, le-leb, lt-leb}
-use lib.Dec.{leb, ltb}
+use borrow.Author.Tests.{lt-ltb, le-ltb, le-leb, lt-leb, eqb-true, eq-eqb}
+use lib.Dec.{leb, ltb, eqb}
 use lib.ListN.{length, getD, drop, length-drop}
 use Rattle.base.specs.Bytes.{beAt}
-use Rattle.base.specs.Choose.{both, if-true, if-false, test-cases, lt-or-ge, both-true, both-false}
+use Rattle.base.specs.Choose.{both, if-true, if-false, test-cases, lt-or-ge, both-true, both-false, both-left, both-right, either-true, either-false}
+use Rattle.base.specs.Every.{every}
 use Rattle.base.specs.Parts.{part-behind}
 use Rattle.handshake.specs.Header.{headerAt, parseHeader}
 use Rattle.handshake.specs.declared.Header.{Header}
@@ -17,7 +19,8 @@ use Rattle.handshake.specs.declared.ParsedHeader.{ParsedHeader}
 use Rattle.handshake.specs.declared.ParsedHeader.the-variants as parsed
 use Rattle.assembly.specs.Spans.{startOf, spanOf, within, covered, allCovered, isSame}
 use Rattle.assembly.specs.Assembly.{measured, pieceAt, bodyAt}
-use Rattle.assembly_theorem.specs.Account.{headBytes, Fragment, fragmentIn, has, covers, coversAll, isAmong}
+use Rattle.history_theorem.specs.Lists.{mem-by, either-cases}
+use Rattle.assembly_theorem.specs.Account.{headBytes, Fragment, fragmentIn, has, covers, coversAll}
 
 -- ---- a piece read
 
@@ -88,17 +91,28 @@ kept-covers {w} (next {n} {f} {fs} a b k) i = rw (a, b, within-has f i, kept-cov
 
 pub kept-all : {w : List ℕ} {n : ℕ} {fs : List Fragment} → Kept w n fs → (t : ℕ) → allCovered w n t ≡ coversAll fs t
 unfolding allCovered coversAll
-kept-all k zero = refl
-kept-all k (suc t) = rw (kept-covers k t, kept-all k t)
+kept-all k t = λ j. every (λ (i : ℕ). kept-covers k i j) t
 
 pub kept-count : {w : List ℕ} {n : ℕ} {fs : List Fragment} → Kept w n fs → n ≡ length fs
 kept-count empty = refl
 kept-count (next a b k) = ap suc (kept-count k)
 
-pub kept-same : {w : List ℕ} {n : ℕ} {fs : List Fragment} → Kept w n fs → (f : Fragment) → isSame w n (f .offset) (length (f .body)) ≡ isAmong f fs
-unfolding isSame isAmong
-kept-same empty f = refl
-kept-same (next a b k) f = rw (a, b, kept-same k f)
+-- a span held is that of a piece taken, and the other way round
+pub kept-found : {w : List ℕ} {n : ℕ} {fs : List Fragment} → Kept w n fs → (o l : ℕ) → isSame w n o l ≡ true
+    → (g : Fragment) × Mem g fs × (g .offset ≡ o) × (length (g .body) ≡ l)
+unfolding isSame
+kept-found empty o l e = absurd (false≢true e)
+kept-found {w} (next {n} {f} a b k) o l e =
+    either-cases _ _ e (λ t. (f, here refl, sym a ∙ eqb-true _ _ (both-left _ _ t), sym b ∙ eqb-true _ _ (both-right (eqb (startOf w n) o) _ t)))
+    (λ t u. let h = kept-found k o l u in (h .0, there (h .1), h .2, h .3))
+
+pub kept-has : {w : List ℕ} {n : ℕ} {fs : List Fragment} → Kept w n fs → (g : Fragment) → Mem g fs → isSame w n (g .offset) (length (g .body)) ≡ true
+unfolding isSame
+kept-has empty g m = absurd (elim m [ ])
+kept-has (next {n} {f} a b k) g m =
+    mem-by m
+    (λ (p : g ≡ f). either-true _ (both-true (eq-eqb _ _ (a ∙ ap (λ (x : Fragment). x .offset) (sym p))) ∙ eq-eqb _ _ (b ∙ ap (λ (x : Fragment). length (x .body)) (sym p))))
+    (λ o. test-cases _ (λ t. either-true _ t) (λ t. either-false t ∙ kept-has k g o))
 
 -- spans that are written nowhere stay the account's
 pub kept-still : {w v : List ℕ} {n : ℕ} {fs : List Fragment} → ((k : ℕ) → k < n → startOf v k ≡ startOf w k) → ((k : ℕ) → k < n → spanOf v k ≡ spanOf w k) → Kept w n fs → Kept v n fs

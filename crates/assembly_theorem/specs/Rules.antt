@@ -11,8 +11,10 @@ use borrow.Author.Tests.{ltb-true, ltb-false, leb-true, leb-false, eqb-true, eqb
 use lib.Dec.{leb, ltb, eqb}
 use lib.ListN.{length, take, drop, replicate, length-replicate, length-take}
 use Rattle.base.specs.Choose.{choose, both, by-test, by-less, if-true, if-false, test-cases, eq-or-ne, lt-or-ge, both-true, both-left, both-right, either-true, either-false}
-use Rattle.history_theorem.specs.Lists.{mem-by, either-cases}
-use Rattle.assembly_theorem.specs.Account.{mostTaken, longestBody, lastNumber, Fragment, fragmentIn, endOf, covers, coversAll, oldest, isAmong, Account, Verdict, begun, turned, ended, over, other, same, held, whole, isFit, takenAs, judged, readAs, owed, ends, settled, orNone, readsFrom, after}
+use Rattle.base.specs.Every.{every-each, each-every, one-fails}
+use Rattle.history_theorem.specs.Lists.{mem-by}
+use Rattle.assembly_theorem.specs.Account.{mostTaken, longestBody, lastNumber, Fragment, fragmentIn, endOf, has, byteIn, covers, coversAll, oldest, isAmong, sharesAll, Account, Verdict, begun, turned, ended, over, other, same, held, whole, isFit, isAgreed, takenAs, judged, readAs, owed, ends, settled, orNone, readsFrom, after}
+use Rattle.assembly_theorem.specs.Agreement.{Same, same-one, one-same, Among, among, is-among, Shares, shares-each, one-differs, oldest-in}
 use Rattle.assembly_theorem.specs.Claim.{PieceCall, begin·, take·, Out, Piecing, newPiecing, logged, does, FairPiece, Log, none as no-message, more, ran, AllFair}
 use Rattle.assembly_theorem.specs.Laws.{length-stays}
 use Rattle.assembly_theorem.specs.Reads.{kept-count}
@@ -46,13 +48,20 @@ pub record Good (a : Account) (c : List ℕ) (n : ℕ) (f : Fragment) : Type 0 w
   pub expected : f .number ≡ a .out
   pub not-bad : Bad a (some f) → ⊥
 
--- "the same when message number, offset and length agree": all taken have the expected number (every-within)
-abbrev pub Among : Fragment → List Fragment → Type 0
-Among f fs = (g : Fragment) × Mem g fs × (g .offset ≡ f .offset) × (length (g .body) ≡ length (f .body))
+-- 28: "Every piece must have the held type and total, and where pieces overlap, shared bytes must be equal"
+pub data Clash (a : Account) (f : Fragment) : Type 0 where
+  other-kind : {g : Fragment} {gs : List Fragment} → a .pieces ≡ g ∷ gs → (oldest g gs .kind ≡ f .kind → ⊥) → Clash a f
+  other-total : {g : Fragment} {gs : List Fragment} → a .pieces ≡ g ∷ gs → (oldest g gs .total ≡ f .total → ⊥) → Clash a f
+  other-byte : {g : Fragment} → Mem g (a .pieces) → (i : ℕ) → has f i ≡ true → has g i ≡ true → (byteIn f i ≡ byteIn g i → ⊥) → Clash a f
+
+-- and it agrees with those taken
+pub record Agreeing (a : Account) (c : List ℕ) (n : ℕ) (f : Fragment) : Type 0 where
+  pub good : Good a c n f
+  pub no-clash : Clash a f → ⊥
 
 -- a different piece, and there is a place for it
 pub record New (a : Account) (c : List ℕ) (n : ℕ) (f : Fragment) : Type 0 where
-  pub good : Good a c n f
+  pub agreeing : Agreeing a c n f
   pub different : Among f (a .pieces) → ⊥
   pub few : length (a .pieces) < mostTaken
 
@@ -77,9 +86,10 @@ When a c n (turned k) =
 When a c n over = (longestBody ≤ n) × (length c ≡ a .size) × (length c ≤ a .place)
 When a c n (ended k) =
     statement (eqb k 24) (Reached a c n × Bad a (standing a c))
-    (statement (eqb k 25) ((f : Fragment) × Good a c n f × (Among f (a .pieces) → ⊥) × (mostTaken ≤ length (a .pieces))) ⊥)
+    (statement (eqb k 28) ((f : Fragment) × Good a c n f × Clash a f)
+    (statement (eqb k 25) ((f : Fragment) × Agreeing a c n f × (Among f (a .pieces) → ⊥) × (mostTaken ≤ length (a .pieces))) ⊥))
 When a c n (other m) = Reached a c n × ((f : Fragment) × (standing a c ≡ some f) × (f .number ≡ m) × (m ≡ a .out → ⊥))
-When a c n same = (f : Fragment) × Good a c n f × Among f (a .pieces)
+When a c n same = (f : Fragment) × Agreeing a c n f × Among f (a .pieces)
 When a c n held = (f : Fragment) × New a c n f × ((i : ℕ) × (i < oldest f (a .pieces) .total) × (covers (f ∷ a .pieces) i ≡ false))
 When a c n (whole k m l) = (f : Fragment) × New a c n f × Completes a f k m l
 
@@ -92,37 +102,18 @@ by-number {P} {Q} {C} k m s f g = by (eqb k m) (eqb-true k m) s
     by true e p = f (e refl) p
     by false e q = g q
 
-among : (f : Fragment) (fs : List Fragment) → isAmong f fs ≡ true → Among f fs
-unfolding isAmong
-among f [] e = absurd (false≢true e)
-among f (g ∷ gs) e =
-    either-cases _ _ e (λ t. (g, here refl, eqb-true _ _ (both-left _ _ t), eqb-true _ _ (both-right (eqb (g .offset) (f .offset)) _ t)))
-    (λ t u. let h = among f gs u in (h .0, there (h .1), h .2, h .3))
+module _ (fs : List Fragment) (n : ℕ) where
+  each-covered : coversAll fs n ≡ true → (i : ℕ) → i < n → covers fs i ≡ true
+  unfolding coversAll
+  each-covered = every-each (covers fs) n
 
-is-among : (f : Fragment) (fs : List Fragment) → Among f fs → isAmong f fs ≡ true
-unfolding isAmong
-is-among f [] h = absurd (elim (h .1) [ ])
-is-among f (g ∷ gs) (x, m, o, l) =
-    mem-by m
-    (λ (p : x ≡ g). either-true _ (both-true (eq-eqb _ _ (ap (λ (y : Fragment). y .offset) (sym p) ∙ o)) ∙ eq-eqb _ _ (ap (λ (y : Fragment). length (y .body)) (sym p) ∙ l)))
-    (λ n. test-cases _ (λ t. either-true _ t) (λ t. either-false t ∙ is-among f gs (x, n, o, l)))
+  all-covered : ((i : ℕ) → i < n → covers fs i ≡ true) → coversAll fs n ≡ true
+  unfolding coversAll
+  all-covered = each-every (covers fs) n
 
-each-covered : (fs : List Fragment) (n : ℕ) → coversAll fs n ≡ true → (i : ℕ) → i < n → covers fs i ≡ true
-unfolding coversAll
-each-covered fs zero e i l = absurd (omega arith)
-each-covered fs (suc n) e i l =
-    ⊎-elim (λ p. ap (covers fs) p ∙ both-left _ _ e) (λ p. each-covered fs n (both-right (covers fs n) _ e) i (omega arith)) (eq-or-ne i n)
-
-all-covered : (fs : List Fragment) (n : ℕ) → ((i : ℕ) → i < n → covers fs i ≡ true) → coversAll fs n ≡ true
-unfolding coversAll
-all-covered fs zero f = refl
-all-covered fs (suc n) f = both-true (f n (omega arith)) ∙ all-covered fs n (λ i l. f i (omega arith))
-
-one-missing : (fs : List Fragment) (n : ℕ) → coversAll fs n ≡ false → (i : ℕ) × (i < n) × (covers fs i ≡ false)
-unfolding coversAll
-one-missing fs zero e = absurd (false≢true (sym e))
-one-missing fs (suc n) e =
-    test-cases (covers fs n) (λ t. let h = one-missing fs n (sym (both-true t) ∙ e) in (h .0, omega (arith, h .1), h .2)) (λ t. (n, omega arith, t))
+  one-missing : coversAll fs n ≡ false → (i : ℕ) × (i < n) × (covers fs i ≡ false)
+  unfolding coversAll
+  one-missing = one-fails (covers fs) n
 
 module _ (a : Account) (f : Fragment) where
   -- the last test: the held total is that of the first piece held
@@ -165,6 +156,44 @@ module _ (a : Account) (f : Fragment) where
     fit-not-bad (past-own e l) = let h = leb-true (endOf f) (f .total) (both-left _ _ fit-ends) in omega arith
     fit-not-bad (past-held e p l) = let h = subst (λ (fs : List Fragment). endOf f ≤ oldest f fs .total) p fit-held in omega arith
 
+  -- 28's test
+  other-kind-from : (gs : List Fragment) → a .pieces ≡ gs → (oldest f gs .kind ≡ f .kind → ⊥) → Clash a f
+  unfolding oldest
+  other-kind-from [] p e = absurd (e refl)
+  other-kind-from (g ∷ gs) p e = other-kind p e
+
+  other-total-from : (gs : List Fragment) → a .pieces ≡ gs → (oldest f gs .total ≡ f .total → ⊥) → Clash a f
+  unfolding oldest
+  other-total-from [] p e = absurd (e refl)
+  other-total-from (g ∷ gs) p e = other-total p e
+
+  unagreed-clash : isAgreed a f ≡ false → Clash a f
+  unfolding isAgreed
+  unagreed-clash =
+      test-cases (eqb (oldest f (a .pieces) .kind) (f .kind))
+      (λ t. test-cases (eqb (oldest f (a .pieces) .total) (f .total))
+      (λ u h. let x = one-differs f (a .pieces) (sym (both-true t ∙ both-true u) ∙ h) in other-byte (x .1) (x .2 .0) (x .2 .1) (x .2 .2) (x .2 .3))
+      (λ u h. other-total-from (a .pieces) refl (eqb-false _ _ u)))
+      (λ t h. other-kind-from (a .pieces) refl (eqb-false _ _ t))
+
+  module _ (agreed : isAgreed a f ≡ true) where
+    agreed-rest : both (eqb (oldest f (a .pieces) .total) (f .total)) (sharesAll f (a .pieces)) ≡ true
+    unfolding isAgreed
+    agreed-rest = both-right (eqb (oldest f (a .pieces) .kind) (f .kind)) _ agreed
+
+    agreed-kind : oldest f (a .pieces) .kind ≡ f .kind
+    unfolding isAgreed
+    agreed-kind = eqb-true _ _ (both-left _ _ agreed)
+
+    agreed-total : oldest f (a .pieces) .total ≡ f .total
+    agreed-total = eqb-true _ _ (both-left _ _ agreed-rest)
+
+    agreed-no-clash : Clash a f → ⊥
+    unfolding oldest
+    agreed-no-clash (other-kind p e) = e (subst (λ (fs : List Fragment). oldest f fs .kind ≡ f .kind) p agreed-kind)
+    agreed-no-clash (other-total p e) = e (subst (λ (fs : List Fragment). oldest f fs .total ≡ f .total) p agreed-total)
+    agreed-no-clash (other-byte {g} m i p q e) = e (shares-each f (a .pieces) (both-right (eqb (oldest f (a .pieces) .total) (f .total)) _ agreed-rest) g m i p q)
+
 bad-number : {a : Account} {f : Fragment} → Bad a (some f) → f .number ≡ a .out
 bad-number (last-expected e l) = e
 bad-number (total-over e l) = e
@@ -184,14 +213,17 @@ module _ (a : Account) (c : List ℕ) (n : ℕ) where
     when-judged =
         by-test P
         (λ fit. let g : Good a c n f = record { reached = r; stands = s; expected = e; not-bad = fit-not-bad a f fit } in
-        by-test P (λ t. (f, g, among f (a .pieces) t))
+        by-test P
+        (λ agreed. let y : Agreeing a c n f = record { good = g; no-clash = agreed-no-clash a f agreed } in
+        by-test P (λ t. (f, y, among f (a .pieces) t))
         (λ t. let d : (Among f (a .pieces) → ⊥) = λ h. false≢true (sym t ∙ is-among f (a .pieces) h) in
         by-less P (length (a .pieces)) mostTaken
-        (λ l. let w : New a c n f = record { good = g; different = d; few = l } in
+        (λ l. let w : New a c n f = record { agreeing = y; different = d; few = l } in
         by-test P
         (λ u. (f, w, record { every-byte = each-covered (f ∷ a .pieces) _ u; kind-first = refl; number-expected = refl; size-first = refl }))
         (λ u. (f, w, one-missing (f ∷ a .pieces) _ u)))
-        (λ l. (f, g, d, l))))
+        (λ l. (f, y, d, l))))
+        (λ t. (f, g, unagreed-clash a f t)))
         (λ fit. (r, subst (Bad a) (sym s) (unfit-bad a f e fit)))
 
   when-read : Reached a c n → (q : Option Fragment) → standing a c ≡ q → P (readAs a q)
@@ -219,17 +251,27 @@ module _ (a : Account) (c : List ℕ) (n : ℕ) where
   is-judged r f s e = is-read r ∙ ap (readAs a) s ∙ if-true _ _ (eq-eqb _ _ e)
 
   module _ {f : Fragment} (g : Good a c n f) where
-    is-good : owed a c n ≡ choose (isAmong f (a .pieces)) same (choose (ltb (length (a .pieces)) mostTaken) (takenAs a f) (ended 25))
+    abbrev spared : Verdict
+    spared = choose (isAmong f (a .pieces)) same (choose (ltb (length (a .pieces)) mostTaken) (takenAs a f) (ended 25))
+
+    is-good : owed a c n ≡ choose (isAgreed a f) spared (ended 28)
     unfolding judged
     is-good =
         is-judged (g .reached) f (g .stands) (g .expected)
         ∙ if-true _ _ (test-cases (isFit a f) (λ t. t) (λ t. absurd (g .not-bad (unfit-bad a f (g .expected) t))))
 
+    is-clash : Clash a f → owed a c n ≡ ended 28
+    is-clash k = is-good ∙ if-false _ _ (test-cases (isAgreed a f) (λ t. absurd (agreed-no-clash a f t k)) (λ t. t))
+
+  module _ {f : Fragment} (y : Agreeing a c n f) where
+    is-agreeing : owed a c n ≡ choose (isAmong f (a .pieces)) same (choose (ltb (length (a .pieces)) mostTaken) (takenAs a f) (ended 25))
+    is-agreeing = is-good (y .good) ∙ if-true _ _ (test-cases (isAgreed a f) (λ t. t) (λ t. absurd (y .no-clash (unagreed-clash a f t))))
+
     is-different : (Among f (a .pieces) → ⊥) → owed a c n ≡ choose (ltb (length (a .pieces)) mostTaken) (takenAs a f) (ended 25)
-    is-different d = is-good ∙ if-false _ _ (test-cases _ (λ t. absurd (d (among f (a .pieces) t))) (λ t. t))
+    is-different d = is-agreeing ∙ if-false _ _ (test-cases _ (λ t. absurd (d (among f (a .pieces) t))) (λ t. t))
 
   is-new : {f : Fragment} → New a c n f → owed a c n ≡ takenAs a f
-  is-new w = is-different (w .good) (w .different) ∙ if-true _ _ (lt-ltb _ _ (w .few))
+  is-new w = is-different (w .agreeing) (w .different) ∙ if-true _ _ (lt-ltb _ _ (w .few))
 
   is-bad : Reached a c n → (q : Option Fragment) → standing a c ≡ q → Bad a q → owed a c n ≡ ended 24
   unfolding readAs judged
@@ -246,10 +288,11 @@ module _ (a : Account) (c : List ℕ) (n : ℕ) where
   is-owed over (room, e, l) = if-false _ _ (le-ltb _ _ room) ∙ if-true _ _ (eq-eqb _ _ e) ∙ if-false _ _ (le-ltb _ _ l)
   is-owed (ended k) w =
       by-number k 24 w (λ e h. rw e (is-bad (h .0) (standing a c) refl (h .1)))
-      (λ w. by-number k 25 w (λ e h. rw e (is-different (h .1) (h .2) ∙ if-false _ _ (le-ltb _ _ (h .3)))) (λ z. absurd z))
+      (λ w. by-number k 28 w (λ e h. rw e (is-clash (h .1) (h .2)))
+      (λ w. by-number k 25 w (λ e h. rw e (is-different (h .1) (h .2) ∙ if-false _ _ (le-ltb _ _ (h .3)))) (λ z. absurd z)))
   is-owed (other m) (r, h) =
       is-read r ∙ ap (readAs a) (h .1) ∙ if-false _ _ (ne-eqb _ _ (λ e. h .3 (sym (h .2) ∙ e))) ∙ ap other (h .2)
-  is-owed same (f, g, h) = is-good g ∙ if-true _ _ (is-among f (a .pieces) h)
+  is-owed same (f, y, h) = is-agreeing y ∙ if-true _ _ (is-among f (a .pieces) h)
   is-owed held (f, w, h) =
       is-new w ∙ if-false _ _ (test-cases _ (λ t. absurd (false≢true (sym (h .2) ∙ each-covered (f ∷ a .pieces) _ t (h .0) (h .1)))) (λ t. t))
   is-owed (whole k m l) (f, w, h) =
@@ -284,12 +327,16 @@ module _ (a : Account) (c : List ℕ) (n : ℕ) where
   pub other-rule : (m : ℕ) → (owed a c n ≡ other m) ↔ (Reached a c n × ((f : Fragment) × (standing a c ≡ some f) × (f .number ≡ m) × (m ≡ a .out → ⊥)))
   other-rule m = rule (other m)
 
+  -- 28, "after 24 and before 25", exactly if type, total or a shared byte differs
+  pub disagrees-rule : (owed a c n ≡ ended 28) ↔ ((f : Fragment) × Good a c n f × Clash a f)
+  disagrees-rule = rule (ended 28)
+
   -- the same as one taken, also where 50 are
-  pub same-rule : (owed a c n ≡ same) ↔ ((f : Fragment) × Good a c n f × Among f (a .pieces))
+  pub same-rule : (owed a c n ≡ same) ↔ ((f : Fragment) × Agreeing a c n f × Among f (a .pieces))
   same-rule = rule same
 
   -- 25, "for a fifty-first different piece"
-  pub too-many-rule : (owed a c n ≡ ended 25) ↔ ((f : Fragment) × Good a c n f × (Among f (a .pieces) → ⊥) × (mostTaken ≤ length (a .pieces)))
+  pub too-many-rule : (owed a c n ≡ ended 25) ↔ ((f : Fragment) × Agreeing a c n f × (Among f (a .pieces) → ⊥) × (mostTaken ≤ length (a .pieces)))
   too-many-rule = rule (ended 25)
 
   -- held: a byte of the message is missing still
@@ -322,11 +369,12 @@ module _ (a : Account) (c : List ℕ) (n : ℕ) where
   pub turned-stays : (k : ℕ) → owed a c n ≡ turned k → after a c n ≡ a
   turned-stays k e = ap (λ (v : Verdict). settled a v (readsFrom a c)) e
 
-  -- 24 and 25: "ends the record", "with the earlier pieces kept"
+  -- 24, 28 and 25: "ends the record", "with the earlier pieces kept", "the message so far is kept"
   pub ended-keeps : (k : ℕ) → owed a c n ≡ ended k → (after a c n .pieces ≡ a .pieces) × (after a c n .out ≡ a .out) × (owed (after a c n) c n ≡ over)
   ended-keeps k e =
       let z : after a c n ≡ ends a = ap (λ (v : Verdict). settled a v (readsFrom a c)) e in
-      let r : Reached a c n = by-number k 24 (rule a c n (ended k) .0 e) (λ q h. h .0) (λ w. by-number k 25 w (λ q h. h .1 .reached) (λ x. absurd x)) in
+      let r : Reached a c n = by-number k 24 (rule a c n (ended k) .0 e) (λ q h. h .0)
+      (λ w. by-number k 28 w (λ q h. h .1 .reached) (λ w. by-number k 25 w (λ q h. h .1 .good .reached) (λ x. absurd x))) in
       (ap (λ (b : Account). b .pieces) z, ap (λ (b : Account). b .out) z, ap (λ (b : Account). owed b c n) z ∙ over-rule (ends a) c n .1 (r .room, r .length-begun, omega (arith, r .length-begun)))
 
 -- ---- the messages in order
@@ -378,25 +426,27 @@ pub record MessageWithin (m : Out) : Type 0 where
   pub few : length (m .last ∷ m .earlier) ≤ mostTaken
   pub short : length (m .body) ≤ longestBody
 
--- the expected number is never beyond 65,535, which is then the one that 24 means
+-- two pieces of one message: type, total, and every byte that both have
+pub record Agree (f g : Fragment) : Type 0 where
+  pub kind : f .kind ≡ g .kind
+  pub total : f .total ≡ g .total
+  pub bytes : Shares f g
+
+-- the expected number is never beyond 65,535, which is then the one that 24 means; any two pieces taken of the message agree (02, 7)
 pub record Within (p : Piecing) : Type 0 where
+  pub agree : (f g : Fragment) → Mem f (p .account .pieces) → Mem g (p .account .pieces) → Agree f g
   pub expected : p .account .out ≤ lastNumber
   pub pieces : Pieces (p .account .out) (p .account .pieces)
   pub few : length (p .account .pieces) ≤ mostTaken
   pub messages : (m : Out) → Mem m (p .messages) → MessageWithin m
 
-oldest-in : (f : Fragment) (fs : List Fragment) → Mem (oldest f fs) (f ∷ fs)
-unfolding oldest
-oldest-in f [] = here refl
-oldest-in f (g ∷ gs) = there (oldest-in g gs)
-
 module _ (a : Account) (c : List ℕ) (n : ℕ) where
   one-more : {f : Fragment} → New a c n f → Pieces (a .out) (a .pieces) → Pieces (a .out) (readsFrom a c ∷ a .pieces)
   one-more {f} w old g m =
-      let b = w .good .not-bad in
-      let e = w .good .expected in
+      let b = w .agreeing .good .not-bad in
+      let e = w .agreeing .good .expected in
       mem-by m
-      (λ (p : g ≡ readsFrom a c). subst (Fits (a .out)) (sym (p ∙ ap orNone (w .good .stands))) (
+      (λ (p : g ≡ readsFrom a c). subst (Fits (a .out)) (sym (p ∙ ap orNone (w .agreeing .good .stands))) (
         e,
         ⊎-elim (λ l. absurd (b (total-over e l))) (λ l. l) (lt-or-ge longestBody (f .total)),
         ⊎-elim (λ l. absurd (b (past-own e l))) (λ l. l) (lt-or-ge (f .total) (endOf f)),
@@ -417,7 +467,7 @@ module _ (a : Account) (c : List ℕ) (n : ℕ) where
       → (d : List ℕ) → MessageWithin (record { kind = k; number = m; body = take l d; last = readsFrom a c; earlier = a .pieces })
   is-within {f} {k} {m} {l} w h old d =
       let q = one-more w old _ (oldest-in (readsFrom a c) (a .pieces)) .1 in
-      let e : l ≡ oldest (readsFrom a c) (a .pieces) .total = rw (w .good .stands) (h .size-first) in
+      let e : l ≡ oldest (readsFrom a c) (a .pieces) .total = rw (w .agreeing .good .stands) (h .size-first) in
       record { pieces = rw (h .number-expected) (one-more w old); few = omega (arith, w .few); short = omega (arith, length-take l d) }
 
   messages-within : (v : Verdict) → owed a c n ≡ v → Pieces (a .out) (a .pieces) → (d : List ℕ) (ms : List Out) → ((m : Out) → Mem m ms → MessageWithin m)
@@ -438,7 +488,16 @@ within-from : (p : Piecing) → Story p → Pieces (p .account .out) (p .account
 within-from p s pieces messages =
     let e = s .stands .expected in
     let k = kept-count (s .stands .kept) in
-    record { expected = omega (arith, s .stands .sound .expected); pieces = pieces; few = omega (arith, s .stands .sound .count); messages = messages }
+    record {
+      agree = λ f g m n.
+          let x = s .stands .each f m in
+          let y = s .stands .each g n in
+          record { kind = x .kind ∙ sym (y .kind); total = x .total ∙ sym (y .total); bytes = λ i h j. sym (x .bytes i h) ∙ y .bytes i j };
+      expected = omega (arith, s .stands .sound .expected);
+      pieces = pieces;
+      few = omega (arith, s .stands .sound .count);
+      messages = messages;
+    }
 
 pub does-within : (p : Piecing) (x : PieceCall) → Story p → Story (does p x) → Within p → Within (does p x)
 does-within p (begin· n) s t i = within-from (does p (begin· n)) t (i .pieces) (i .messages)
@@ -451,6 +510,27 @@ new-within = within-from newPiecing new-story (λ f m. absurd (elim m [ ])) (λ 
 
 pub every-within : (cs : List PieceCall) → AllFair newPiecing cs → Within (ran newPiecing cs)
 every-within cs fair = ran-keeps Within does-within newPiecing cs fair new-story new-within
+
+-- ---- the same, exactly
+
+-- a piece that is one of those taken agrees with all of them
+module _ (p : Piecing) (w : Within p) (f : Fragment) (m : Mem f (p .account .pieces)) where
+  abbrev fs : List Fragment
+  fs = p .account .pieces
+
+  among-no-clash : Clash (p .account) f → ⊥
+  among-no-clash (other-kind {g} {gs} e n) = n (w .agree (oldest g gs) f (subst (Mem (oldest g gs)) (sym e) (oldest-in g gs)) m .kind)
+  among-no-clash (other-total {g} {gs} e n) = n (w .agree (oldest g gs) f (subst (Mem (oldest g gs)) (sym e) (oldest-in g gs)) m .total)
+  among-no-clash (other-byte {g} i j h k n) = n (w .agree f g m i .bytes j h k)
+
+-- "two pieces count as the same exactly when message number, type, total length, offset, length and every byte agree": of what any list of calls has
+-- taken, same is told of a piece that 24 spares exactly if one taken agrees with it in all of these
+pub same-exactly : (p : Piecing) → Within p → (c : List ℕ) (n : ℕ)
+    → (owed (p .account) c n ≡ same) ↔ ((f : Fragment) × Good (p .account) c n f × Among f (p .account .pieces))
+same-exactly p w c n = (
+  λ e. let h = same-rule (p .account) c n .0 e in (h .0, h .1 .good, h .2),
+  λ (f, g, (x, m, s)). same-rule (p .account) c n .1 (f, record { good = g; no-clash = among-no-clash p w f (subst (λ (y : Fragment). Mem y (p .account .pieces)) (same-one f x s) m) }, (x, m, s)),
+)
 
 -- ---- a host can go on
 

@@ -1,6 +1,6 @@
 -- The words stand for the account, call after call: each answer is the one owed, and the buffer is written as the claim says. Assumes nothing.
 use mathlib.Core.Bool.{Bool, true, false, false≢true}
-use mathlib.Core.List.{List, [], _∷_}
+use mathlib.Core.List.{List, [], _∷_, List·Memᴰ as Mem, List·Memᴰ·head as here}
 use mathlib.Core.Logic.{⊎-elim}
 use mathlib.Core.Option.{Option, none, some}
 use mathlib.Core.Path.{_≡_, refl, sym, ap, subst, _∙_}
@@ -12,22 +12,22 @@ use borrow.Author.Tests.{ltb-true, eqb-true, le-leb, le-ltb, leb-true, eq-eqb, n
 use lib.Dec.{leb, ltb, eqb}
 use lib.ListN.{length, getD, set, take, drop, length-set}
 use lib.Seq.{getD-set-same, getD-set-other, getD-take, length-take-le}
-use Rattle.base.specs.Choose.{choose, both, either, if-true, if-false, test-cases, eq-or-ne, both-true, both-false, either-true, either-false}
+use Rattle.base.specs.Choose.{choose, both, either, if-true, if-false, test-cases, both-left, both-right, both-true, both-false, either-true, either-false}
 use Rattle.base.specs.Parts.{length-part}
 use Rattle.handshake.specs.declared.Header.{Header}
 use Rattle.handshake.specs.declared.ParsedHeader.{ParsedHeader}
 use Rattle.handshake.specs.declared.ParsedHeader.the-variants as parsed
 use Rattle.assembly.specs.declared.Piece.the-variants as piece
-use Rattle.assembly.specs.Spans.{most-bytes, most-pieces, last-number, words, expected-at, count-at, type-at, total-at, size-at, place-at, offset-at, length-at, expectedOf, countOf, typeOf, totalOf, sizeOf, placeOf, within, isWhole, isSame}
-use Rattle.assembly.specs.Assembly.{Outcome, outcome, begun, moved, ended, held, handed, pieceAt, bodyAt, nextAt, isFit, finished, offered, readAt, taken, fit-number, fit-total, fit-end}
-use Rattle.assembly.specs.Covering.{length-written}
+use Rattle.assembly.specs.Spans.{most-bytes, most-pieces, last-number, words, expected-at, count-at, type-at, total-at, size-at, place-at, offset-at, length-at, expectedOf, countOf, typeOf, totalOf, sizeOf, placeOf, within, covered, isWhole, isSame, allShared}
+use Rattle.assembly.specs.Assembly.{Outcome, outcome, begun, moved, ended, held, handed, pieceAt, bodyAt, nextAt, isFit, isAlike, isAgreed, finished, offered, readAt, taken, fit-number, fit-end}
 use Rattle.assembly.specs.Words.{held-expected, held-size, held-place, length-held, held-count, held-start, held-span, last-start, last-span, first-type, first-total, later-type, later-total}
-use Rattle.history_theorem.specs.Lists.{by-both, either-cases}
+use Rattle.history_theorem.specs.Lists.{by-both, mem-by}
 use Rattle.assembly_theorem.specs.Account as account
-use Rattle.assembly_theorem.specs.Account.{headBytes, Fragment, fragmentIn, has, covers, coversAll, byteOf, oldest, isAmong, Account, Verdict, turned, over, other, same, whole, takenAs, judged, readAs, owed, passes, ends, holds, hands, settled, orNone, readsFrom}
-use Rattle.assembly_theorem.specs.Claim.{verdictOf, logged, isTaken, WroteOnly, Out, Right, Log, more}
-use Rattle.assembly_theorem.specs.Laws.{Sound, is-sound, held-total, wordsHeld, bytesHeld, piece-inside, written-covered, written-beside, written-here, whole-each}
-use Rattle.assembly_theorem.specs.Reads.{fragmentOf, asFragment, reads-same, within-has, Kept, empty, next, kept-covers, kept-all, kept-count, kept-same, kept-still}
+use Rattle.assembly_theorem.specs.Account.{headBytes, Fragment, fragmentIn, endOf, has, byteIn, covers, coversAll, byteOf, oldest, isAmong, sharesAll, Account, Verdict, turned, over, other, same, whole, takenAs, judged, readAs, owed, passes, ends, holds, hands, settled, orNone, readsFrom}
+use Rattle.assembly_theorem.specs.Agreement.{alike, same-is, Same, is-same, among, is-among, has-from, has-to, is-has, covers-one, one-covers, byte-first, Shares, shares-each, each-shares}
+use Rattle.assembly_theorem.specs.Claim.{verdictOf, logged, isTaken, WroteOnly, Out, Agrees, Right, Log, more}
+use Rattle.assembly_theorem.specs.Laws.{Sound, is-sound, held-total, wordsHeld, bytesHeld, piece-inside, shared-each, each-shared, length-put, put-here, put-beside, put-covered, whole-each}
+use Rattle.assembly_theorem.specs.Reads.{fragmentOf, asFragment, reads-same, within-has, Kept, empty, next, kept-covers, kept-all, kept-count, kept-found, kept-has, kept-still}
 
 -- ---- the words stand for the account
 
@@ -35,6 +35,14 @@ use Rattle.assembly_theorem.specs.Reads.{fragmentOf, asFragment, reads-s
 pub data Headed (w : List ℕ) : List Fragment → Type 0 where
   bare : Headed w []
   by : {f : Fragment} {fs : List Fragment} → typeOf w % 256 ≡ oldest f fs .kind → totalOf w ≡ oldest f fs .total → Headed w (f ∷ fs)
+
+-- a piece taken of message k: it has that number, the words' type and total, and the buffer has its bytes
+pub record Held (w d : List ℕ) (k : ℕ) (f : Fragment) : Type 0 where
+  pub number : f .number ≡ k
+  pub kind : f .kind ≡ typeOf w % 256
+  pub total : f .total ≡ totalOf w
+  pub inside : endOf f ≤ totalOf w
+  pub bytes : (i : ℕ) → has f i ≡ true → getD d i 0 ≡ byteIn f i
 
 pub record Stands (w d : List ℕ) (a : Account) : Type 0 where
   pub long : length w ≡ words
@@ -44,11 +52,22 @@ pub record Stands (w d : List ℕ) (a : Account) : Type 0 where
   pub head : Headed w (a .pieces)
   pub size : sizeOf w ≡ a .size
   pub place : placeOf w ≡ a .place
-  pub bytes : (i : ℕ) → covers (a .pieces) i ≡ true → getD d i 0 ≡ byteOf (a .pieces) i
+  pub each : (f : Fragment) → Mem f (a .pieces) → Held w d (a .out) f
 
 headed-still : {w v : List ℕ} {fs : List Fragment} → typeOf v ≡ typeOf w → totalOf v ≡ totalOf w → Headed w fs → Headed v fs
 headed-still e f bare = bare
 headed-still e f (by a b) = by (ap (λ (n : ℕ). n % 256) e ∙ a) (f ∙ b)
+
+-- a piece is held as before by words and bytes that have changed elsewhere
+module _ {w v d x : List ℕ} {k : ℕ} {f : Fragment} where
+  pub held-still : typeOf v ≡ typeOf w → totalOf v ≡ totalOf w → ((i : ℕ) → has f i ≡ true → getD x i 0 ≡ getD d i 0) → Held w d k f → Held v x k f
+  held-still e t stay p = record {
+    number = p .number;
+    kind = p .kind ∙ ap (λ (n : ℕ). n % 256) (sym e);
+    total = p .total ∙ sym t;
+    inside = subst (λ (n : ℕ). endOf f ≤ n) (sym t) (p .inside);
+    bytes = λ i h. stay i h ∙ p .bytes i h;
+  }
 
 -- words of which only those of the record have changed
 module _ {w v d : List ℕ} {a : Account} (s : Stands w d a) (l : length v ≡ length w) (f : (j : ℕ) → (j ≡ size-at → ⊥) → (j ≡ place-at → ⊥) → getD v j 0 ≡ getD w j 0) where
@@ -68,7 +87,8 @@ module _ {w v d : List ℕ} {a : Account} (s : Stands w d a) (l : length v ≡ l
     head = headed-still (f type-at (λ e. omega arith) (λ e. omega arith)) (f total-at (λ e. omega arith) (λ e. omega arith)) (s .head);
     size = ez;
     place = ep;
-    bytes = s .bytes;
+    each = λ g m.
+        held-still (f type-at (λ e. omega arith) (λ e. omega arith)) (f total-at (λ e. omega arith) (λ e. omega arith)) (λ i h. refl) (s .each g m);
   }
 
 -- a record begun, and another place of it
@@ -113,12 +133,15 @@ module _ {w d : List ℕ} {a : Account} {ms : List Out} (s : Stands w d a) (log 
     unchanged-reply : P (outcome piece.Reply w d) (turned 15)
     unchanged-reply = record { reply = refl; stands = s; wrote = spared f (a .pieces) (turned 15) d refl; log = log; count = out }
 
-    -- 24 and 25
+    -- 24, 28 and 25
     ended-stands : Stands (ended w) d (ends a)
     ended-stands = moved-stands s (sizeOf w) (a .size) (s .size) (omega arith)
 
     is-malformed : P (outcome piece.Malformed (ended w) d) (account.ended 24)
     is-malformed = record { reply = refl; stands = ended-stands; wrote = spared f (a .pieces) (account.ended 24) d refl; log = log; count = out }
+
+    is-other : P (outcome piece.Disagrees (ended w) d) (account.ended 28)
+    is-other = record { reply = refl; stands = ended-stands; wrote = spared f (a .pieces) (account.ended 28) d refl; log = log; count = out }
 
     is-too-many : P (outcome piece.TooMany (ended w) d) (account.ended 25)
     is-too-many = record { reply = refl; stands = ended-stands; wrote = spared f (a .pieces) (account.ended 25) d refl; log = log; count = out }
@@ -150,12 +173,12 @@ module _ {w d : List ℕ} {a : Account} {ms : List Out} (s : Stands w d a) (log 
     is-passed : Q (outcome (piece.Passed (h .«message_seq»)) (moved w (nextAt (placeOf w) h)) d) (other (h .«message_seq»))
     is-passed = record { reply = refl; stands = passed-stands; wrote = spared f (a .pieces) (other (h .«message_seq»)) d refl; log = log; count = out }
 
-    is-same : Q (outcome piece.Same (moved w (nextAt (placeOf w) h)) d) same
-    is-same = record { reply = refl; stands = passed-stands; wrote = spared f (a .pieces) same d refl; log = log; count = out }
+    is-again : Q (outcome piece.Same (moved w (nextAt (placeOf w) h)) d) same
+    is-again = record { reply = refl; stands = passed-stands; wrote = spared f (a .pieces) same d refl; log = log; count = out }
 
     -- ---- and taken
 
-    module _ (fit : isFit w h ≡ true) (few : countOf w < most-pieces) where
+    module _ (number : h .«message_seq» ≡ expectedOf w) (fit : isFit w h ≡ true) (agreed : isAgreed w h b d ≡ true) (few : countOf w < most-pieces) where
       abbrev fs : List Fragment
       fs = a .pieces
 
@@ -175,32 +198,25 @@ module _ {w d : List ℕ} {a : Account} {ms : List Out} (s : Stands w d a) (log 
           (next (last-start w h at (s .long) few) (last-span w h at (s .long) few ∙ sym body-length)
           (kept-still (λ j l. held-start w h at j l (omega (arith, few))) (λ j l. held-span w h at j l few) (s .kept)))
 
-      brought : (i : ℕ) → covers fs i ≡ false → has f i ≡ true → getD x i 0 ≡ getD b (i - h .«fragment_offset») 0
+      brought : (i : ℕ) → has f i ≡ true → getD x i 0 ≡ getD b (i - h .«fragment_offset») 0
       unfolding x f
-      brought i e g =
-          let p = fit-end w h fit in
-          let q = fit-total w h fit in
-          written-here w (countOf w) (h .«fragment_offset») b d (h .«fragment_length») i (omega arith)
-          (ap (λ (m : ℕ). within (h .«fragment_offset») m i) (sym body-length) ∙ within-has (fragmentOf c (placeOf w) h) i ∙ g) (kept-covers (s .kept) i ∙ e)
+      brought i g =
+          put-here w c d h room read fit i
+          (ap (λ (m : ℕ). within (h .«fragment_offset») m i) (sym body-length) ∙ within-has (fragmentOf c (placeOf w) h) i ∙ g)
 
       stayed : (i : ℕ) → covers fs i ≡ true → getD x i 0 ≡ getD d i 0
       unfolding x
-      stayed i e = written-covered w (countOf w) (h .«fragment_offset») b d (h .«fragment_length») i (kept-covers (s .kept) i ∙ e)
+      stayed i e = put-covered w c d h room read fit agreed i (kept-covers (s .kept) i ∙ e)
 
       besides : (i : ℕ) → has f i ≡ false → getD x i 0 ≡ getD d i 0
       unfolding x f
       besides i e =
-          written-beside w (countOf w) (h .«fragment_offset») b d (h .«fragment_length») i
+          put-beside w c d h room read fit i
           (ap (λ (m : ℕ). within (h .«fragment_offset») m i) (sym body-length) ∙ within-has (fragmentOf c (placeOf w) h) i ∙ e)
-
-      bytes-more : (i : ℕ) → covers (f ∷ fs) i ≡ true → getD x i 0 ≡ byteOf (f ∷ fs) i
-      unfolding covers byteOf f
-      bytes-more i e =
-          test-cases (covers fs i) (λ t. stayed i t ∙ s .bytes i t ∙ sym (if-true _ _ t)) (λ t. brought i t (either-cases _ _ e (λ p. p) (λ p q. absurd (false≢true (sym t ∙ q)))) ∙ sym (if-false _ _ t))
 
       length-x : length x ≡ length d
       unfolding x
-      length-x = length-written w (countOf w) (h .«fragment_offset») b d (h .«fragment_length»)
+      length-x = length-put w c d h room read fit
 
       wrote-more : (r : Verdict) → isTaken r ≡ true → WroteOnly (record { piece = f; earlier = fs; verdict = r; before = d; behind = x })
       unfolding f
@@ -208,7 +224,7 @@ module _ {w d : List ℕ} {a : Account} {ms : List Out} (s : Stands w d a) (log 
         long = length-x;
         bytes = λ i. test-cases (has f i)
             (λ t. test-cases (covers fs i) (λ u. stayed i u ∙ sym (if-false _ _ (both-true e ∙ both-true t ∙ if-true _ _ u)))
-            (λ u. brought i u t ∙ sym (if-true _ _ (both-true e ∙ both-true t ∙ if-false _ _ u))))
+            (λ u. brought i t ∙ sym (if-true _ _ (both-true e ∙ both-true t ∙ if-false _ _ u))))
             (λ t. besides i t ∙ sym (if-false _ _ (both-true e ∙ both-false _ t)));
         spared = λ z. absurd (false≢true (sym z ∙ e));
       }
@@ -238,6 +254,38 @@ module _ {w d : List ℕ} {a : Account} {ms : List Out} (s : Stands w d a) (log 
       head-more : Headed v (f ∷ fs)
       head-more = head-from fs (kept-count (s .kept)) (s .head)
 
+      -- the piece has the words' type and total: they are its own, or 28 has compared them
+      alike-head : (gs : List Fragment) → countOf w ≡ length gs → (h .«msg_type» % 256 ≡ typeOf v % 256) × (h .length ≡ totalOf v)
+      unfolding v isAgreed isAlike
+      alike-head [] e = (ap (λ (m : ℕ). m % 256) (sym (first-type w h at (s .long) few e)), sym (first-total w h at (s .long) few e))
+      alike-head (g ∷ gs) e =
+          let z : (countOf w ≡ 0 → ⊥) = λ y. omega arith in
+          let k = sym (either-false (ne-eqb (countOf w) 0 z)) ∙ both-left _ _ agreed in (
+            sym (eqb-true _ _ (both-left _ _ k)) ∙ ap (λ (m : ℕ). m % 256) (sym (later-type w h at (s .long) few z)),
+            sym (eqb-true _ _ (both-right (eqb (typeOf w % 256) (h .«msg_type» % 256)) _ k)) ∙ sym (later-total w h at (s .long) few z),
+          )
+
+      held-new : Held v x (a .out) f
+      unfolding f
+      held-new =
+          let k = alike-head fs (kept-count (s .kept)) in
+          let p = fit-end w h fit in
+          let l = body-length in
+          record { number = number ∙ s .expected; kind = k .0; total = k .1; inside = omega (arith, k .1); bytes = λ i g. brought i g }
+
+      held-old : (gs : List Fragment) → countOf w ≡ length gs → (g : Fragment) → Mem g gs → Mem g fs → Held v x (a .out) g
+      unfolding v
+      held-old [] e g m i = absurd (elim m [ ])
+      held-old (y ∷ ys) e g m i =
+          let z : (countOf w ≡ 0 → ⊥) = λ q. omega arith in
+          held-still (later-type w h at (s .long) few z) (later-total w h at (s .long) few z) (λ j t. stayed j (one-covers fs g j i t)) (s .each g i)
+
+      each-more : (g : Fragment) → Mem g (f ∷ fs) → Held v x (a .out) g
+      each-more g m = mem-by m (λ (p : g ≡ f). subst (Held v x (a .out)) (sym p) held-new) (λ i. held-old fs (kept-count (s .kept)) g i i)
+
+      bytes-more : (i : ℕ) → covers (f ∷ fs) i ≡ true → getD x i 0 ≡ byteOf (f ∷ fs) i
+      bytes-more i e = byte-first (f ∷ fs) i (getD x i 0) (λ g m t. each-more g m .bytes i t) e
+
       total-low : totalOf v ≤ most-bytes
       unfolding v
       total-low = held-total w h at (s .long) few fit (s .sound .total)
@@ -262,7 +310,7 @@ module _ {w d : List ℕ} {a : Account} {ms : List Out} (s : Stands w d a) (log 
         head = head-more;
         size = size-still;
         place = place-next;
-        bytes = bytes-more;
+        each = each-more;
       }
 
       is-held : Q (outcome piece.Held v x) account.held
@@ -292,7 +340,7 @@ module _ {w d : List ℕ} {a : Account} {ms : List Out} (s : Stands w d a) (log 
       number-low = let e = held-expected w h at in let p = fit-number w h fit in omega arith
 
       handed-stands : Stands handedWords x (hands a f)
-      unfolding covers f
+      unfolding f
       handed-stands =
           let t = sound-still in
           record {
@@ -308,7 +356,7 @@ module _ {w d : List ℕ} {a : Account} {ms : List Out} (s : Stands w d a) (log 
             head = bare;
             size = handed-other size-at (λ e. omega arith) (λ e. omega arith) ∙ size-still;
             place = handed-other place-at (λ e. omega arith) (λ e. omega arith) ∙ place-next;
-            bytes = λ i e. absurd (false≢true e);
+            each = λ g m. absurd (elim m [ ]);
           }
 
       body-total : length (take (totalOf v) x) ≡ totalOf v
@@ -324,6 +372,9 @@ module _ {w d : List ℕ} {a : Account} {ms : List Out} (s : Stands w d a) (log 
         total = body-total ∙ q;
         whole = λ i l. sym (kept-covers kept-more i) ∙ whole-each v e i (rw body-total at l);
         byte = λ i l. getD-take (totalOf v) x i 0 (rw body-total at l) ∙ bytes-more i (sym (kept-covers kept-more i) ∙ whole-each v e i (rw body-total at l));
+        each = λ g m.
+            let k = each-more g m in
+            record { kind = k .kind; total = k .total ∙ sym body-total; byte = λ i t. getD-take (totalOf v) x i 0 (omega (arith, has-to g i t, k .inside)) ∙ k .bytes i t };
       }
 
       verdict-from : Headed v (f ∷ fs) → whole (typeOf v % 256) (expectedOf v % 65536) (totalOf v) ≡ whole (oldest f fs .kind) (a .out) (oldest f fs .total)
@@ -376,23 +427,112 @@ module _ {w d : List ℕ} {a : Account} {ms : List Out} (s : Stands w d a) (log 
         ∙ ap (λ (m : ℕ). both (ltb m last-number) (both (leb (h .length) most-bytes) (both (leb E (h .length)) (leb E T)))) (s .expected)
         ∙ ap (λ (m : ℕ). both (ltb (a .out) last-number) (both (leb (h .length) most-bytes) (both (leb (h .«fragment_offset» + m) (h .length)) (leb (h .«fragment_offset» + m) T)))) (sym body-length)
 
-    same-same : isSame w (countOf w) (h .«fragment_offset») (h .«fragment_length») ≡ isAmong f (a .pieces)
+    -- 28: the type and total held, and a byte that one of the pieces has is the buffer's
+    alike-from : (gs : List Fragment) → countOf w ≡ length gs → Headed w gs → isAlike w h ≡ both (eqb (oldest f gs .kind) (f .kind)) (eqb (oldest f gs .total) (f .total))
+    unfolding isAlike f oldest
+    alike-from [] z bare = either-true _ (eq-eqb (countOf w) 0 z) ∙ sym (both-true (eq-eqb (h .«msg_type» % 256) _ refl) ∙ eq-eqb (h .length) _ refl)
+    alike-from (g ∷ gs) z (by p q) =
+        either-false (ne-eqb (countOf w) 0 (λ y. omega arith)) ∙ ap (λ (k : ℕ). both (eqb k (h .«msg_type» % 256)) (eqb (totalOf w) (h .length))) p
+        ∙ ap (λ (t : ℕ). both (eqb (oldest g gs .kind) (h .«msg_type» % 256)) (eqb t (h .length))) q
+
+    abbrev o : ℕ
+    o = h .«fragment_offset»
+
+    -- a byte of the piece by its place in the body
+    placed : (i : ℕ) → has f i ≡ true → (o + (i - o) ≡ i) × (i - o < length b)
     unfolding f
-    same-same = ap (isSame w (countOf w) (h .«fragment_offset»)) (sym body-length) ∙ kept-same (s .kept) (fragmentOf c (placeOf w) h)
+    placed i e = let p = has-from f i e in let q = has-to f i e in (omega arith, omega arith)
+
+    in-body : (j : ℕ) → j < length b → (has f (o + j) ≡ true) × (byteIn f (o + j) ≡ getD b j 0)
+    unfolding f
+    in-body j l = let e : o + j - o ≡ j = omega arith in (is-has f (o + j) (omega arith) (omega arith), ap (λ (k : ℕ). getD b k 0) e)
+
+    own-byte : (i : ℕ) → byteIn f i ≡ getD b (i - o) 0
+    unfolding f
+    own-byte i = refl
+
+    shared-same : allShared w (countOf w) o b d (length b) ≡ sharesAll f (a .pieces)
+    shared-same =
+        alike (allShared w (countOf w) o b d (length b)) (sharesAll f (a .pieces))
+        (λ e. each-shares f (a .pieces)
+        (λ g m i p q. let k = placed i p in
+        let t : covered w (countOf w) (o + (i - o)) ≡ true = kept-covers (s .kept) (o + (i - o)) ∙ ap (covers (a .pieces)) (k .0) ∙ one-covers (a .pieces) g i m q in
+        own-byte i ∙ shared-each w (countOf w) o b d (length b) e (i - o) (k .1) t ∙ ap (λ (n : ℕ). getD d n 0) (k .0) ∙ s .each g m .bytes i q))
+        (λ e. each-shared w (countOf w) o b d (length b)
+        (λ j l t. let k = in-body j l in
+        let g = covers-one (a .pieces) (o + j) (sym (kept-covers (s .kept) (o + j)) ∙ t) in
+        sym (k .1) ∙ shares-each f (a .pieces) e (g .0) (g .1) (o + j) (k .0) (g .2) ∙ sym (s .each (g .0) (g .1) .bytes (o + j) (g .2))))
+
+    both-assoc : (x y z : Bool) → both (both x y) z ≡ both x (both y z)
+    unfolding both
+    both-assoc true y z = refl
+    both-assoc false y z = refl
+
+    agreed-same : isAgreed w h b d ≡ account.isAgreed a f
+    unfolding isAgreed account.isAgreed
+    agreed-same =
+        ap (λ (t : Bool). both t (allShared w (countOf w) o b d (length b))) (alike-from (a .pieces) (kept-count (s .kept)) (s .head))
+        ∙ ap (both (both (eqb (oldest f (a .pieces) .kind) (f .kind)) (eqb (oldest f (a .pieces) .total) (f .total)))) shared-same
+        ∙ both-assoc (eqb (oldest f (a .pieces) .kind) (f .kind)) (eqb (oldest f (a .pieces) .total) (f .total)) (sharesAll f (a .pieces))
+
+    -- the same: with these compared, a span held is one whole piece
+    held-head : (gs : List Fragment) → Headed w gs → (g : Fragment) → Mem g gs → (typeOf w % 256 ≡ oldest f gs .kind) × (totalOf w ≡ oldest f gs .total)
+    unfolding oldest
+    held-head [] bare g m = absurd (elim m [ ])
+    held-head (y ∷ ys) (by p q) g m = (p, q)
+
+    module _ (number : h .«message_seq» ≡ expectedOf w) (agreed : account.isAgreed a f ≡ true) where
+      all-shared : sharesAll f (a .pieces) ≡ true
+      unfolding account.isAgreed
+      all-shared =
+          both-right (eqb (oldest f (a .pieces) .total) (f .total)) _ (both-right (eqb (oldest f (a .pieces) .kind) (f .kind)) _ agreed)
+
+      whole-same-as : (g : Fragment) → Mem g (a .pieces) → g .offset ≡ f .offset → length (g .body) ≡ length (f .body) → Same f g
+      unfolding account.isAgreed f
+      whole-same-as g m eo el =
+          let k = s .each g m in
+          let q = held-head (a .pieces) (s .head) g m in
+          let t = eqb-true _ _ (both-left _ _ agreed) in
+          let u = eqb-true _ _ (both-left _ _ (both-right (eqb (oldest f (a .pieces) .kind) (f .kind)) _ agreed)) in
+          record {
+            number = k .number ∙ sym (s .expected) ∙ sym number;
+            kind = k .kind ∙ q .0 ∙ t;
+            total = k .total ∙ q .1 ∙ u;
+            offset = eo;
+            size = el;
+            byte = λ j l.
+                let i = o + j in
+                let n : i - g .offset ≡ j = omega arith in
+                let z = in-body j l in
+                ap (λ (y : ℕ). getD (g .body) y 0) (sym n) ∙ sym (shares-each f (a .pieces) all-shared g m i (z .0) (is-has g i (omega arith) (omega arith))) ∙ z .1;
+          }
+
+      same-same : isSame w (countOf w) o (h .«fragment_length») ≡ isAmong f (a .pieces)
+      unfolding f
+      same-same =
+          alike (isSame w (countOf w) o (h .«fragment_length»)) (isAmong f (a .pieces))
+          (λ e. let g = kept-found (s .kept) o (h .«fragment_length») e in
+          is-among f (a .pieces) (g .0, g .1, whole-same-as (g .0) (g .1) (g .2) (g .3 ∙ sym body-length)))
+          (λ e. let g = among f (a .pieces) e in
+          ap (λ (n : ℕ). isSame w (countOf w) n (h .«fragment_length»)) (sym (g .2 .offset))
+          ∙ ap (isSame w (countOf w) (g .0 .offset)) (sym body-length ∙ sym (g .2 .size)) ∙ kept-has (s .kept) (g .0) (g .1))
 
     few-same : ltb (countOf w) most-pieces ≡ ltb (length (a .pieces)) most-pieces
     few-same = ap (λ (m : ℕ). ltb m most-pieces) (kept-count (s .kept))
 
-    judged-step : Q (offered w h b (nextAt (placeOf w) h) d) (judged a f)
+    judged-step : h .«message_seq» ≡ expectedOf w → Q (offered w h b (nextAt (placeOf w) h) d) (judged a f)
     unfolding offered judged
-    judged-step =
+    judged-step number =
         by-both Q (sym fit-same)
-        (λ fit. by-both Q (sym same-same) (λ e. is-same) (λ e. by-both Q (sym few-same) (λ l. taken-step fit (ltb-true _ _ l)) (λ l. is-too-many f)))
+        (λ fit. by-both Q (sym agreed-same)
+        (λ agreed. by-both Q (sym (same-same number (sym agreed-same ∙ agreed))) (λ e. is-again)
+        (λ e. by-both Q (sym few-same) (λ l. taken-step number fit agreed (ltb-true _ _ l)) (λ l. is-too-many f)))
+        (λ e. is-other f))
         (λ e. is-malformed f)
 
     offered-step : Q (readAt w c d (parsed.Read h)) (readAs a (some f))
     unfolding readAt readAs f
-    offered-step = by-both Q (ap (eqb (h .«message_seq»)) (sym (s .expected))) (λ e. judged-step) (λ e. is-passed)
+    offered-step = by-both Q (ap (eqb (h .«message_seq»)) (sym (s .expected))) (λ e. judged-step (eqb-true _ _ e)) (λ e. is-passed)
 
   -- ---- the call
 

@@ -83,6 +83,9 @@ module _ (p : ℕ) (v d : List ℕ) (fits : p + length v ≤ length d) where
   splice-here =
       ap (take (length v)) (drop-at (take p d) (v ++ drop (length v) (drop p d)) p (length-take-le p d (omega arith))) ∙ take-append-seam v (drop (length v) (drop p d))
 
+  pub splice-at : (j : ℕ) → j < length v → getD (splice p v d) (p + j) 0 ≡ getD v j 0
+  splice-at j h = sym (part-at p (length v) (splice p v d) j h) ∙ ap (λ (l : List ℕ). getD l j 0) splice-here
+
   -- a part in front of it is as it was
   pub splice-before : (a n : ℕ) → a + n ≤ p → part a n (splice p v d) ≡ part a n d
   unfolding splice

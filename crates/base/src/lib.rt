@@ -3,6 +3,7 @@ ghost use mathlib.Core.Path.{_≡_};
 ghost use Prim.Native.Nat.{_+_, _<_, _≤_, min};
 ghost use lib.ListN.{length, getD, take, drop};
 ghost use Rattle.base.specs.Bytes.{beAt};
+ghost use Rattle.base.specs.Every.{sameTo};
 ghost use Rattle.base.specs.Parts.{part, mostMoved};
 
 // A byte as a wider number.
@@ -97,6 +98,21 @@ pub fn fragment(d: &[u8], start: usize, length: usize) -> &[u8]
         return &t[..length];
     }
     t
+}
+
+// Whether two slices of one length have the same bytes. Every byte is looked at: a loop that ended at the first other one the compiler would take
+// byte by byte, and of this one it compares sixteen at once.
+pub fn same_bytes(a: &[u8], b: &[u8]) -> bool
+    requires { ⌜ length (now a) ≡ length (now b) ⌝ }
+    ensures { λ r. ⌜ r ≡ sameTo (now (a .entry)) (now (b .entry)) (length (now (a .entry))) ⌝ }
+{
+    let mut same = true;
+    let mut i = 0;
+    while i < a.len() {
+        same = same & (a[i] == b[i]);
+        i += 1;
+    }
+    same
 }
 
 // ---- bytes moved

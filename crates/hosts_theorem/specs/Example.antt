@@ -11,6 +11,7 @@ use mathlib.Core.Path.{_≡_, refl, sym, ap}
 use Rattle.base.specs.Bits as base-bits
 use Rattle.base.specs.Choose as base-choose
 use Rattle.base.specs.Choose.{if-false}
+use Rattle.base.specs.Every as base-every
 use Rattle.base.specs.Parts as base-parts
 use Rattle.window.specs.Used as window-used
 use Rattle.window.specs.Window as window-window
@@ -50,8 +51,8 @@ use Rattle.classify_calls.specs.declared.HuskClass.{HuskClass}
 use Rattle.classify_theorem.specs.Account as classify-account
 use Rattle.handshake.specs.Header.{headerAt, parseHeader}
 use Rattle.assembly.specs.declared.Piece.the-variants as piece
-use Rattle.assembly.specs.Spans.{expected-at, type-at, total-at, size-at, place-at, length-at, within, covered, allCovered, isWhole, isSame, written}
-use Rattle.assembly.specs.Assembly.{Outcome, outcome, isSound, fresh, held, pieceAt, isFit, finished, offered, readAt, taken}
+use Rattle.assembly.specs.Spans.{expected-at, type-at, total-at, size-at, place-at, length-at, within, covered, allCovered, isWhole, isSame, isShared, allShared}
+use Rattle.assembly.specs.Assembly.{Outcome, outcome, isSound, fresh, held, pieceAt, isFit, isAlike, isAgreed, finished, offered, readAt, taken}
 use Rattle.assembly_calls.specs.Calls.{flatPiece}
 use Rattle.assembly_calls.specs.declared.HuskPiece.{HuskPiece}
 use Rattle.assembly_theorem.specs.Account.{Fragment, fragmentIn, covers}
@@ -338,7 +339,7 @@ putTogether rest =
 -- over any buffer that is long enough
 module _ (rest : List ℕ) (room : 16383 ≤ length rest) where
   comes-out : taken w₁ content (0 ∷ rest) ≡ outcome (piece.Message 20 0 1) w₂ (7 ∷ rest)
-  unfolding base-choose.choose base-choose.both base-choose.either parseHeader headerAt within covered allCovered isWhole isSame written isSound pieceAt isFit held finished offered readAt taken
+  unfolding base-choose.choose base-choose.both base-choose.either parseHeader headerAt within covered allCovered isWhole isSame isShared allShared base-every.every base-parts.splice isSound pieceAt isFit isAlike isAgreed held finished offered readAt taken
   comes-out = if-false _ _ (le-ltb (suc (length rest)) 16384 (omega arith))
 
   together-made : AllMade hosts (putTogether rest)

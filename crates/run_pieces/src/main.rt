@@ -1,5 +1,5 @@
 // Replays a fixed list of pieces of handshake messages: one line of input, a letter and hex bytes, is one step and gives one line of output.
-// What is expected stands in the file stdout. expected.py writes both files from the wording of 02, 2, and says what each letter means; none of
+// What is expected stands in the file stdout. expected.py writes both files from the wording of 02, 2 and 7, and says what each letter means; none of
 // this code takes part.
 // The state is the words and the buffer that a host keeps, and the content of a record, which is laid piece by piece.
 use assembly_calls::HuskPiece;

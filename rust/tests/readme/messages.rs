@@ -8,7 +8,7 @@ fn put_together(
     mut act: impl FnMut(u8, &[u8]),
 ) -> Result<(), Refusal> {
     let mut pieces = assembly.pieces(content);
-    // Refusals 24 and 25 end the record, and what is held stays.
+    // Refusals 24, 25 and 28 end the record, and what is held stays.
     while let Some(piece) = pieces.next(buffer)? {
         if let Piece::Message { msg_type, body, .. } = piece {
             act(msg_type, body);

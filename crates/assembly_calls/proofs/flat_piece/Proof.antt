@@ -41,14 +41,14 @@ enum-told-6 c = search needs
 told-requires-6 : tie.Need-told-requires-6
 told-requires-6 c κs = search needs
 
-enum-known-p : tie.Need-enum-known-p
-enum-known-p c = search needs
+enum-told-7 : tie.Need-enum-told-7
+enum-told-7 c = search needs
 
 told-requires-7 : tie.Need-told-requires-7
 told-requires-7 c κs = search needs
 
-enum-told-7 : tie.Need-enum-told-7
-enum-told-7 c = search needs
+enum-known-p : tie.Need-enum-known-p
+enum-known-p c = search needs
 
 told-requires-8 : tie.Need-told-requires-8
 told-requires-8 c κs = search needs
@@ -58,6 +58,12 @@ enum-told-8 c = search needs
 
 told-requires-9 : tie.Need-told-requires-9
 told-requires-9 c κs = search needs
+
+enum-told-9 : tie.Need-enum-told-9
+enum-told-9 c = search needs
+
+told-requires-10 : tie.Need-told-requires-10
+told-requires-10 c κs = search needs
 
 enum-known-p-2 : tie.Need-enum-known-p-2
 enum-known-p-2 c = search needs
@@ -81,16 +87,19 @@ returns-6 : tie.Need-returns-6
 returns-6 c = c .told6 .ensures ∙ ap flatPiece (sym (c .before .enum-told6 .given .1))
 
 returns-7 : tie.Need-returns-7
-returns-7 c = c .told7 .ensures ∙ ap flatPiece (sym (c .before .before .p .given .1))
+returns-7 c = c .told7 .ensures ∙ ap flatPiece (sym (c .before .enum-told7 .given .1))
 
 returns-8 : tie.Need-returns-8
-returns-8 c = c .told8 .ensures ∙ ap flatPiece (sym (c .before .enum-told7 .given .1))
+returns-8 c = c .told8 .ensures ∙ ap flatPiece (sym (c .before .before .p .given .1))
 
 returns-9 : tie.Need-returns-9
 returns-9 c = c .told9 .ensures ∙ ap flatPiece (sym (c .before .enum-told8 .given .1))
 
 returns-10 : tie.Need-returns-10
-returns-10 c = ap flatPiece (sym (c .before .p2 .given .1))
+returns-10 c = c .told10 .ensures ∙ ap flatPiece (sym (c .before .enum-told9 .given .1))
+
+returns-11 : tie.Need-returns-11
+returns-11 c = ap flatPiece (sym (c .before .p2 .given .1))
 
 pub flat-piece-spec : {M : Type 1} → statement M
 flat-piece-spec =
@@ -108,12 +117,14 @@ flat-piece-spec =
     told-requires-5
     enum-told-6
     told-requires-6
-    enum-known-p
-    told-requires-7
     enum-told-7
+    told-requires-7
+    enum-known-p
     told-requires-8
     enum-told-8
     told-requires-9
+    enum-told-9
+    told-requires-10
     enum-known-p-2
     returns
     returns-2
@@ -124,4 +135,5 @@ flat-piece-spec =
     returns-7
     returns-8
     returns-9
-    returns-10)
+    returns-10
+    returns-11)
