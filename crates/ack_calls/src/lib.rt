@@ -1,5 +1,6 @@
 // Resends and ACKs as a host calls them. The words of the sending side and of the flight are those of send_calls and flight_calls.
 // What is noted for the outgoing ACK is a count and two tables of 32 words.
+#![tactic(auto)]
 ghost use Rattle.std.specs.Prelude.{List, ◌≡◌, ℕ, ◌≤◌, get_or};
 ghost use Rattle.flight_words.specs.Words.{saved-at, flight_of};
 ghost use Rattle.ack_steps.specs.Steps.{notes_of};
@@ -26,7 +27,7 @@ const NOTED: usize = 0;
 // What an ACK did: how many saved records it marked that were not marked before, those of a flight that it emptied among them; and what
 // is left behind it, not acknowledged and saved. With 0 saved the flight is empty.
 #[repr(C)]
-#[derive(Drop)]
+#[derive(Clone, Copy)]
 pub struct HuskAcked {
     pub refusal: u8,
     pub marked: u8,

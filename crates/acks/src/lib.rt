@@ -1,4 +1,5 @@
 // The records noted for the outgoing ACK, and sending it, after `send_ack` of engine.rs.
+#![tactic(auto)]
 ghost use Rattle.std.specs.Prelude.{◌≡◌, ◌+◌, ◌≤◌, length};
 ghost use Rattle.base.specs.Bytes.{be};
 ghost use Rattle.base.specs.Parts.{splice};
@@ -8,14 +9,14 @@ use outgoing::Sending;
 use send_keys::SendAnswer;
 
 // Epochs and numbers of the records noted, in the order of noting.
-#[derive(Drop)]
+#[derive(Clone, Copy)]
 pub struct Notes {
     pub count: usize,
     pub epochs: [u64; 32],
     pub numbers: [u64; 32],
 }
 
-#[derive(Drop)]
+#[derive(Clone, Copy)]
 pub enum NoteAnswer {
     Noted,
     // 32 are noted already: nothing changes.
@@ -24,14 +25,14 @@ pub enum NoteAnswer {
     OutOfRange,
 }
 
-#[derive(Drop)]
+#[derive(Clone, Copy)]
 pub struct Noting {
     pub answer: NoteAnswer,
     pub notes: Notes,
 }
 
 // What sending the ACK leaves; with none noted nothing is sent.
-#[derive(Drop)]
+#[derive(Clone, Copy)]
 pub struct AckSent {
     pub answer: SendAnswer,
     pub sent: bool,

@@ -1,5 +1,6 @@
 // Whole handshake messages as a host calls for them. The state is words that the host keeps and lends with the buffer; a call changes both in
 // place. Whatever stands in them, a call ends with an answer.
+#![tactic(auto)]
 ghost use Rattle.std.specs.Prelude.{◌≡◌};
 ghost use Rattle.assembly.specs.Assembly.{outcome, taken};
 ghost use Rattle.assembly_calls.specs.Calls.{told, flat_piece, FreshCall, BeginCall, TakeCall};
@@ -13,7 +14,7 @@ use handshake::ParsedHeader;
 // needs; or by 24, 28 or 25, and the record is over. 1 the record is over; 2 a piece of another message, of that number; 3 the same as one held; 4 held; 5 a message:
 // its type, number and length.
 #[repr(C)]
-#[derive(Drop)]
+#[derive(Clone, Copy)]
 pub struct HuskPiece {
     pub kind: u8,
     pub refusal: u8,

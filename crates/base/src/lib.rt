@@ -1,4 +1,6 @@
 // Bytes and parts of a slice as every crate reads them; specs/ has the laws that all of them cite.
+#![tactic(auto)]
+
 ghost use Rattle.std.specs.Prelude.{◌≡◌, ◌+◌, ◌<◌, ◌≤◌, min, length, get_or, take, drop};
 ghost use Rattle.base.specs.Bytes.{be_at};
 ghost use Rattle.base.specs.Every.{same_to};

@@ -1,5 +1,6 @@
 // The mask of a record number under the ChaCha20 suites (RFC 9147, section 4.2.3), by the block function of RFC 8439, whose sections stand
 // beside the functions.
+#![tactic(auto)]
 ghost use Rattle.std.specs.Prelude.{◌≡◌, ◌+◌, ◌^◌, ◌<◌, ◌≤◌, length, slice_index};
 ghost use Rattle.base.specs.Parts.{part};
 ghost use Rattle.chacha.specs.Chacha as spec;
@@ -11,7 +12,7 @@ const DOUBLE_ROUNDS: usize = 10;
 pub const BLOCK_WORDS: usize = 16;
 
 // Four words of a state.
-#[derive(Drop)]
+#[derive(Clone, Copy)]
 pub struct Quad {
     pub a: u32,
     pub b: u32,
@@ -20,7 +21,7 @@ pub struct Quad {
 }
 
 // 2.2: the sixteen words of a state, each a field: an array would be packed and taken apart again in every round.
-#[derive(Drop)]
+#[derive(Clone, Copy)]
 pub struct State {
     pub x0: u32,
     pub x1: u32,

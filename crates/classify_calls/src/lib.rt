@@ -1,6 +1,7 @@
 // What is done with each reading, as a host calls it. Beside the words of the receiving side the host lends nine: the reading that waits to be dealt
 // with, and the remembered close. The calls that read note the reading there; `classify` deals with it, once. Whatever stands in the words, a call ends
 // with an answer.
+#![tactic(auto)]
 ghost use Rattle.std.specs.Prelude.{List, ◌≡◌, true, ℕ, leb};
 ghost use Rattle.base.specs.Choose.{both};
 ghost use Rattle.recv_words.specs.Words.{is_flat};
@@ -89,7 +90,7 @@ const USER_CANCELED: u8 = 90;
 //   11 unopened.
 // Start and length are where its content is, 0 for kinds 0 and 1. Fields that a kind does not use are zeros.
 #[repr(C)]
-#[derive(Drop)]
+#[derive(Clone, Copy)]
 pub struct HuskClass {
     pub kind: u8,
     pub refusal: u8,

@@ -1,10 +1,11 @@
 // The begun datagram, after incoming.rs: the cursor, the readings made, the question that waits, and where a record leads.
+#![tactic(auto)]
 ghost use Rattle.std.specs.Prelude.{◌≡◌};
 ghost use Rattle.datagram.specs.Datagram.{ask_sound, told, moved, ended, passed, counted};
 
 // The sealed record at the cursor that a question is about: its epoch, whether its number has two bytes, and how long header and
 // protected part are.
-#[derive(Drop)]
+#[derive(Clone, Copy)]
 pub struct Ask {
     pub epoch: u16,
     pub s_flag: bool,
@@ -13,7 +14,7 @@ pub struct Ask {
 }
 
 // The question that waits: for the mask, or for the opening under a number.
-#[derive(Drop)]
+#[derive(Clone, Copy)]
 pub enum Question {
     Nothing,
     Mask(Ask),
@@ -21,7 +22,7 @@ pub enum Question {
 }
 
 // The begun datagram: its length, the cursor, the readings made, the question that waits.
-#[derive(Drop)]
+#[derive(Clone, Copy)]
 pub struct Datagram {
     pub size: usize,
     pub at: usize,
@@ -30,7 +31,7 @@ pub struct Datagram {
 }
 
 // Why a record is dropped: refusals 4 to 9, 26, 10 and 11, in the order of their tests.
-#[derive(Drop)]
+#[derive(Clone, Copy)]
 pub enum Reason {
     Invalid,
     EarlyBits,
@@ -44,7 +45,7 @@ pub enum Reason {
 }
 
 // What a call says of the record at the cursor. Each start is a place in the datagram.
-#[derive(Drop)]
+#[derive(Clone, Copy)]
 pub enum Reading {
     // A field out of range (12), a reply or a datagram that answers no question (15): nothing has changed.
     Setting,
@@ -90,7 +91,7 @@ pub enum Reading {
 }
 
 // A reading with the next cursor; the nonce belongs to an opening question, and is zeros else.
-#[derive(Drop)]
+#[derive(Clone, Copy)]
 pub struct Step {
     pub reading: Reading,
     pub nonce: [u8; 12],

@@ -1,4 +1,5 @@
 // The records of a flight, saved until they are acknowledged, after `flight_saved_records` of engine.rs.
+#![tactic(auto)]
 ghost use Rattle.std.specs.Prelude.{◌≡◌, ◌*◌, ◌≤◌, ◌<◌, length};
 ghost use Rattle.flight.specs.Flight.{counted, is_kept};
 
@@ -6,7 +7,7 @@ use outgoing::Sending;
 use send_keys::SendAnswer;
 
 // A saved record: its content type, epoch, number and length; whether it was acknowledged; how many earlier numbers it remembers.
-#[derive(Drop)]
+#[derive(Clone, Copy)]
 pub struct Entry {
     pub content_type: u8,
     pub epoch: u16,
@@ -17,7 +18,7 @@ pub struct Entry {
 }
 
 // The records saved, in order, and 32 remembered numbers for each of 12.
-#[derive(Drop)]
+#[derive(Clone, Copy)]
 pub struct Flight {
     pub entries: [Entry; 12],
     pub saved: usize,
@@ -25,20 +26,20 @@ pub struct Flight {
 }
 
 // A flight without its table: what saving, cutting and marking change.
-#[derive(Drop)]
+#[derive(Clone, Copy)]
 pub struct SavedRecords {
     pub entries: [Entry; 12],
     pub saved: usize,
 }
 
-#[derive(Drop)]
+#[derive(Clone, Copy)]
 pub struct Begun {
     pub answer: SendAnswer,
     pub flight: Flight,
 }
 
 // What a call that saves leaves.
-#[derive(Drop)]
+#[derive(Clone, Copy)]
 pub struct Saved {
     pub answer: SendAnswer,
     pub state: Sending,

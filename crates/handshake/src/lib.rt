@@ -1,8 +1,9 @@
 // The header of a handshake message's piece, after `Header` of handshake.rs.
+#![tactic(auto)]
 ghost use Rattle.std.specs.Prelude.{◌≡◌};
 ghost use Rattle.handshake.specs.Header.{header_bytes, parse_header};
 
-#[derive(Drop)]
+#[derive(Clone, Copy)]
 pub struct Header {
     pub msg_type: u8,
     pub length: u32,
@@ -12,7 +13,7 @@ pub struct Header {
 }
 
 // What the front of a slice holds: a header, or too few bytes for one.
-#[derive(Drop)]
+#[derive(Clone, Copy)]
 pub enum ParsedHeader {
     Incomplete,
     Read(Header),

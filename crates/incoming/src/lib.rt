@@ -1,10 +1,11 @@
 // Reading an opened record, after incoming.rs.
+#![tactic(auto)]
 ghost use Rattle.std.specs.Prelude.{◌≡◌, ◌≤◌, length};
 ghost use Rattle.incoming.specs.Inner.{inner_of};
 ghost use Rattle.incoming.specs.Padding.{left_of};
 
 // What an opened record holds: its content type and the length of the content in front of it, or zeros alone.
-#[derive(Drop)]
+#[derive(Clone, Copy)]
 pub enum Inner {
     Found { content_type: u8, length: usize },
     Nothing,

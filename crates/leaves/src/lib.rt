@@ -1,4 +1,5 @@
 // The leaves as C functions over flat structs: a static library for hosts and for comparing with the Rust.
+#![tactic(auto)]
 ghost use Rattle.std.specs.Prelude.{◌≡◌, get_or};
 ghost use Rattle.window.specs.Window.{unmarked, verdict, marking};
 ghost use Rattle.sequence.specs.Sequence.{block_of, nearest};
@@ -15,21 +16,21 @@ use record::{Ciphertext, PLAINTEXT_HEADER_LEN, Parsed, Plaintext};
 use window::{ReplayWindow, Verdict};
 
 #[repr(C)]
-#[derive(Drop)]
+#[derive(Clone, Copy)]
 pub struct LeavesWindow {
     pub max_seq: u64,
     pub window: u64,
 }
 
 #[repr(C)]
-#[derive(Drop)]
+#[derive(Clone, Copy)]
 pub struct LeavesNonce {
     pub bytes: [u8; 12],
 }
 
 // kind: 0 the datagram ends, 1 refusal 2, 2 refusal 4, 3 plaintext, 4 sealed. Fields that a kind does not use are zeros.
 #[repr(C)]
-#[derive(Drop)]
+#[derive(Clone, Copy)]
 pub struct LeavesParsed {
     pub kind: u8,
     pub content_type: u8,
@@ -41,25 +42,25 @@ pub struct LeavesParsed {
 }
 
 #[repr(C)]
-#[derive(Drop)]
+#[derive(Clone, Copy)]
 pub struct LeavesPlain {
     pub bytes: [u8; 13],
 }
 
 #[repr(C)]
-#[derive(Drop)]
+#[derive(Clone, Copy)]
 pub struct LeavesUnified {
     pub bytes: [u8; 5],
 }
 
 #[repr(C)]
-#[derive(Drop)]
+#[derive(Clone, Copy)]
 pub struct LeavesHandshake {
     pub bytes: [u8; 12],
 }
 
 #[repr(C)]
-#[derive(Drop)]
+#[derive(Clone, Copy)]
 pub struct LeavesHeader {
     pub found: bool,
     pub msg_type: u8,
@@ -70,7 +71,7 @@ pub struct LeavesHeader {
 }
 
 #[repr(C)]
-#[derive(Drop)]
+#[derive(Clone, Copy)]
 pub struct LeavesInner {
     pub found: bool,
     pub content_type: u8,

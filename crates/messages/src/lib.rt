@@ -1,4 +1,5 @@
 // A handshake message cut into pieces, each sent as a record of its own and saved, after `create_handshake` of engine.rs.
+#![tactic(auto)]
 ghost use Rattle.std.specs.Prelude.{true, ◌≡◌, length};
 ghost use Prim.Native.Nat.{◌+◌, ◌-◌, ◌≤◌, ◌<◌};
 ghost use Rattle.std.proofs.Math.Dec as tests;
@@ -13,14 +14,14 @@ use record::LAST_NUMBER;
 use send_keys::SendAnswer;
 
 // What is left to cut: the queue's end, and the bytes of the body that are left.
-#[derive(Drop)]
+#[derive(Clone, Copy)]
 pub struct Cut {
     pub tail: Tail,
     pub rest: usize,
 }
 
 // How many pieces there are, and how many datagrams the queue then has.
-#[derive(Drop)]
+#[derive(Clone, Copy)]
 pub struct Plan {
     pub count: usize,
     pub reach: usize,

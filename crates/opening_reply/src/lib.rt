@@ -1,4 +1,5 @@
 // What a reply to an opening question may say; what removing an epoch does to its question.
+#![tactic(auto)]
 ghost use Rattle.std.specs.Prelude.{◌≡◌, ◌+◌, ◌≤◌};
 ghost use Rattle.opening_reply.specs.Opening.{cancelled_ask};
 
@@ -6,21 +7,21 @@ use datagram::{Ask, Datagram, Question, Step};
 use recv_keys::RecvKeys;
 
 // The reply to an opening question: no, or yes with so many bytes of plaintext at the start of the protected part.
-#[derive(Drop)]
+#[derive(Clone, Copy)]
 pub enum Opening {
     No,
     Yes(usize),
 }
 
 // A step with the keys behind it.
-#[derive(Drop)]
+#[derive(Clone, Copy)]
 pub struct Marked {
     pub step: Step,
     pub keys: RecvKeys,
 }
 
 // The datagram behind the removal of an epoch, and whether the record at its cursor is dropped.
-#[derive(Drop)]
+#[derive(Clone, Copy)]
 pub struct Cancelled {
     pub dropped: bool,
     pub datagram: Datagram,

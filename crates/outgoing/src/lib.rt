@@ -1,4 +1,5 @@
 // The sending side of an endpoint, after engine.rs: numbers, queue, packing; one record sent, wholly or not at all.
+#![tactic(auto)]
 ghost use Rattle.std.specs.Prelude.{◌≡◌, ◌<◌, length};
 ghost use Rattle.send_keys.specs.declared.SendKeys.{SendKeys};
 ghost use Rattle.outgoing.specs.State.{no_waiting, is_content_type, is_allowed};
@@ -8,7 +9,7 @@ use send_keys::{SendAnswer, SendKeys};
 
 // The oldest record that waits for its sealing, if any: its slot, where it starts there, the length of what is to be sealed, its
 // epoch and number.
-#[derive(Drop)]
+#[derive(Clone, Copy)]
 pub struct Waiting {
     pub any: bool,
     pub slot: usize,
@@ -18,7 +19,7 @@ pub struct Waiting {
     pub number: u64,
 }
 
-#[derive(Drop)]
+#[derive(Clone, Copy)]
 pub struct Sending {
     pub queue: Queue,
     pub waiting: Waiting,
@@ -26,13 +27,13 @@ pub struct Sending {
     pub message_seq: u16,
 }
 
-#[derive(Drop)]
+#[derive(Clone, Copy)]
 pub struct Sent {
     pub answer: SendAnswer,
     pub state: Sending,
 }
 
-#[derive(Drop)]
+#[derive(Clone, Copy)]
 pub struct Keying {
     pub answer: SendAnswer,
     pub state: Sending,

@@ -1,4 +1,5 @@
 // Acting on an ACK, after `process_ack` of engine.rs: which saved records it acknowledges, and whether the flight is then done.
+#![tactic(auto)]
 ghost use Rattle.std.specs.Prelude.{◌≡◌, ◌+◌, ◌*◌, ◌≤◌, ◌<◌, length};
 ghost use Rattle.process_ack.specs.Ack.{is_formed, is_pair, is_named, is_remembered, is_acked, tally_with};
 
@@ -6,13 +7,13 @@ use flight::{Entry, Flight};
 use send_keys::SendAnswer;
 
 // Whether records of epoch 2 are saved, and whether one of them is not acknowledged.
-#[derive(Drop)]
+#[derive(Clone, Copy)]
 pub struct Tally {
     pub any: bool,
     pub unmarked: bool,
 }
 
-#[derive(Drop)]
+#[derive(Clone, Copy)]
 pub struct Acked {
     pub answer: SendAnswer,
     pub flight: Flight,

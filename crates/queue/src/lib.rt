@@ -1,4 +1,5 @@
 // The queue of datagrams to send, after `queue_tx` of engine.rs: a ring of slots of MTU bytes in one lent buffer.
+#![tactic(auto)]
 ghost use Rattle.std.specs.Prelude.{◌≡◌, ◌∷◌, ◌++◌, ◌+◌, ◌-◌, ◌≤◌, ◌<◌, length, take};
 ghost use Rattle.base.specs.Bytes.{be};
 ghost use Rattle.base.specs.Parts.{splice};
@@ -10,7 +11,7 @@ use record::{PLAINTEXT_HEADER_LEN, SEALED_HEADER_LEN, SEALED_OVERHEAD, SEALED_TA
 
 // Settings, the ring's first slot, how many datagrams wait in it, whether the last is closed to further records, and the length
 // of the datagram in each slot.
-#[derive(Drop)]
+#[derive(Clone, Copy)]
 pub struct Queue {
     pub mtu: usize,
     pub limit: usize,
@@ -21,7 +22,7 @@ pub struct Queue {
 }
 
 // The queue's end: the last datagram's length, whether a record may join it, how many datagrams there are.
-#[derive(Drop)]
+#[derive(Clone, Copy)]
 pub struct Tail {
     pub used: usize,
     pub joinable: bool,
@@ -29,7 +30,7 @@ pub struct Tail {
 }
 
 // Where a record goes: the datagram, counted from the front, and the offset in it.
-#[derive(Drop)]
+#[derive(Clone, Copy)]
 pub struct Place {
     pub datagram: usize,
     pub offset: usize,

@@ -1,4 +1,5 @@
 // A reader over one datagram: it keeps the slice and the offset reached. Thin over the cut of a record (crate record).
+#![tactic(auto)]
 ghost use Rattle.std.specs.Prelude.{◌≡◌, ◌-◌};
 ghost use Rattle.record.specs.Record.{head_of, size_of, content_of, rest_of};
 ghost use Rattle.reader.specs.Reader.{next_of, step_at};
@@ -6,14 +7,14 @@ ghost use Rattle.reader.specs.Reader.{next_of, step_at};
 use record::Parsed;
 
 // What was found at an offset, and the offset behind it.
-#[derive(Drop)]
+#[derive(Clone, Copy)]
 pub struct Step {
     pub found: Parsed,
     pub at: usize,
 }
 
 // A datagram and the offset reached in it.
-#[derive(Drop)]
+#[derive(Clone, Copy)]
 pub struct Reader<'a> {
     pub datagram: &'a [u8],
     pub at: usize,

@@ -1,4 +1,5 @@
 // Why a record of a receive history was left out (02, 8): a line for each record of the input.
+#![tactic(auto)]
 ghost use Rattle.std.specs.Prelude.{[], ◌∷◌, ◌≡◌, ℕ, ◌+◌, ◌*◌, ◌<◌, ◌≤◌, length, get_or, set, take};
 ghost use Rattle.window.specs.Window.{marking};
 ghost use Rattle.reasons.specs.Met.{most_kept};
@@ -23,7 +24,7 @@ pub const INPUT_ROOM: usize = 524288;
 pub const LINES_ROOM: usize = 1572864;
 
 // A record dealt with: what is told of it, and how many epochs are kept.
-#[derive(Drop)]
+#[derive(Clone, Copy)]
 pub struct Step {
     pub told: Told,
     pub count: usize,

@@ -1,7 +1,8 @@
 // Receive histories (02, 8): what is told of each record. specs/ has what each line says, and that its reason is the first test that truly failed.
+#![tactic(auto)]
 
 // What became of a record: taken, or the first test that failed.
-#[derive(Drop)]
+#[derive(Clone, Copy)]
 pub enum Reason {
     Short,
     Record,
@@ -13,7 +14,7 @@ pub enum Reason {
 }
 
 // What is told of a record. Without a number both numbers are 0.
-#[derive(Drop)]
+#[derive(Clone, Copy)]
 pub struct Told {
     pub epoch: u64,
     pub number: u64,

@@ -1,15 +1,16 @@
 // The receive side of a link: its state, and what its calls answer (specs/Receiving.antt says which call does what).
+#![tactic(auto)]
 use datagram::{Datagram, Reading};
 use recv_keys::RecvKeys;
 
-#[derive(Drop)]
+#[derive(Clone, Copy)]
 pub struct Receiving {
     pub keys: RecvKeys,
     pub datagram: Datagram,
 }
 
 // What a call that reads nothing answers.
-#[derive(Drop)]
+#[derive(Clone, Copy)]
 pub enum Answer {
     Done,
     // Done, and the record at the cursor is dropped with its epoch (6).
@@ -21,14 +22,14 @@ pub enum Answer {
     Full,
 }
 
-#[derive(Drop)]
+#[derive(Clone, Copy)]
 pub struct Kept {
     pub answer: Answer,
     pub state: Receiving,
 }
 
 // What a call that reads answers; the nonce belongs to an opening question, and is zeros else.
-#[derive(Drop)]
+#[derive(Clone, Copy)]
 pub struct Read {
     pub reading: Reading,
     pub nonce: [u8; 12],

@@ -1,5 +1,6 @@
 // Record headers read, after record.rs, and the cut of a datagram into records, after `Records::parse_records` of
 // incoming.rs.
+#![tactic(auto)]
 ghost use Rattle.std.specs.Prelude.{◌≡◌, ◌+◌, ◌-◌, ◌≤◌, ◌<◌, length};
 ghost use Rattle.record.specs.Record.{
   header_length,
@@ -42,7 +43,7 @@ pub const APPLICATION_DATA: u8 = 23;
 
 pub const ACK: u8 = 26;
 
-#[derive(Drop)]
+#[derive(Clone, Copy)]
 pub struct Plaintext {
     pub content_type: u8,
     pub sequence_number: u64,
@@ -51,7 +52,7 @@ pub struct Plaintext {
 
 // A sealed record: the low bits of its epoch, whether its number has two bytes, these bytes as they lie, and how long header and
 // protected part are.
-#[derive(Drop)]
+#[derive(Clone, Copy)]
 pub struct Ciphertext {
     pub epoch_bits: u8,
     pub s_flag: bool,
@@ -61,7 +62,7 @@ pub struct Ciphertext {
 }
 
 // What begins the rest of a datagram.
-#[derive(Drop)]
+#[derive(Clone, Copy)]
 pub enum Parsed {
     // Nothing more, or a header with a connection ID: the datagram ends here.
     End,

@@ -1,5 +1,6 @@
 // The receive side of a link as a host calls it. The state is words that the host keeps and lends; a call changes them in place and
 // copies none of them. Whatever stands in them, a call ends with an answer.
+#![tactic(auto)]
 ghost use Rattle.std.specs.Prelude.{◌≡◌, ◌<◌, length, true};
 ghost use Rattle.incoming.specs.declared.Inner.TheVariants as Inner;
 ghost use Rattle.mask_reply.specs.Mask.{judged, masked_at, masked_by, mask_step};
@@ -50,7 +51,7 @@ use window::Verdict;
 //   7 the opening is asked for: epoch, number, nonce, where the record starts, how long its header and its protected part are.
 // Fields that a kind does not use are zeros.
 #[repr(C)]
-#[derive(Drop)]
+#[derive(Clone, Copy)]
 pub struct HuskReading {
     pub kind: u8,
     pub refusal: u8,
@@ -341,7 +342,7 @@ pub fn read(w: &mut [u64; WORDS], d: &[u8]) -> HuskReading
 // ---- the reply to a mask question
 
 // What the reply to a mask question says: the nonce in two words, the number still to be XORed onto the second.
-#[derive(Drop)]
+#[derive(Clone, Copy)]
 pub struct Reply {
     pub kind: u8,
     pub refusal: u8,

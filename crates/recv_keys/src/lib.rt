@@ -1,4 +1,5 @@
 // The epochs keyed to receive, after engine.rs: `RecvEpochEntry`; what resolving, keying and removing make of them is in specs/Keys.antt.
+#![tactic(auto)]
 ghost use Rattle.std.specs.Prelude.{◌≡◌, ◌≤◌};
 ghost use Rattle.window.specs.Used.{expected};
 ghost use Rattle.recv_keys.specs.Keys.{fits, or_else, app_one};
@@ -13,7 +14,7 @@ pub const APPS: usize = 4;
 pub const MOST_LEAST: u64 = 17;
 
 // The keys of an epoch: its number, its IV, and the window over the numbers received in it.
-#[derive(Drop)]
+#[derive(Clone, Copy)]
 pub struct RecvEpochEntry {
     pub epoch: u16,
     pub iv: [u8; 12],
@@ -22,7 +23,7 @@ pub struct RecvEpochEntry {
 
 // The epochs keyed to receive, in order of keying; the highest ever keyed; whether the peer encrypts and application data is
 // released; the least length of a protected part.
-#[derive(Drop)]
+#[derive(Clone, Copy)]
 pub struct RecvKeys {
     pub entries: [RecvEpochEntry; EPOCHS],
     pub count: usize,
@@ -33,7 +34,7 @@ pub struct RecvKeys {
 }
 
 // An index into the entries.
-#[derive(Drop)]
+#[derive(Clone, Copy)]
 pub enum Found {
     At(usize),
     Nothing,

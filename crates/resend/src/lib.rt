@@ -1,4 +1,5 @@
 // A flight sent again, after `flight_resend` of engine.rs: every saved record that is not acknowledged, under a new number.
+#![tactic(auto)]
 ghost use Rattle.std.specs.Prelude.{true, false, ◌≡◌, ◌+◌, ◌≤◌, ◌<◌, length};
 ghost use Rattle.std.proofs.Math.Dec as tests;
 ghost use Rattle.base.specs.Choose.{choose};
@@ -12,7 +13,7 @@ use queue::Tail;
 use record::{HANDSHAKE, LAST_NUMBER};
 use send_keys::SendAnswer;
 
-#[derive(Drop)]
+#[derive(Clone, Copy)]
 pub struct Resent {
     pub answer: SendAnswer,
     pub state: Sending,
@@ -20,7 +21,7 @@ pub struct Resent {
 }
 
 // The tests of a saved record, and whether all records pass each.
-#[derive(Drop)]
+#[derive(Clone, Copy)]
 pub struct Passed {
     pub usable: bool,
     pub allowed: bool,
@@ -29,7 +30,7 @@ pub struct Passed {
 }
 
 // A dry run: the queue's end, and how many numbers of each epoch are used.
-#[derive(Drop)]
+#[derive(Clone, Copy)]
 pub struct Survey {
     pub tail: Tail,
     pub plaintext: usize,

@@ -1,1 +1,2 @@
 // A flight is sent again wholly or not at all: laws alone.
+#![tactic(auto)]

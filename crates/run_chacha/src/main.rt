@@ -1,5 +1,6 @@
 // The vectors of RFC 8439, and that of RFC 9001, whose mask is made in the same way, run through the code; what they must give stands in the
 // file stdout. Of a block the sample holds the counter, its lowest byte first, and then the nonce.
+#![tactic(auto)]
 use chacha::Quad;
 
 fn line(text: &[u8]) {

@@ -2,6 +2,7 @@
 // What is expected stands in the file stdout. expected.py writes both files from the wording of 02, 2 and 7, and says what each letter means; none of
 // this code takes part.
 // The state is the words and the buffer that a host keeps, and the content of a record, which is laid piece by piece.
+#![tactic(auto)]
 use assembly_calls::HuskPiece;
 use assembly_steps::{COUNT, EXPECTED, HEADER_LENGTH, TOTAL, TYPE, WORDS};
 

@@ -2,6 +2,7 @@
 // expected stands in the file stdout, written from the Rust's answers and, where 02 changes them, from 02's rule (compare/README.md says
 // how, which lines these are, and what each letter means).
 // The state is the words that a host keeps, and each step is a call of recv_calls.
+#![tactic(auto)]
 use datagram::{Datagram, Question};
 use recv_calls::HuskReading;
 use recv_keys::Found;
@@ -196,7 +197,7 @@ fn mask_front(
 }
 
 // The protected part that an opening question names.
-#[derive(Drop)]
+#[derive(Clone, Copy)]
 struct Part {
     start: usize,
     length: usize,

@@ -1,6 +1,7 @@
 // Replays a recorded list of inputs through the leaves: one line of input, a letter and hex bytes, gives one line of output. What is
 // expected stands in the file stdout, written from the Rust's answers and, where 02 changes them, from 02's rule (compare/README.md says
 // how, which lines these are, and what each letter means).
+#![tactic(auto)]
 use handshake::{Header, ParsedHeader};
 use incoming::Inner;
 use record::Parsed;
@@ -69,7 +70,7 @@ fn flag(b: bool) -> u8 {
 }
 
 // What stands in an answer about a record: kind, content type, epoch bits, S flag, number, length of the header, length of the content.
-#[derive(Drop)]
+#[derive(Clone, Copy)]
 struct Summary {
     kind: u8,
     content_type: u8,

@@ -1,4 +1,5 @@
 // The worked rows of 01 and 02, run through the code; what they must give stands in the file stdout.
+#![tactic(auto)]
 use window::{ReplayWindow, Verdict};
 
 fn line(text: &[u8]) {

@@ -1,6 +1,7 @@
 // Replays histories of sending: one line of input, a letter and hex bytes, is one step and gives one line of output. What is
 // expected stands in the file stdout, written from the Rust's answers (compare/README.md says how, and what each letter means).
 // The state is the words that a host keeps, and each step is a call of send_calls, flight_calls or ack_calls.
+#![tactic(auto)]
 use flight::Entry;
 use send_calls::HuskSealing;
 use send_words::{

@@ -1,4 +1,5 @@
 // Sealings, asked of the host oldest first, after `create_ciphertext_record` of engine.rs.
+#![tactic(auto)]
 ghost use Rattle.std.specs.Prelude.{◌≡◌, ◌+◌, ◌-◌, ◌/◌, ◌≤◌, ◌<◌, length, get_or};
 ghost use Rattle.record.specs.Record.{parsed};
 ghost use Rattle.sealing.specs.Seek.{nth_of, beyond, passed, step_of};
@@ -15,7 +16,7 @@ const NUMBER_BEHIND: usize = TAG_BEHIND - 2;
 const LENGTH_AT: usize = PLAINTEXT_HEADER_LEN - 2;
 
 // A search for the next record that waits: whether it is over, the datagram and the offset that it has come to, what it found.
-#[derive(Drop)]
+#[derive(Clone, Copy)]
 pub struct Search {
     pub done: bool,
     pub datagram: usize,
@@ -24,7 +25,7 @@ pub struct Search {
 }
 
 // What the host is asked.
-#[derive(Drop)]
+#[derive(Clone, Copy)]
 pub enum SealQuestion {
     OutOfRange,
     // No record waits.
@@ -38,14 +39,14 @@ pub enum SealQuestion {
     },
 }
 
-#[derive(Drop)]
+#[derive(Clone, Copy)]
 pub struct Question {
     pub question: SealQuestion,
     pub nonce: [u8; 12],
     pub header: [u8; SEALED_HEADER_LEN],
 }
 
-#[derive(Drop)]
+#[derive(Clone, Copy)]
 pub enum SealAnswer {
     Done,
     OutOfRange,
@@ -53,7 +54,7 @@ pub enum SealAnswer {
     NoQuestion,
 }
 
-#[derive(Drop)]
+#[derive(Clone, Copy)]
 pub struct Reply {
     pub answer: SealAnswer,
     pub state: Sending,

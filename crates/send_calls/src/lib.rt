@@ -1,5 +1,6 @@
 // The sending side of a link as a host calls it. The state is words that the host keeps and lends, and the queue a buffer of its own.
 // Whatever stands in the words, a call ends with an answer.
+#![tactic(auto)]
 ghost use Rattle.std.specs.Prelude.{◌≡◌};
 ghost use Rattle.send_calls.specs.Calls.{
   flat_sealing,
@@ -24,7 +25,7 @@ use taking::TakeAnswer;
 // The sealing that is asked for, by kind: 0 refused by 12, 1 none waits, 2 a record's full epoch and number, nonce, header with its
 // number not masked, and the place in the queue of what is to be sealed.
 #[repr(C)]
-#[derive(Drop)]
+#[derive(Clone, Copy)]
 pub struct HuskSealing {
     pub kind: u8,
     pub refusal: u8,
@@ -39,7 +40,7 @@ pub struct HuskSealing {
 // A datagram taken, by kind: 0 refused by 12, 16 or 23, 1 the queue is empty, 2 a datagram of so many bytes. For 16 the length is
 // what is needed.
 #[repr(C)]
-#[derive(Drop)]
+#[derive(Clone, Copy)]
 pub struct HuskTake {
     pub kind: u8,
     pub refusal: u8,
@@ -49,7 +50,7 @@ pub struct HuskTake {
 // A datagram taken where it lies in the queue, by kind: 0 refused by 12 or 23, 1 the queue is empty, 2 a datagram of so many bytes from a
 // place of the queue on.
 #[repr(C)]
-#[derive(Drop)]
+#[derive(Clone, Copy)]
 pub struct HuskPart {
     pub kind: u8,
     pub refusal: u8,

@@ -1,9 +1,10 @@
 // The epochs to send in, after `Keys` of engine.rs: their IVs and the next numbers.
+#![tactic(auto)]
 ghost use Rattle.send_keys.specs.Answer.{is_done, refusal};
 ghost use Rattle.std.specs.Prelude.{◌≡◌};
 
 // A send epoch, 0 where none is keyed: its IV, its next number, and the number from which on its records may wait for their sealing.
-#[derive(Drop)]
+#[derive(Clone, Copy)]
 pub struct SendEpoch {
     pub epoch: u16,
     pub iv: [u8; 12],
@@ -12,7 +13,7 @@ pub struct SendEpoch {
 }
 
 // The next plaintext number, epoch 2, and the application epoch.
-#[derive(Drop)]
+#[derive(Clone, Copy)]
 pub struct SendKeys {
     pub plaintext_next: u64,
     pub handshake: SendEpoch,
@@ -20,7 +21,7 @@ pub struct SendKeys {
 }
 
 // What a call of the sending side answers. A call has those that its definition names.
-#[derive(Drop)]
+#[derive(Clone, Copy)]
 pub enum SendAnswer {
     Done,
     // A setting or a field out of its range, or a lent buffer too short.

@@ -1,5 +1,6 @@
 // What a host asks of its words without reading one: how much is saved and not acknowledged, how much is queued and waits to be sealed.
 // A call changes nothing.
+#![tactic(auto)]
 ghost use Rattle.std.specs.Prelude.{List, ◌≡◌, ℕ, ◌+◌, ◌-◌, ◌≤◌, min};
 ghost use Rattle.base.specs.Choose.{choose};
 ghost use Rattle.flight.specs.Status.{unmarked_after};
@@ -15,7 +16,7 @@ const MOST: u64 = 0xffff_ffff_ffff_ffff;
 
 // How many records are saved, and how many of them no ACK has named.
 #[repr(C)]
-#[derive(Drop)]
+#[derive(Clone, Copy)]
 pub struct HuskSaved {
     pub refusal: u8,
     pub saved: u8,
@@ -24,7 +25,7 @@ pub struct HuskSaved {
 
 // How many datagrams are queued, and how many records wait to be sealed.
 #[repr(C)]
-#[derive(Drop)]
+#[derive(Clone, Copy)]
 pub struct HuskQueued {
     pub refusal: u8,
     pub queued: u8,

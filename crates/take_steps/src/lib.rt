@@ -1,4 +1,5 @@
 // Taking the front datagram, over the words that hold the sending side's state.
+#![tactic(auto)]
 ghost use Rattle.std.specs.Prelude.{◌≡◌, ◌+◌, ◌-◌, ◌*◌, ◌≤◌, ◌<◌, length, get_or};
 ghost use Rattle.base.specs.Parts.{splice, part};
 ghost use Rattle.send_words.specs.Words.{first-at, count_at, state_of};
@@ -9,7 +10,7 @@ use send_words::{COUNT, FIRST, LIMIT, MTU, SEALING, SEALING_SLOT, WORDS};
 use taking::TakeAnswer;
 
 // What is answered, and the place in the queue of the datagram that is taken.
-#[derive(Drop)]
+#[derive(Clone, Copy)]
 pub struct Front {
     pub answer: TakeAnswer,
     pub start: usize,

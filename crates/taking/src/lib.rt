@@ -1,10 +1,11 @@
 // The front datagram, taken when it is wholly sealed, after `poll_packet_tx` of engine.rs.
+#![tactic(auto)]
 ghost use Rattle.std.specs.Prelude.{◌≡◌, ◌≤◌};
 ghost use Rattle.taking.specs.Take.{next_slot, is_taken};
 
 use outgoing::Sending;
 
-#[derive(Drop)]
+#[derive(Clone, Copy)]
 pub enum TakeAnswer {
     // A datagram of so many bytes.
     Taken(usize),
@@ -17,7 +18,7 @@ pub enum TakeAnswer {
     Short(usize),
 }
 
-#[derive(Drop)]
+#[derive(Clone, Copy)]
 pub struct Take {
     pub answer: TakeAnswer,
     pub state: Sending,

@@ -1,4 +1,5 @@
 // Why records of a receive history were left out (02, 8): 8-byte records on standard input, a line for each on standard output.
+#![tactic(auto)]
 use libc::{STDIN_FILENO, STDOUT_FILENO};
 use reason_steps::{INPUT_ROOM, LINES_ROOM};
 

@@ -1,4 +1,5 @@
 // The replay window, after window.rs.
+#![tactic(auto)]
 ghost use Rattle.std.specs.Prelude.{◌≡◌};
 ghost use Rattle.window.specs.Window.{unmarked, verdict, marking};
 
@@ -6,7 +7,7 @@ ghost use Rattle.window.specs.Window.{unmarked, verdict, marking};
 pub const WIDTH: u64 = 64;
 
 // A number was not used, was used, or is the width or more below the highest, used or not.
-#[derive(Drop)]
+#[derive(Clone, Copy)]
 pub enum Verdict {
     Fresh,
     Seen,
@@ -14,7 +15,7 @@ pub enum Verdict {
 }
 
 // The highest number marked, and the marks of it and the 63 below it: bit k is the mark of max_seq - k.
-#[derive(Drop)]
+#[derive(Clone, Copy)]
 pub struct ReplayWindow {
     pub max_seq: u64,
     pub window: u64,

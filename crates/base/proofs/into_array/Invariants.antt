@@ -1,0 +1,17 @@
+-- `base::into_array` meets its contract. The loop's invariant: the bytes passed are those of `src`, and the lengths are as they were. Assumes nothing.
+use Prim.Native.Nat.{ℕ, ◌-◌, ◌≤◌}
+use lib.ListN.{length, take, get_or, set, length-set}
+use lib.Seq.{take-suc-set, take-suc, take_all}
+use mathlib.Core.List.{List, [], ◌∷◌, ◌++◌}
+use mathlib.Core.Path.{◌≡◌, refl, sym, ap, ◌∙◌}
+use native.Mathlib.Numerals.{add-one}
+use native.Mathlib.Omega.{arith}
+use Rattle.base.specs.Parts.{most_moved}
+use Rattle.base.proofs.into_array.Given as goal
+
+-- `base::into_array` meets its contract. The loop's invariant: the bytes passed are those of `src`, and the lengths are as they were. Assumes nothing.
+abbrev pub invariant-loop-i : goal.invariant-loop-i
+invariant-loop-i l = (l.i ≤ length l.src) × (take l.i l.b ≡ take l.i l.src) × (length l.b ≡ most_moved)
+
+abbrev pub decreases-loop-i : goal.decreases-loop-i
+decreases-loop-i l = length l.src - l.i

@@ -1,0 +1,32 @@
+-- `ReplayWindow::check` meets its contract: what each verdict says holds where it is returned. Assumes nothing.
+use borrow.Author.Rules.{rules}
+use mathlib.Core.Path.{sym}
+use native.Mathlib.Omega.{arith}
+use Rattle.base.specs.Bits.{bit}
+use Rattle.window.specs.declared.Verdict.TheVariants.{Fresh, Seen}
+use Rattle.window.specs.Laws.{verdict-is}
+use Rattle.window.proofs.ReplayWindow.check.Goals as goal
+
+-- above the highest
+pub returns-then-top-seqno : goal.returns-then-top-seqno
+returns-then-top-seqno c = let above = c.if-top-seqno.true in sym ((verdict-is _ _ Fresh).1 (omega arith, λ marked. omega arith))
+
+-- the width or more below
+pub returns-then-offset-ge-WIDTH : goal.returns-then-offset-ge-WIDTH
+returns-then-offset-ge-WIDTH c = let far = c.if-offset-ge-WIDTH.true in sym ((verdict-is _ _ _).1 (omega arith))
+
+-- the mark is clear
+pub returns-then-self-offset-eq0 : goal.returns-then-self-offset-eq0
+unfolding bit
+returns-then-self-offset-eq0 c = let near = c.if-offset-ge-WIDTH.false in
+    let clear = c.if-self-offset-eq0.true in
+    sym ((verdict-is _ _ Fresh).1 (omega arith, λ marked. omega (arith, marked.2)))
+
+-- the mark is set
+pub returns : goal.returns
+unfolding bit
+returns c = let low = c.if-top-seqno.false in
+    let near = c.if-offset-ge-WIDTH.false in
+    let set = c.if-self-offset-eq0.false in
+    sym ((verdict-is _ _ Seen).1 (omega arith, omega arith, omega arith))
+
