@@ -1,8 +1,7 @@
 -- Big-endian integers (RFC 8446, section 3.3) and bytes XORed onto bytes, with their laws. Assumes nothing.
 use Rattle.std.specs.Prelude.{◌≡◌, refl, List, [], ◌∷◌, ◌++◌, ℕ, zero, suc, ◌+◌, ◌*◌, ◌/◌, ◌%◌, ◌^◌, ◌<◌, length, get_or}
-use Rattle.std.proofs.Common.{sym, ap, ◌∙◌, mod-eq_of_lt, add_assoc, add-mul, mul_assoc, pow-suc, add-one, arith, pow-add, get_or-append-add}
-use Rattle.std.proofs.Math.Nat.{pow-succ'}
-use Rattle.std.proofs.Math.Arith.{bin_ind, mod-mul}
+use Rattle.std.proofs.Common.{sym, ap, ◌∙◌, add_assoc, add-mul, mul_assoc, pow-suc, add-one, arith, pow-add, get_or-append-add}
+use Rattle.std.proofs.Math.Arith.{bin_ind}
 use Rattle.std.specs.Int.Bits.{bit_xor, differ, xor_step, xor_self}
 use Rattle.std.proofs.lemmas.Nat.{xor_comm}
 
@@ -65,7 +64,7 @@ be_at-add (suc a) b d i =
     ∙ ap (λ (y : ℕ). y + be_at b d (i + 1 + a)) (sym (add-mul (x * 256 ^ a) (be_at a d (i + 1)) (256 ^ b)))
     ∙ ap (λ (y : ℕ). (x * 256 ^ a + be_at a d (i + 1)) * 256 ^ b + be_at b d y) next
 
-pow_pos : (k : ℕ) → 0 < 256 ^ k
+pub pow_pos : (k : ℕ) → 0 < 256 ^ k
 pow_pos zero = omega arith
 pow_pos (suc k) = rw (pow-suc 256 k) (omega (arith, pow_pos k))
 
@@ -76,18 +75,6 @@ be_at-zero k d i e = (first (get_or d i 0) (omega arith), omega arith)
     first : (b : ℕ) → b * 256 ^ k ≡ 0 → b ≡ 0
     first zero z = refl
     first (suc b) z = absurd (omega (arith, pow_pos k))
-
--- the k bytes of n read back are n, but for what k bytes cannot hold
-pub be_at-be : (k n : ℕ) (r : List ℕ) → be_at k (be k n ++ r) 0 ≡ n % 256 ^ k
-be_at-be zero n r = omega arith
-be_at-be (suc k) n r =
-    ap (λ (x : ℕ). n / 256 ^ k % 256 * 256 ^ k + x) (be_at-cons k (n / 256 ^ k % 256) (be k n ++ r) 0 ∙ be_at-be k n r)
-    ∙ sym (mod-mul n (omega arith) (pow_pos k)) ∙ ap (λ (x : ℕ). n % x) (sym (pow-succ' 256 k))
-
--- two numbers that k bytes hold are equal if their bytes are
-pub be_injective : (k m n : ℕ) → m < 256 ^ k → n < 256 ^ k → be k m ≡ be k n → m ≡ n
-be_injective k m n hm hn e =
-    sym (mod-eq_of_lt hm) ∙ sym (be_at-be k m []) ∙ ap (λ (l : List ℕ). be_at k (l ++ []) 0) e ∙ be_at-be k n [] ∙ mod-eq_of_lt hn
 
 -- ---- XOR
 

@@ -2,7 +2,8 @@
 -- Assumes nothing.
 use Rattle.std.specs.Prelude.{List, ◌++◌, ◌≡◌, ℕ, ◌^◌, ◌<◌, length, take, drop}
 use Rattle.std.proofs.Common.{sym, ap, ◌∙◌, arith, length-append, length-take, drop_at, length-take-le}
-use Rattle.base.specs.Bytes.{be, xors, length-be, length-xors, be_injective, xors_injective}
+use Rattle.base.specs.Bytes.{be, xors, length-be, length-xors, xors_injective}
+use Rattle.base.proofs.Bytes.{be_injective}
 
 unfoldable pub nonce_of : List ℕ → ℕ → List ℕ
 nonce_of iv n = take 4 iv ++ xors iv 4 (be 8 n)

@@ -9,7 +9,8 @@ use Rattle.std.proofs.Math.Bool.{false}
 use mathlib.Core.List.{List, [], ◌∷◌, ◌++◌, append_assoc}
 use Rattle.std.proofs.Math.Path.{ap, subst}
 use native.Mathlib.Omega.{arith}
-use Rattle.base.specs.Bytes.{be_at, be_at-be}
+use Rattle.base.specs.Bytes.{be_at}
+use Rattle.base.proofs.Bytes.{be_at-be}
 use Rattle.base.specs.Choose.{by_test, test_cases, if_true, if_false}
 use Rattle.history_theorem.specs.Lists.{upd_same}
 use Rattle.ends_theorem.specs.Ledger.{Sent, Ledger, Going, last_size, lays, saves, saves_on, epoch_for, overhead, piece_size, piece_content, pieces, posted, message_number}

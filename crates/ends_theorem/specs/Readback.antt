@@ -1,7 +1,8 @@
 -- An ACK that the account sends reads back, by the account's own reading of ACKs, as exactly the records noted. Assumes nothing.
 use Rattle.std.specs.Prelude.{ℕ, suc, ◌+◌, ◌-◌, ◌*◌, ◌/◌, ◌%◌, ◌^◌, ◌<◌, ◌≤◌, length, List, [], ◌∷◌, ◌++◌, ◌≡◌, refl}
 use Rattle.std.proofs.Common.{eq-eqb, le-leb, length-append, append_assoc, append-nil, sym, ap, ◌∙◌, mod-eq_of_lt, arith}
-use Rattle.base.specs.Bytes.{be, be_at, be_at-be, be_at-behind}
+use Rattle.base.specs.Bytes.{be, be_at, be_at-behind}
+use Rattle.base.proofs.Bytes.{be_at-be}
 use Rattle.base.specs.Choose.{if_true, both_true}
 use Rattle.ends_theorem.specs.Ledger.{Name, is_formed, pairs_of, names_in, names_bytes, ack_bytes}
 

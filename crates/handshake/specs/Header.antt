@@ -1,6 +1,7 @@
 -- The 12-byte handshake header (RFC 9147, section 5.2): written, read, and read back. Assumes nothing.
 use Rattle.std.specs.Prelude.{List, [], ◌∷◌, ◌++◌, ◌≡◌, refl, ℕ, ◌%◌, ◌^◌, ltb, length, get_or}
-use Rattle.base.specs.Bytes.{be, be_at, be_at-be}
+use Rattle.base.specs.Bytes.{be, be_at}
+use Rattle.base.proofs.Bytes.{be_at-be}
 use Rattle.base.specs.Choose.{choose}
 use Rattle.handshake.specs.declared.Header.{Header}
 use Rattle.handshake.specs.declared.ParsedHeader.{ParsedHeader}

@@ -7,7 +7,8 @@ use native.Mathlib.Omega.{arith}
 use borrow.Author.Tests.{le-ltb, eq-eqb, ne_eqb, eqb-true}
 use Rattle.std.proofs.Math.ListN.{length, length-append}
 use Rattle.std.proofs.Math.Seq.{take-append_seam, drop-append_seam}
-use Rattle.base.specs.Bytes.{be, be_at, be_at-be}
+use Rattle.base.specs.Bytes.{be, be_at}
+use Rattle.base.proofs.Bytes.{be_at-be}
 use Rattle.base.specs.Choose.{both, either, if_true, if_false, by_test, by_less, test_cases, either-false}
 use Rattle.record.specs.declared.Ciphertext.{Ciphertext}
 use Rattle.record.specs.declared.Parsed.{Parsed}

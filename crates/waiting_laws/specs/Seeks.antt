@@ -8,7 +8,8 @@ use Rattle.std.proofs.Common.{sym, subst, ◌∙◌, mod-eq_of_lt, arith, length
 use Prim.Native.Nat.{ℕ, zero, suc, ◌+◌, ◌-◌, ◌*◌, ◌<◌, ◌≤◌}
 use Rattle.std.proofs.Math.ListN.{length}
 use borrow.Author.Tests.{le-leb, lt-leb}
-use Rattle.base.specs.Bytes.{be, be_at, be_at-be, be_at-behind}
+use Rattle.base.specs.Bytes.{be, be_at, be_at-behind}
+use Rattle.base.proofs.Bytes.{be_at-be}
 use Rattle.base.specs.Choose.{choose, either, test_cases, if_true, if_false, both_true}
 use Rattle.base.specs.Parts.{part}
 use Rattle.record.specs.declared.Parsed.{Parsed}
