@@ -1,0 +1,16 @@
+-- `recv_words::windows_sound` meets its contract. Invariant: the verdict on the entries that are left is the verdict on all. Assumes nothing.
+use borrow.Author.Rules.{rules}
+use mathlib.Core.Path.{◌≡◌, refl, sym, ap, ◌∙◌}
+use native.Mathlib.Omega.{arith}
+use Prim.Native.Nat.{◌-◌, ◌≤◌}
+use Rattle.recv_words.specs.Words.{entries_of}
+use Rattle.recv_keys.specs.Keys.{windows_sound}
+use Rattle.recv_keys.specs.Laws.{windows_in, windows-none, windows-out}
+use Rattle.recv_words.proofs.windows_sound.Given as goal
+
+abbrev pub invariant-loop-i : goal.invariant-loop-i
+invariant-loop-i l = (l.i ≤ 5) × (windows_sound (entries_of l.w) l.i ≡ windows_sound (entries_of l.w) l.count)
+
+abbrev pub decreases-loop-i : goal.decreases-loop-i
+decreases-loop-i l = l.i
+
