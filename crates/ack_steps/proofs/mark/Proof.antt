@@ -1,6 +1,5 @@
 -- `ack_steps::mark` meets its contract. Assumes nothing.
 use Rattle.ack_steps.specs.Steps.{marks-one}
-use mathlib.Core.Path.{ap, ◌∙◌}
 use borrow.Author.Rules.{rules}
 use Rattle.ack_steps.proofs.mark.Statement.{statement}
 use Rattle.ack_steps.proofs.mark.Tie as tie

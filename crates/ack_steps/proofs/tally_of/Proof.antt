@@ -1,6 +1,5 @@
 -- `ack_steps::tally_of` meets its contract. Assumes nothing.
 use Rattle.process_ack.specs.Ack.{tally_with}
-use mathlib.Core.Path.{subst}
 use native.Mathlib.Omega.{arith}
 use Prim.Native.Nat.{ℕ, ◌-◌, ◌≤◌}
 use mathlib.Core.List.{List}

@@ -4,7 +4,7 @@ use native.Mathlib.Nat.{div-one}
 use Rattle.base.specs.Parts.{lent}
 use Rattle.base.specs.Bytes.{be}
 use borrow.Rule.Slice.PartMut.{put_mid}
-use mathlib.Core.List.{[], ◌∷◌}
+use mathlib.Core.List.{◌∷◌}
 use Prim.Native.Nat.{◌/◌, ◌%◌}
 use mathlib.Core.Path.{◌≡◌}
 use borrow.Author.Rules.{rules}

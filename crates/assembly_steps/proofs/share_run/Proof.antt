@@ -1,6 +1,6 @@
 -- `assembly_steps::share_run` meets its contract. Assumes nothing.
 use borrow.Author.Rules.{rules}
-use mathlib.Core.Path.{sym, ap, ◌∙◌}
+use mathlib.Core.Path.{sym, ◌∙◌}
 use native.Mathlib.Omega.{arith}
 use Rattle.assembly.specs.Covering.{run-bare, run-same, run-other, by-ends}
 use Rattle.assembly_steps.proofs.share_run.Statement.{statement}

@@ -20,4 +20,3 @@ returns-then-length-lt16 c = sym (both_true (le-leb _ _ c.if-head-lt2.false) ∙
 pub returns : goal.returns
 unfolding ask_sound
 returns c = sym (both_true (le-leb _ _ c.if-head-lt2.false) ∙ both_true (le-leb _ _ c.if-room-head.false) ∙ both_true (le-leb _ _ c.if-length-lt16.false))
-

@@ -1,5 +1,4 @@
 -- `records::count` meets its contract. Assumes nothing.
-use borrow.Author.Rules.{rules}
 use borrow.Author.Tests.{le-leb, lt-leb}
 use mathlib.Core.Path.{◌∙◌, sym}
 use Rattle.base.specs.Choose.{if_false, if_true}
@@ -13,4 +12,3 @@ returns-then-n-ge16 c = c.end.ensures ∙ sym (if_true _ _ (le-leb _ _ c.if-n-ge
 pub returns : goal.returns
 unfolding counted
 returns c = rw c.move_to.ensures at c.tell.ensures ∙ sym (if_false _ _ (lt-leb _ _ c.if-n-ge16.false))
-

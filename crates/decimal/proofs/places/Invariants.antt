@@ -1,11 +1,7 @@
 -- `decimal::places` meets its contract. The loop's invariant: the digits counted and those of the rest are all. Assumes nothing.
-use Prim.Native.Nat.{ℕ, suc, ◌+◌, ◌-◌, ◌^◌, ◌<◌, ◌≤◌}
-use mathlib.Core.Logic.{⊎_elim}
-use mathlib.Core.Path.{◌≡◌, refl, ap, ◌∙◌}
-use native.Mathlib.Omega.{arith}
-use Rattle.base.specs.Choose.{lt-or_ge}
+use Prim.Native.Nat.{◌+◌, ◌-◌, ◌^◌, ◌<◌, ◌≤◌}
+use mathlib.Core.Path.{◌≡◌}
 use Rattle.decimal.specs.Decimal.{places_up_to, places_of}
-use Rattle.decimal.specs.Laws.{tenth, places_last, places_next}
 use Rattle.decimal.proofs.places.Given as goal
 
 abbrev pub invariant-loop-rest : goal.invariant-loop-rest
@@ -13,4 +9,3 @@ invariant-loop-rest l = (0 < l.k) × (l.k ≤ 20) × (l.rest < 10 ^ (21 - l.k)) 
 
 abbrev pub decreases-loop-rest : goal.decreases-loop-rest
 decreases-loop-rest l = l.rest
-

@@ -5,11 +5,6 @@ use Rattle.flight_calls.specs.Calls.{saves}
 use borrow.Author.Rules.{rules}
 use Rattle.flight_calls.proofs.create_handshake.Statement.{statement}
 use Rattle.flight_calls.proofs.create_handshake.Tie as tie
-use Rattle.flight_calls.proofs.create_handshake.Reads as reads
-use Rattle.flight_calls.proofs.create_handshake.Lts as lts
-use Rattle.flight_words.proofs.is_flat.Reads as is-flat-reads
-use Rattle.message_steps.proofs.create_handshake.Reads as create-handshake-reads
-use Rattle.send_words.proofs.is_flat.Reads as is-flat-reads'
 
 -- src/lib.rt:61:8
 is-flat-requires : tie.Need-is-flat-requires

@@ -1,7 +1,6 @@
 -- `flight_calls::fresh` meets its contract. Assumes nothing.
 use Rattle.flight_calls.proofs.fresh.Statement.{statement}
 use Rattle.flight_calls.specs.Calls.{starts}
-use borrow.Author.Rules.{rules}
 use Rattle.flight_calls.proofs.fresh.Tie as tie
 
 returns : tie.Need-returns

@@ -5,11 +5,6 @@ use Rattle.flight_calls.specs.Calls.{saves}
 use borrow.Author.Rules.{rules}
 use Rattle.flight_calls.proofs.send_saved.Statement.{statement}
 use Rattle.flight_calls.proofs.send_saved.Tie as tie
-use Rattle.flight_calls.proofs.send_saved.Reads as reads
-use Rattle.flight_calls.proofs.send_saved.Lts as lts
-use Rattle.flight_words.proofs.is_flat.Reads as is-flat-reads
-use Rattle.save_steps.proofs.send_saved.Reads as send-saved-reads
-use Rattle.send_words.proofs.is_flat.Reads as is-flat-reads'
 
 -- src/lib.rt:61:8
 is-flat-requires : tie.Need-is-flat-requires

@@ -1,6 +1,6 @@
 -- `flight_words::is_flat` meets its contract. Invariant: the verdict on the entries that are left is the verdict on all. Assumes nothing.
 use Rattle.flight_words.proofs.is_flat.Statement.{statement}
-use mathlib.Core.Path.{◌≡◌, refl, sym, ap, ◌∙◌}
+use mathlib.Core.Path.{◌≡◌, refl, sym, ◌∙◌}
 use native.Mathlib.Omega.{arith}
 use Prim.Native.Nat.{◌-◌, ◌≤◌}
 use Rattle.flight_words.specs.Words.{flat_to}

@@ -1,12 +1,7 @@
 -- `mask_keys::copy_key` meets its contract. The loop's invariant: the bytes passed are those of `s`, and the length is that of a key. Assumes nothing.
-use Prim.Native.Nat.{ℕ, ◌-◌, ◌≤◌}
-use borrow.Author.Rules.{rules}
-use lib.ListN.{length, take, get_or, set, length-set}
-use lib.Seq.{take-suc-set, take-suc, take_all}
-use mathlib.Core.List.{List, [], ◌∷◌, ◌++◌}
-use mathlib.Core.Path.{◌≡◌, refl, sym, ap, ◌∙◌}
-use native.Mathlib.Numerals.{add-one}
-use native.Mathlib.Omega.{arith}
+use Prim.Native.Nat.{◌-◌, ◌≤◌}
+use lib.ListN.{length, take}
+use mathlib.Core.Path.{◌≡◌}
 use Rattle.mask_keys.specs.Keys.{key_size}
 use Rattle.mask_keys.proofs.copy_key.Given as goal
 
@@ -15,4 +10,3 @@ invariant-loop-i l = (l.i ≤ key_size) × (take l.i l.key ≡ take l.i l.s) × 
 
 abbrev pub decreases-loop-i : goal.decreases-loop-i
 decreases-loop-i l = key_size - l.i
-

@@ -1,12 +1,11 @@
 -- `mask_keys::fill` meets its contract. Assumes nothing.
-use mathlib.Core.List.{[], ◌∷◌}
+use mathlib.Core.List.{◌∷◌}
 use mathlib.Core.Path.{refl, ap, ◌∙◌}
 use Prim.Native.Nat.{◌+◌}
 use native.Mathlib.Omega.{arith}
 use lib.ListN.{length, set, length-set}
 use Rattle.base.specs.Parts.{splice, lent, stored, length-splice, splice-next}
 use Rattle.mask_keys.specs.Keys.{key_size, slot_at}
-use borrow.Author.Rules.{rules}
 use Rattle.mask_keys.proofs.fill.Goals as goal
 
 pub slice_bounds-move_bytes-end : goal.slice_bounds-move_bytes-end
@@ -17,4 +16,3 @@ returns c = let a = c.args in let at = slot_at a.i in let k = a.k.now in rw c.mo
 
 pub shape_of-k : goal.shape_of-k
 shape_of-k c = let a = c.args in ap length (returns c) ∙ length-splice (slot_at a.i) (1 ∷ a.key.now) a.k.now (omega arith)
-

@@ -1,12 +1,10 @@
 -- `mask_keys::key_at` meets its contract. Assumes nothing.
 use mathlib.Core.Path.{ap, ◌∙◌}
-use mathlib.Core.List.{List}
-use Prim.Native.Nat.{ℕ, ◌+◌}
+use Prim.Native.Nat.{◌+◌}
 use native.Mathlib.Omega.{arith}
 use lib.ListN.{length}
 use Rattle.base.specs.Parts.{length_part}
 use Rattle.mask_keys.specs.Keys.{key_size, slot_at, key_at}
-use borrow.Author.Rules.{rules}
 use Rattle.mask_keys.proofs.key_at.Goals as goal
 
 pub copy_key-requires : goal.copy_key-requires
@@ -16,4 +14,3 @@ copy_key-requires c = let a = c.args in
 pub returns : goal.returns
 unfolding key_at
 returns c = c.copy_key.ensures ∙ c.fragment.ensures
-

@@ -3,9 +3,7 @@ use mathlib.Core.Path.{◌∙◌}
 use Rattle.base.specs.Parts.{part}
 use Rattle.chacha.specs.Laws.{mask-same}
 use Rattle.mask_keys.specs.Keys.{sample_size}
-use borrow.Author.Rules.{rules}
 use Rattle.mask_keys.proofs.mask_at.Goals as goal
 
 pub returns : goal.returns
 returns c = let a = c.args in rw (← c.key_at.ensures) (c.mask.ensures ∙ mask-same _ _ (part a.at sample_size a.d.now) c.sample_at.ensures)
-

@@ -1,9 +1,7 @@
 -- `mask_keys::move_up` meets its contract. The loop's invariant: the bytes before `j` are moved up, the others as they were. Assumes nothing.
-use Prim.Native.Nat.{◌-◌, ◌≤◌}
-use borrow.Author.Rules.{rules}
+use Prim.Native.Nat.{◌-◌}
 use native.Mathlib.Omega.{arith}
-use lib.ListN.{length}
-use Rattle.mask_keys.specs.Laws.{Moving, moving_none, moving_next, moving_all}
+use Rattle.mask_keys.specs.Laws.{moving_none, moving_next, moving_all}
 use Rattle.mask_keys.proofs.move_up.Goals as goal
 
 pub loop-j-init : goal.loop-j-init
@@ -17,4 +15,3 @@ shape_of-k c = c.loop-j.invariant.1.1
 
 pub returns : goal.returns
 returns c = let l = c.loop-j in let a = c.args in (l.invariant.1.1, moving_all a.i l.j l.k a.k.now (omega arith) l.invariant.1)
-

@@ -1,10 +1,9 @@
 -- `mask_keys::sample_at` meets its contract. The loop's invariant: the bytes before `i` are those of the part, the others 0. Assumes nothing.
 use Rattle.mask_keys.specs.Keys.{sample_size}
 use Prim.Native.Nat.{◌-◌}
-use borrow.Author.Rules.{rules}
 use native.Mathlib.Omega.{arith}
-use lib.ListN.{length, drop, length-take}
-use Rattle.mask_keys.specs.Laws.{Sampled, sampled_none, sampled_next, sampled_all}
+use lib.ListN.{drop, length-take}
+use Rattle.mask_keys.specs.Laws.{sampled_none, sampled_next, sampled_all}
 use Rattle.mask_keys.proofs.sample_at.Goals as goal
 
 pub loop-i-init : goal.loop-i-init
@@ -15,4 +14,3 @@ loop-i-preserved c = let l = c.loop-i in sampled_next c.fragment-s.result.now l.
 
 pub returns : goal.returns
 returns c = rw (← c.fragment-s.ensures) (sampled_all c.fragment-s.result.now c.loop-i.sample c.loop-i.i (omega arith) c.loop-i.invariant)
-

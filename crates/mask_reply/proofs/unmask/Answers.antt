@@ -1,5 +1,4 @@
 -- `replies::unmask` meets its contract: bytes stored one by one are the mask's bytes written over the number's. Assumes nothing.
-use borrow.Author.Rules.{rules}
 use Rattle.mask_reply.specs.Leads.{one-stored, two-stored}
 use Rattle.mask_reply.proofs.unmask.Goals as goal
 
@@ -8,4 +7,3 @@ returns-then-s_flag c = rw c.if-s_flag.true (two-stored _ _ _ c.requires.0)
 
 pub returns : goal.returns
 returns c = rw c.if-s_flag.false (one-stored _ _ _ c.requires.0)
-

@@ -9,12 +9,6 @@ use Rattle.message_steps.specs.Create.{creates_all, creates_nothing}
 use borrow.Author.Rules.{rules}
 use Rattle.message_steps.proofs.create_handshake.Statement.{statement}
 use Rattle.message_steps.proofs.create_handshake.Tie as tie
-use Rattle.message_steps.proofs.create_handshake.Reads as reads
-use Rattle.message_steps.proofs.create_handshake.Lts as lts
-use Rattle.message_steps.proofs.message_answer.Reads as message-answer-reads
-use Rattle.message_steps.proofs.put_message.Reads as put-message-reads
-use Rattle.message_steps.proofs.send_all.Reads as send-all-reads
-use Rattle.send_keys.proofs.is_done.Reads as is-done-reads
 
 -- src/lib.rt:146:15
 element-copy-out-seq : tie.Need-element-copy-out-seq

@@ -9,15 +9,6 @@ use Rattle.send_words.specs.Words.{state_of}
 use borrow.Author.Rules.{rules}
 use Rattle.message_steps.proofs.message_answer.Statement.{statement}
 use Rattle.message_steps.proofs.message_answer.Tie as tie
-use Rattle.message_steps.proofs.message_answer.Reads as reads
-use Rattle.message_steps.proofs.message_answer.Lts as lts
-use Rattle.flight.proofs.has_room.Reads as has-room-reads
-use Rattle.message_steps.proofs.plan_of.Reads as plan-of-reads
-use Rattle.messages.proofs.epoch_of.Reads as epoch-of-reads
-use Rattle.messages.proofs.plan_answer.Reads as plan-answer-reads
-use Rattle.send_steps.proofs.is_keyed.Reads as is-keyed-reads
-use Rattle.send_steps.proofs.is_ready.Reads as is-ready-reads
-use Rattle.send_steps.proofs.next_of.Reads as next-of-reads
 
 -- src/lib.rt:45:9
 epoch-of-requires : tie.Need-epoch-of-requires

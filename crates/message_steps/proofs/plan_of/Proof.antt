@@ -9,11 +9,6 @@ use Rattle.send_words.specs.Words.{state_of}
 use borrow.Author.Rules.{rules}
 use Rattle.message_steps.proofs.plan_of.Statement.{statement}
 use Rattle.message_steps.proofs.plan_of.Tie as tie
-use Rattle.message_steps.proofs.plan_of.Reads as reads
-use Rattle.message_steps.proofs.plan_of.Lts as lts
-use Rattle.messages.proofs.survey.Reads as survey-reads
-use Rattle.queue.proofs.record_len.Reads as record-len-reads
-use Rattle.send_steps.proofs.tail_of.Reads as tail-of-reads
 
 -- src/lib.rt:28:15
 tail-of-requires : tie.Need-tail-of-requires

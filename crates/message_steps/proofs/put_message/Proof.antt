@@ -4,9 +4,6 @@ use Rattle.message_steps.specs.Create.{message-put}
 use borrow.Author.Rules.{rules}
 use Rattle.message_steps.proofs.put_message.Statement.{statement}
 use Rattle.message_steps.proofs.put_message.Tie as tie
-use Rattle.message_steps.proofs.put_message.Reads as reads
-use Rattle.message_steps.proofs.put_message.Lts as lts
-use Rattle.send_words.proofs.sized.Reads as sized_Reads
 
 -- src/lib.rt:131:5
 sized-requires : tie.Need-sized-requires

@@ -4,24 +4,17 @@ use Prim.Native.Nat.{ℕ, ◌+◌, ◌-◌, ◌≤◌}
 use borrow.Author.Rules.{rules}
 use lib.ListN.{length}
 use mathlib.Core.Bool.{true}
-use mathlib.Core.List.{List, []}
-use mathlib.Core.Path.{◌≡◌, refl, sym, ap, ◌∙◌}
+use mathlib.Core.List.{List}
+use mathlib.Core.Path.{◌≡◌, refl, ◌∙◌}
 use native.Mathlib.Omega.{arith}
 use Rattle.messages.specs.Cut.{size-rest}
-use Rattle.messages.specs.Message.{Laid, Going, going_end, going_last, going_more}
+use Rattle.messages.specs.Message.{Going, going_end, going_last, going_more}
 use Rattle.queue.specs.Laid.{len_small}
 use Rattle.send_words.specs.Words.{state_of, is_flat}
 use Rattle.flight_words.specs.Words.{flat_to}
 use Rattle.message_steps.specs.Create.{laid_as, piece_is}
 use Rattle.message_steps.proofs.send_all.Statement.{statement}
 use Rattle.message_steps.proofs.send_all.Tie as tie
-use Rattle.message_steps.proofs.send_all.Reads as reads
-use Rattle.message_steps.proofs.send_all.Lts as lts
-use Rattle.message_steps.proofs.send_piece.Reads as send-piece-reads
-use Rattle.messages.proofs.epoch_of.Reads as epoch-of-reads
-use Rattle.messages.proofs.piece_size.Reads as piece-size-reads
-use Rattle.queue.proofs.record_len.Reads as record-len-reads
-use Rattle.send_steps.proofs.last_len.Reads as last-len-reads
 
 abbrev invariant-loop : tie.invariant-loop
 invariant-loop w₀ f₀ kind body memory₀ kept₀ over a₀ at₀ n₀ w f memory kept a at n =

@@ -1,5 +1,4 @@
 -- `replies::cancel_ask` meets its contract. Assumes nothing.
-use borrow.Author.Rules.{rules}
 use borrow.Author.Tests.{eq-eqb, ne_eqb}
 use mathlib.Core.Path.{sym}
 use Rattle.base.specs.Choose.{if_false, if_true}
@@ -13,4 +12,3 @@ returns-then-a-epoch c = sym (if_true _ _ (eq-eqb _ _ c.if-a-epoch.true))
 pub returns : goal.returns
 unfolding cancelled_ask
 returns c = sym (if_false _ _ (ne_eqb _ _ c.if-a-epoch.false))
-

@@ -1,11 +1,9 @@
 -- `recv_calls::begin_read` meets its contract. Assumes nothing.
-use borrow.Author.Rules.{rules}
 use borrow.Author.Tests.{lt-ltb}
-use mathlib.Core.Path.{◌≡◌, refl, sym, ap, ◌∙◌}
+use mathlib.Core.Path.{refl, sym, ◌∙◌}
 use Rattle.base.specs.Choose.{if_true, if_false}
 use Rattle.receiving.specs.Receiving.{begin_of}
 use Rattle.receiving.specs.declared.Answer.TheVariants as answers
-use Rattle.recv_steps.specs.Goes.{Goes}
 use Rattle.recv_calls.specs.Laws.{begun-sound, first-refused, first_read}
 use Rattle.recv_calls.proofs.begin_read.Goals as goal
 
@@ -28,4 +26,3 @@ returns-then-is_flat c = first-refused answers.Setting _ _ c.args.d.now c.told-t
 
 pub returns : goal.returns
 returns c = (c.told-2.ensures ∙ sym (if_false _ _ (sym c.is_flat.ensures ∙ c.if-is_flat.false)), sym (if_false _ _ (sym c.is_flat.ensures ∙ c.if-is_flat.false)), refl)
-

@@ -1,6 +1,4 @@
 -- `recv_calls::count` meets its contract. Assumes nothing.
-use borrow.Author.Rules.{rules}
-use mathlib.Core.Path.{◌≡◌, refl, sym, ap, ◌∙◌}
 use native.Mathlib.Omega.{arith}
 use Rattle.recv_calls.specs.Replies.{counts-over, counts}
 use Rattle.recv_calls.proofs.count.Goals as goal
@@ -16,4 +14,3 @@ overflow_add-start-2 c = rw c.ask_of-a.ensures (omega (arith, c.requires.1))
 
 pub returns : goal.returns
 returns c = counts _ _ _ _ _ c.requires.0 c.if-n-ge16.false (rw c.ask_of-a.ensures at c.shown.ensures) (rw c.ask_of-a.ensures at c.move_to-2.ensures)
-

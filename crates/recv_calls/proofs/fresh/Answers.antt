@@ -1,11 +1,7 @@
 -- `recv_calls::fresh` meets its contract. Assumes nothing.
-use borrow.Author.Rules.{rules}
-use mathlib.Core.Path.{◌≡◌, refl, sym, ap, ◌∙◌}
-use Rattle.base.specs.Choose.{if_true, if_false, both_true, both_false}
-use borrow.Author.Tests.{eq-eqb, ne_eqb, lt-leb, le-leb, lt-ltb, le-ltb}
+use Rattle.base.specs.Choose.{if_true, if_false}
+use borrow.Author.Tests.{lt-ltb, le-ltb}
 use Rattle.receiving.specs.Receiving.{fresh_of}
-use Rattle.receiving.specs.declared.Kept.{Kept}
-use Rattle.recv_calls.specs.Flat.{answer_of}
 use Rattle.recv_calls.specs.Laws.{starts_as}
 use Rattle.recv_calls.proofs.fresh.Goals as goal
 
@@ -16,4 +12,3 @@ returns-then-min_protected-gt-MOST_LEAST c = starts_as _ _ _ _ c.put_fresh.ensur
 pub returns : goal.returns
 unfolding fresh_of
 returns c = starts_as _ _ _ _ c.put_fresh.ensures (if_false _ _ (le-ltb _ _ c.if-min_protected-gt-MOST_LEAST.false))
-

@@ -1,5 +1,4 @@
 -- `recv_calls::judge` meets its contract: 8, then by the window's verdict. Assumes nothing.
-use borrow.Author.Rules.{rules}
 use mathlib.Core.Path.{sym, ◌∙◌}
 use Rattle.recv_calls.specs.Replies.{judged-high, judged-seen, judged-old, judged-fresh}
 use Rattle.recv_calls.proofs.judge.Goals as goal
@@ -21,4 +20,3 @@ pub returns-in-TooOld : goal.returns-in-TooOld
 returns-in-TooOld c = let start = c.requires in
     let verdict = sym (rw c.window_at-v.ensures at c.check.ensures) ∙ c.in-TooOld.is in
     judged-old _ _ _ _ _ start.0 start.1 c.if-number-gt281474976710655.false verdict c.leave-in-TooOld.ensures
-

@@ -1,7 +1,5 @@
 -- `recv_calls::mask` meets its contract. Assumes nothing.
-use borrow.Author.Rules.{rules}
 use Rattle.recv_calls.proofs.mask.Goals as goal
 
 pub returns : goal.returns
 returns c = rw c.lay.ensures c.reply_mask.ensures
-

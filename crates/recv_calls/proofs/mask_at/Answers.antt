@@ -1,5 +1,4 @@
 -- `recv_calls::mask_at` meets its contract. Assumes nothing.
-use borrow.Author.Rules.{rules}
 use native.Mathlib.Omega.{arith}
 use Rattle.mask_reply.specs.Mask.{masked_at}
 use Rattle.recv_keys.specs.Laws.{window-at}
@@ -18,4 +17,3 @@ judge-requires c = (omega (arith, (mask-ready c.requires.0).keys.count, c.requir
 pub returns : goal.returns
 unfolding masked_at
 returns c = (rw (c.number_at-number.ensures.0, c.window_at-v.ensures) at c.judge.ensures, c.number_at-number.ensures.1)
-

@@ -1,6 +1,5 @@
 -- `recv_calls::mask_by` meets its contract. Assumes nothing.
-use borrow.Author.Rules.{rules}
-use mathlib.Core.Path.{◌≡◌, refl, sym, ap, ◌∙◌}
+use mathlib.Core.Path.{refl, sym, ◌∙◌}
 use Rattle.mask_reply.specs.Mask.{masked_by}
 use Rattle.recv_keys.specs.Laws.{found-keyed}
 use Rattle.recv_calls.specs.Replies.{mask-ready}
@@ -19,4 +18,3 @@ returns-in-Nothing c = rw (sym (rw c.low-epoch.ensures at c.find_epoch-f.ensures
 pub returns-in-At : goal.returns-in-At
 unfolding masked_by
 returns-in-At c = rw (sym (rw c.low-epoch.ensures at c.find_epoch-f.ensures) ∙ c.in-At.is) c.mask_at.ensures
-

@@ -1,6 +1,5 @@
 -- `recv_calls::mask_step` meets its contract: 12, 15, then the reply to the question that waits. Assumes nothing.
-use borrow.Author.Rules.{rules}
-use mathlib.Core.Path.{◌≡◌, refl, sym, ap, ◌∙◌}
+use mathlib.Core.Path.{refl, sym, ◌∙◌}
 use Rattle.datagram.specs.declared.Reading.TheVariants as says
 use Rattle.mask_reply.specs.Leads.{mask-asks, mask-other, mask-out}
 use Rattle.mask_reply.specs.Mask.{masking}
@@ -22,4 +21,3 @@ returns-then-words_sound c = mask-refused _ _ _ _ says.Reply c.requires c.no_rep
 
 pub returns : goal.returns
 returns c = mask-refused _ _ _ _ says.Setting c.requires c.no_reply-2.ensures (mask-out _ _ _ _ (sym c.words_sound.ensures ∙ c.if-words_sound.false))
-

@@ -7,4 +7,3 @@ use Rattle.recv_calls.proofs.no_reply.Goals as goal
 pub returns : goal.returns
 unfolding nonce_of iv_of
 returns c = refl
-

@@ -1,6 +1,5 @@
 -- `recv_calls::open-by` meets its contract. Assumes nothing.
-use borrow.Author.Rules.{rules}
-use mathlib.Core.Path.{◌≡◌, refl, sym, ap, ◌∙◌}
+use mathlib.Core.Path.{refl, sym, ◌∙◌}
 use native.Mathlib.Omega.{arith}
 use Rattle.opening_reply.specs.Opening.{opened_by}
 use Rattle.recv_keys.specs.Laws.{found-keyed}
@@ -20,4 +19,3 @@ returns-in-Nothing c = rw (sym (rw c.low-epoch.ensures at c.find_epoch-f.ensures
 pub returns-in-At : goal.returns-in-At
 unfolding opened_by
 returns-in-At c = rw (sym (rw c.low-epoch.ensures at c.find_epoch-f.ensures) ∙ c.in-At.is) c.open_at.ensures
-

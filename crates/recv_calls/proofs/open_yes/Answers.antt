@@ -1,8 +1,7 @@
 -- `recv_calls::open_yes` meets its contract. Assumes nothing.
-use borrow.Author.Rules.{rules}
-use mathlib.Core.Path.{◌≡◌, refl, sym, ap, ◌∙◌}
+use mathlib.Core.Path.{◌∙◌}
 use native.Mathlib.Omega.{arith}
-use Rattle.recv_calls.specs.Replies.{open_ready, open_held, open_fits, marks-fit, yes_opens, yes_refused}
+use Rattle.recv_calls.specs.Replies.{open_held, open_fits, marks-fit, yes_opens, yes_refused}
 use Rattle.recv_calls.proofs.open_yes.Goals as goal
 
 pub overflow_sub-a : goal.overflow_sub-a
@@ -19,4 +18,3 @@ returns-then-length-a c = yes_opens _ _ _ _ _ _ _ _ (rw c.ask_of-a.ensures at c.
 
 pub returns : goal.returns
 returns c = yes_refused _ _ _ _ _ c.requires.0.flat (rw c.ask_of-a.ensures at c.if-length-a.false) c.told.ensures
-

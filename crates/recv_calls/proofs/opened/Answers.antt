@@ -1,6 +1,5 @@
 -- `recv_calls::opened` meets its contract. Assumes nothing.
-use borrow.Author.Rules.{rules}
-use mathlib.Core.Path.{◌≡◌, refl, sym, ap, ◌∙◌}
+use mathlib.Core.Path.{refl, sym, ◌∙◌}
 use Rattle.base.specs.Choose.{if_false, both_true, both_false}
 use borrow.Author.Tests.{lt-leb, le-leb}
 use Rattle.recv_calls.specs.Replies.{opens_as}
@@ -17,4 +16,3 @@ returns-then-is_flat c = opens_as _ _ c.args.w.now c.args.opened c.args.length c
 
 pub returns : goal.returns
 returns c = (c.told-2.ensures ∙ sym (if_false _ _ (both_true (le-leb _ _ c.if-opened-gt1.false) ∙ (sym c.is_flat.ensures ∙ c.if-is_flat.false))), sym (if_false _ _ (both_true (le-leb _ _ c.if-opened-gt1.false) ∙ (sym c.is_flat.ensures ∙ c.if-is_flat.false))), refl)
-

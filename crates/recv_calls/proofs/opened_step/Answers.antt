@@ -1,6 +1,5 @@
 -- `recv_calls::opened_step` meets its contract: 12, 15, then the reply to the question that waits. Assumes nothing.
-use borrow.Author.Rules.{rules}
-use mathlib.Core.Path.{◌≡◌, refl, sym, ap, subst, ◌∙◌}
+use mathlib.Core.Path.{refl, sym, subst, ◌∙◌}
 use Rattle.datagram.specs.declared.Reading.TheVariants as says
 use Rattle.opening_reply.specs.Leads.{opened-asks, opened-other, opened_out}
 use Rattle.opening_reply.specs.Opening.{openings}
@@ -22,4 +21,3 @@ returns-then-words_sound c = opened-refused _ _ _ says.Reply c.requires c.told-t
 
 pub returns : goal.returns
 returns c = opened-refused _ _ _ says.Setting c.requires c.told-2.ensures (opened_out _ _ _ _ (sym c.words_sound.ensures ∙ c.if-words_sound.false))
-

@@ -1,7 +1,6 @@
 -- `recv_calls::read` meets its contract. Assumes nothing.
-use borrow.Author.Rules.{rules}
-use mathlib.Core.Path.{◌≡◌, refl, sym, ap, ◌∙◌}
-use Rattle.base.specs.Choose.{if_true, if_false}
+use mathlib.Core.Path.{refl, sym, ap, ◌∙◌}
+use Rattle.base.specs.Choose.{if_false}
 use Rattle.datagram.specs.declared.Datagram.{Datagram}
 use Rattle.records.specs.Records.{read_step}
 use Rattle.recv_words.specs.Words.{keys_of}
@@ -29,4 +28,3 @@ returns-then-is_flat c = reads _ _ _ _ _ _ _ (sym c.is_flat.ensures ∙ c.if-is_
 
 pub returns : goal.returns
 returns c = (c.told.ensures ∙ sym (if_false _ _ (sym c.is_flat.ensures ∙ c.if-is_flat.false)), sym (if_false _ _ (sym c.is_flat.ensures ∙ c.if-is_flat.false)), refl)
-

@@ -1,6 +1,5 @@
 -- `recv_calls::read_on` meets its contract: no question waits, and the datagram is in range. Assumes nothing.
-use borrow.Author.Rules.{rules}
-use mathlib.Core.Path.{◌≡◌, refl, sym, ap, subst, ◌∙◌}
+use mathlib.Core.Path.{sym, subst, ◌∙◌}
 use native.Mathlib.Omega.{arith}
 use Rattle.datagram.specs.Sound.{ready}
 use Rattle.records.specs.Leads.{read-asks}
@@ -15,4 +14,3 @@ settle-requires c = c.requires.0
 
 pub returns : goal.returns
 returns c = let g = c.requires.1 in subst (Stepped _ _ _) (c.go_on-t.ensures ∙ sym (read-asks _ _ _ _ g.sound g.size g.idle)) c.settle.ensures
-

@@ -1,8 +1,7 @@
 -- `recv_calls::release_application_data` meets its contract. Assumes nothing.
-use Rattle.base.specs.Choose.{if_true, if_false, both_true, both_false}
+use Rattle.base.specs.Choose.{if_false}
 use Rattle.recv_calls.specs.Laws.{does}
-use borrow.Author.Rules.{rules}
-use mathlib.Core.Path.{◌≡◌, refl, sym, ap, ◌∙◌}
+use mathlib.Core.Path.{refl, sym, ◌∙◌}
 use Rattle.recv_calls.proofs.release_application_data.Goals as goal
 
 pub release-requires : goal.release-requires
@@ -13,4 +12,3 @@ returns-then-is_flat c = does _ _ _ _ _ (sym c.is_flat.ensures ∙ c.if-is_flat.
 
 pub returns : goal.returns
 returns c = (sym (if_false _ _ (sym c.is_flat.ensures ∙ c.if-is_flat.false)), sym (if_false _ _ (sym c.is_flat.ensures ∙ c.if-is_flat.false)), refl)
-

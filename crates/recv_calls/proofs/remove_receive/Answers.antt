@@ -1,5 +1,4 @@
 -- `recv_calls::remove_receive` meets its contract. Assumes nothing.
-use borrow.Author.Rules.{rules}
 use mathlib.Core.Path.{refl, sym, ◌∙◌}
 use Rattle.base.specs.Choose.{if_false}
 use Rattle.recv_calls.specs.Removed.{removes}
@@ -13,4 +12,3 @@ returns-then-is_flat c = removes _ _ _ _ _ (sym c.is_flat.ensures ∙ c.if-is_fl
 
 pub returns : goal.returns
 returns c = let z = sym c.is_flat.ensures ∙ c.if-is_flat.false in (c.told.ensures ∙ sym (if_false _ _ z), sym (if_false _ _ z), refl)
-

@@ -1,6 +1,5 @@
 -- `recv_calls::reply_mask` meets its contract. Assumes nothing.
-use borrow.Author.Rules.{rules}
-use mathlib.Core.Path.{◌≡◌, refl, sym, ap, ◌∙◌}
+use mathlib.Core.Path.{refl, sym, ◌∙◌}
 use Rattle.base.specs.Choose.{if_false}
 use Rattle.recv_calls.specs.Replies.{masks_as}
 use Rattle.recv_calls.proofs.reply_mask.Goals as goal
@@ -13,4 +12,3 @@ returns-then-is_flat c = masks_as _ _ c.args.w.now c.args.mask_0 c.args.mask_1 _
 
 pub returns : goal.returns
 returns c = ((c.no_reply.ensures ∙ sym (if_false _ _ (sym c.is_flat.ensures ∙ c.if-is_flat.false)), sym (if_false _ _ (sym c.is_flat.ensures ∙ c.if-is_flat.false)), refl), sym (if_false _ _ (sym c.is_flat.ensures ∙ c.if-is_flat.false)))
-

@@ -1,6 +1,4 @@
 -- `recv_calls::type_step` meets its contract. Assumes nothing.
-use borrow.Author.Rules.{rules}
-use mathlib.Core.Path.{◌≡◌, refl, sym, ap, ◌∙◌}
 use Rattle.opening_reply.specs.Opening.{typed}
 use Rattle.recv_calls.proofs.type_step.Goals as goal
 
@@ -11,4 +9,3 @@ returns-in-Nothing c = rw c.in-Nothing.is (c.told.ensures, c.skip.ensures.keys, 
 pub returns-in-Found : goal.returns-in-Found
 unfolding typed
 returns-in-Found c = rw c.in-Found.is c.count.ensures
-

@@ -1,9 +1,8 @@
 -- `recv_key_steps::begin` meets its contract. Assumes nothing.
 use Rattle.recv_words.specs.Laws.{put-keys, put-datagram, put-flat}
-use borrow.Author.Rules.{rules}
-use mathlib.Core.Path.{◌≡◌, refl, sym, ap, ◌∙◌}
-use Rattle.base.specs.Choose.{if_true, if_false, both_true, both_false}
-use borrow.Author.Tests.{eq-eqb, ne_eqb, lt-leb, le-leb, lt-ltb, le-ltb}
+use mathlib.Core.Path.{sym, ◌∙◌}
+use Rattle.base.specs.Choose.{if_true, if_false}
+use borrow.Author.Tests.{lt-ltb, le-ltb}
 use Rattle.receiving.specs.Receiving.{begin_of}
 use Rattle.recv_key_steps.specs.Kept.{as_kept, as_made}
 use Rattle.recv_key_steps.proofs.begin.Goals as goal
@@ -22,4 +21,3 @@ returns-then-is_sound c = let p = c.put_datagram.ensures in let z = c.sized.ensu
 pub returns : goal.returns
 unfolding begin_of
 returns c = as_kept _ _ _ (if_false _ _ (sym (rw c.datagram_of-b.ensures at c.is_sound.ensures) ∙ c.if-is_sound.false))
-

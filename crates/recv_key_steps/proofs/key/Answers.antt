@@ -1,10 +1,8 @@
 -- `recv_key_steps::key` meets its contract: 12, 13, 23, then the epoch keyed. Assumes nothing.
-use borrow.Author.Rules.{rules}
-use mathlib.Core.Path.{◌≡◌, refl, sym, ap, ◌∙◌}
-use Rattle.base.specs.Choose.{if_true, if_false, both_true, both_false}
-use borrow.Author.Tests.{eq-eqb, ne_eqb, lt-leb, le-leb, lt-ltb, le-ltb}
-use native.Mathlib.Omega.{arith}
-use Rattle.datagram.specs.Sound.{held-mask, held_open, ready}
+use mathlib.Core.Path.{refl, sym, ◌∙◌}
+use Rattle.base.specs.Choose.{if_true, if_false}
+use borrow.Author.Tests.{lt-leb, le-leb, lt-ltb, le-ltb}
+use Rattle.datagram.specs.Sound.{ready}
 use Rattle.recv_keys.specs.Laws.{not_full}
 use Rattle.receiving.specs.Receiving.{key_of}
 use Rattle.recv_key_steps.specs.Kept.{as_kept, as_made}
@@ -38,4 +36,3 @@ returns-then-is_sound c = as_made _ _ _ _ _ _ (if_true _ _ (sym (rw c.datagram_o
 pub returns : goal.returns
 unfolding key_of
 returns c = as_kept _ _ _ (if_false _ _ (sym (rw c.datagram_of-b.ensures at c.is_sound.ensures) ∙ c.if-is_sound.false))
-

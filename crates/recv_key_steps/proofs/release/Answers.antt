@@ -1,7 +1,6 @@
 -- `recv_key_steps::release` meets its contract. Assumes nothing.
-use borrow.Author.Rules.{rules}
-use mathlib.Core.Path.{◌≡◌, refl, sym, ap, ◌∙◌}
-use Rattle.base.specs.Choose.{if_true, if_false, both_true, both_false}
+use mathlib.Core.Path.{sym, ◌∙◌}
+use Rattle.base.specs.Choose.{if_true, if_false}
 use Rattle.receiving.specs.Receiving.{release_of}
 use Rattle.recv_key_steps.specs.Kept.{as_kept, as_made}
 use Rattle.recv_words.specs.Entries.{releases, release_flat}
@@ -17,4 +16,3 @@ returns-then-is_sound c = let z = c.sized.ensures in let f = c.requires in as_ma
 pub returns : goal.returns
 unfolding release_of
 returns c = as_kept _ _ _ (if_false _ _ (sym (rw c.datagram_of-b.ensures at c.is_sound.ensures) ∙ c.if-is_sound.false))
-

@@ -1,9 +1,8 @@
 -- `recv_key_steps::remove` meets its contract. Assumes nothing.
-use borrow.Author.Rules.{rules}
-use mathlib.Core.Path.{◌≡◌, refl, sym, ap, ◌∙◌}
-use Rattle.base.specs.Choose.{if_true, if_false, both_true, both_false}
+use mathlib.Core.Path.{sym, ap, ◌∙◌}
+use Rattle.base.specs.Choose.{if_true, if_false}
 use native.Mathlib.Omega.{arith}
-use Rattle.datagram.specs.Sound.{held-mask, held_open, ready}
+use Rattle.datagram.specs.Sound.{ready}
 use Rattle.recv_keys.specs.Laws.{found-keyed}
 use Rattle.recv_keys.specs.declared.Found.{Found}
 use Rattle.receiving.specs.Receiving.{remove_of, removed_by}
@@ -31,4 +30,3 @@ returns-in-At c = kept_by _ _ _ _ _ (if_true _ _ (sym (rw c.datagram_of-b.ensure
 pub returns : goal.returns
 unfolding remove_of
 returns c = as_kept _ _ _ (if_false _ _ (sym (rw c.datagram_of-b.ensures at c.is_sound.ensures) ∙ c.if-is_sound.false))
-

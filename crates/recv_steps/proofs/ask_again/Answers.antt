@@ -1,6 +1,5 @@
 -- `recv_steps::ask_again` meets its contract. Assumes nothing.
-use borrow.Author.Rules.{rules}
-use mathlib.Core.Path.{◌≡◌, refl, sym, ap, ◌∙◌}
+use mathlib.Core.Path.{sym, ◌∙◌}
 use native.Mathlib.Omega.{arith}
 use Rattle.recv_keys.specs.Laws.{found-keyed}
 use Rattle.records.specs.Records.{asked_again}
@@ -16,4 +15,3 @@ returns-in-Nothing c = rw (sym c.find_epoch-f.ensures ∙ c.in-Nothing.is) c.tel
 pub returns-in-At : goal.returns-in-At
 unfolding asked_again
 returns-in-At c = rw (sym c.find_epoch-f.ensures ∙ c.in-At.is) (rw c.entry_at.ensures at c.ask_opening.ensures)
-

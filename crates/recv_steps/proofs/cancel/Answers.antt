@@ -1,6 +1,5 @@
 -- `recv_steps::cancel` meets its contract, by cases on the question. Assumes nothing.
-use borrow.Author.Rules.{rules}
-use mathlib.Core.Path.{◌≡◌, refl, sym, ap, ◌∙◌}
+use mathlib.Core.Path.{sym, ap, ◌∙◌}
 use native.Mathlib.Omega.{arith}
 use Rattle.datagram.specs.Sound.{held-mask, held_open, ready}
 use Rattle.opening_reply.specs.Opening.{cancelled}
@@ -24,4 +23,3 @@ returns-in-Mask c = c.cancel_ask.ensures ∙ sym (ap (λ (x : Question). cancell
 pub returns-in-Opening : goal.returns-in-Opening
 unfolding cancelled
 returns-in-Opening c = c.cancel_ask-in-Opening.ensures ∙ sym (ap (λ (x : Question). cancelled x c.args.b c.args.epoch) c.in-Opening.is)
-

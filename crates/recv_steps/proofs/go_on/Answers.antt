@@ -1,5 +1,4 @@
 -- `recv_steps::go_on` meets its contract. Assumes nothing.
-use borrow.Author.Rules.{rules}
 use lib.ListN.{length-drop}
 use native.Mathlib.Omega.{arith}
 use Rattle.records.specs.Records.{asking}
@@ -11,4 +10,3 @@ one_record-requires c = (c.requires.0, rw c.behind.ensures (simp length-drop (om
 pub returns : goal.returns
 unfolding asking
 returns c = rw c.behind.ensures at c.one_record.ensures
-

@@ -1,7 +1,6 @@
 -- `recv_steps::goes_on` meets its contract. Assumes nothing.
-use borrow.Author.Rules.{rules}
 use borrow.Author.Tests.{eq-eqb, ne_eqb}
-use mathlib.Core.Path.{◌≡◌, refl, sym, ap, ◌∙◌}
+use mathlib.Core.Path.{sym, ap, ◌∙◌}
 use Rattle.base.specs.Choose.{both_true, both_false}
 use Rattle.recv_steps.specs.Goes.{is_idle, goes_on}
 use Rattle.recv_steps.proofs.goes_on.Goals as goal
@@ -28,4 +27,3 @@ returns-then-is_sound c = sym (both_true (sym c.is_sound.ensures ∙ c.if-is_sou
 pub returns : goal.returns
 unfolding goes_on
 returns c = sym (both_false _ (sym c.is_sound.ensures ∙ c.if-is_sound.false))
-

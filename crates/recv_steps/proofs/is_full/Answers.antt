@@ -1,8 +1,7 @@
 -- `recv_steps::is_full` meets its contract. Assumes nothing.
-use borrow.Author.Rules.{rules}
-use mathlib.Core.Path.{◌≡◌, refl, sym, ap, ◌∙◌}
-use Rattle.base.specs.Choose.{if_true, if_false, both_true, both_false}
-use borrow.Author.Tests.{eq-eqb, ne_eqb, lt-leb, le-leb, lt-ltb, le-ltb}
+use mathlib.Core.Path.{sym, ◌∙◌}
+use Rattle.base.specs.Choose.{if_true, if_false}
+use borrow.Author.Tests.{lt-leb, le-leb}
 use Rattle.recv_keys.specs.Keys.{is_full}
 use Rattle.recv_steps.proofs.is_full.Goals as goal
 
@@ -17,4 +16,3 @@ returns-then-epoch-ge3 c = rw c.count_apps.ensures (sym (if_false _ _ (lt-leb _ 
 pub returns : goal.returns
 unfolding is_full
 returns c = sym (if_false _ _ (lt-leb _ _ c.if-count-ge-EPOCHS.false) ∙ if_false _ _ (lt-leb _ _ c.if-epoch-ge3.false))
-

@@ -1,8 +1,7 @@
 -- `recv_steps::locked_step` meets its contract, by what the epoch bits resolve to. Assumes nothing.
-use borrow.Author.Rules.{rules}
-use mathlib.Core.Path.{◌≡◌, refl, sym, ap, ◌∙◌}
-use Rattle.base.specs.Choose.{if_true, if_false, both_true, both_false}
-use borrow.Author.Tests.{eq-eqb, ne_eqb, lt-leb, le-leb, lt-ltb, le-ltb}
+use mathlib.Core.Path.{sym, ◌∙◌}
+use Rattle.base.specs.Choose.{if_true, if_false}
+use borrow.Author.Tests.{lt-ltb, le-ltb}
 use native.Mathlib.Omega.{arith}
 use Rattle.recv_keys.specs.Laws.{resolve-keyed}
 use Rattle.records.specs.Records.{locked_step}
@@ -26,4 +25,3 @@ returns-in-Nothing c = rw (sym c.resolve_epoch-f.ensures ∙ c.in-Nothing.is) c.
 pub returns-else-length-w : goal.returns-else-length-w
 unfolding locked_step
 returns-else-length-w c = rw (sym c.resolve_epoch-f.ensures ∙ c.in-At.is) (rw c.epoch_at.ensures at c.ask_mask.ensures ∙ sym (if_false _ _ (le-ltb _ _ c.if-length-lt16.false) ∙ if_false _ _ (le-ltb _ _ c.if-length-w.false)))
-

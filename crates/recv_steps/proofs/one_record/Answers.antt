@@ -1,5 +1,4 @@
 -- `recv_steps::one_record` meets its contract, by what begins the slice. Assumes nothing.
-use borrow.Author.Rules.{rules}
 use mathlib.Core.Path.{◌∙◌, sym}
 use native.Mathlib.Omega.{arith}
 use Rattle.record.specs.Laws.{inside}
@@ -34,4 +33,3 @@ returns-in-Plaintext c = rw (sym c.parse-p.ensures ∙ c.in-Plaintext.is) c.coun
 pub returns-in-Ciphertext : goal.returns-in-Ciphertext
 unfolding step_of
 returns-in-Ciphertext c = rw (sym c.parse-p.ensures ∙ c.in-Ciphertext.is) c.sealed_step.ensures
-

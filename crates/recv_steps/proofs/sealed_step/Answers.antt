@@ -1,8 +1,7 @@
 -- `recv_steps::sealed_step` meets its contract. Assumes nothing.
-use borrow.Author.Rules.{rules}
-use mathlib.Core.Path.{◌≡◌, refl, sym, ap, ◌∙◌}
-use Rattle.base.specs.Choose.{if_true, if_false, both_true, both_false}
-use borrow.Author.Tests.{eq-eqb, ne_eqb, lt-leb, le-leb, lt-ltb, le-ltb}
+use mathlib.Core.Path.{sym, ◌∙◌}
+use Rattle.base.specs.Choose.{if_true, if_false}
+use borrow.Author.Tests.{eq-eqb, ne_eqb, lt-ltb, le-ltb}
 use Rattle.records.specs.Records.{sealed_step}
 use Rattle.recv_steps.proofs.sealed_step.Goals as goal
 
@@ -17,4 +16,3 @@ returns-then-bits-lt2 c = c.pass.ensures ∙ sym (if_false _ _ (ne_eqb _ _ c.if-
 pub returns : goal.returns
 unfolding sealed_step
 returns c = c.count.ensures ∙ sym (if_false _ _ (ne_eqb _ _ c.if-w-eq1.false) ∙ if_false _ _ (le-ltb _ _ c.if-bits-lt2.false))
-

@@ -1,11 +1,9 @@
 -- `recv_steps::wait_step` meets its contract: 12, 15, then the question that waits. Assumes nothing.
-use borrow.Author.Rules.{rules}
 use mathlib.Core.Path.{◌∙◌, sym}
 use native.Mathlib.Omega.{arith}
 use Rattle.datagram.specs.Sound.{held-mask, ready}
 use Rattle.records.specs.Leads.{read-asks, read-other, read-out}
 use Rattle.records.specs.Records.{asking}
-use Rattle.recv_steps.specs.Goes.{Goes}
 use Rattle.recv_steps.proofs.wait_step.Goals as goal
 
 pub is_sound-requires : goal.is_sound-requires
@@ -35,4 +33,3 @@ returns-then-is_sound c = c.tell-then-is_sound.ensures ∙ sym (read-other _ _ _
 pub returns : goal.returns
 unfolding asking
 returns c = c.tell-2.ensures ∙ sym (read-out _ _ _ (sym c.is_sound.ensures ∙ c.if-is_sound.false))
-

@@ -1,7 +1,6 @@
 -- `recv_words::apps_fit` meets its contract: no more application epochs than epochs. Assumes nothing.
-use borrow.Author.Rules.{rules}
 use borrow.Author.Tests.{le-leb}
-use mathlib.Core.Path.{sym, ap}
+use mathlib.Core.Path.{sym}
 use native.Mathlib.Omega.{arith}
 use Rattle.recv_keys.specs.Keeps.{apps-le}
 use Rattle.recv_keys.specs.Keys.{apps}
@@ -13,4 +12,3 @@ returns-then-count-le-APPS c = sym (le-leb (apps (entries_of c.args.w.now) c.arg
 
 pub returns : goal.returns
 returns c = rw c.count_apps.ensures
-

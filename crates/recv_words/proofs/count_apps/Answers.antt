@@ -1,10 +1,6 @@
 -- `recv_words::count_apps` meets its contract. Invariant: the count is that of the entries passed. Assumes nothing.
-use borrow.Author.Rules.{rules}
-use mathlib.Core.Path.{◌≡◌, refl, sym, ap, ◌∙◌}
 use native.Mathlib.Omega.{arith}
-use Prim.Native.Nat.{◌-◌, ◌≤◌}
-use Rattle.recv_words.specs.Words.{entries_of}
-use Rattle.recv_keys.specs.Keys.{apps}
+use Prim.Native.Nat.{◌-◌}
 use Rattle.recv_keys.specs.Laws.{apps-all, apps-more, apps-none}
 use Rattle.recv_words.proofs.count_apps.Goals as goal
 
@@ -19,4 +15,3 @@ loop-i-preserved c = (omega arith, omega (arith, c.app_one-n.ensures.1), rw (rw 
 
 pub returns : goal.returns
 returns c = apps-all _ _ _ _ c.loop-i.invariant.2 (omega arith)
-

@@ -1,8 +1,7 @@
 -- `recv_words::epoch_two` meets its contract. Assumes nothing.
-use borrow.Author.Rules.{rules}
-use mathlib.Core.Path.{◌≡◌, refl, sym, ap, ◌∙◌}
-use Rattle.base.specs.Choose.{if_true, if_false, both_true, both_false}
-use borrow.Author.Tests.{eq-eqb, ne_eqb, lt-leb, le-leb}
+use mathlib.Core.Path.{sym, ap, ◌∙◌}
+use Rattle.base.specs.Choose.{if_true, if_false}
+use borrow.Author.Tests.{eq-eqb, ne_eqb}
 use Rattle.recv_keys.specs.Keys.{find, two}
 use Rattle.recv_words.specs.Words.{entries_of}
 use Rattle.recv_words.proofs.epoch_two.Goals as goal
@@ -14,4 +13,3 @@ returns-then-bits-eq2 c = c.find_epoch.ensures ∙ ap (find (entries_of c.args.w
 pub returns : goal.returns
 unfolding two
 returns c = sym (if_false _ _ (ne_eqb _ _ c.if-bits-eq2.false))
-

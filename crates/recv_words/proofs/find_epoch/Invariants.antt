@@ -1,11 +1,8 @@
 -- `recv_words::find_epoch` meets its contract. Invariant: the answer for the entries that are left is the answer for all. Assumes nothing.
-use borrow.Author.Rules.{rules}
-use mathlib.Core.Path.{◌≡◌, refl, sym, ap, ◌∙◌}
-use native.Mathlib.Omega.{arith}
+use mathlib.Core.Path.{◌≡◌}
 use Prim.Native.Nat.{◌-◌, ◌≤◌}
 use Rattle.recv_words.specs.Words.{entries_of}
 use Rattle.recv_keys.specs.Keys.{find}
-use Rattle.recv_keys.specs.Laws.{find_hit, find_miss, find_none}
 use Rattle.recv_words.proofs.find_epoch.Given as goal
 
 abbrev pub invariant-loop-i : goal.invariant-loop-i
@@ -13,4 +10,3 @@ invariant-loop-i l = (l.i ≤ 5) × (find (entries_of l.w) l.epoch l.i ≡ find 
 
 abbrev pub decreases-loop-i : goal.decreases-loop-i
 decreases-loop-i l = l.i
-

@@ -1,8 +1,7 @@
 -- `recv_words::is_flat` meets its contract. Assumes nothing.
-use borrow.Author.Rules.{rules}
-use mathlib.Core.Path.{◌≡◌, refl, sym, ap, ◌∙◌}
-use Rattle.base.specs.Choose.{if_true, if_false, both_true, both_false}
-use borrow.Author.Tests.{eq-eqb, ne_eqb, lt-leb, le-leb}
+use mathlib.Core.Path.{sym, ◌∙◌}
+use Rattle.base.specs.Choose.{both_true, both_false}
+use borrow.Author.Tests.{lt-leb, le-leb}
 use Rattle.recv_words.specs.Words.{is_flat}
 use Rattle.recv_words.proofs.is_flat.Goals as goal
 
@@ -21,4 +20,3 @@ returns-then-w-gt2 c = sym (both_true (le-leb _ _ c.if-w-gt1.false) ∙ both_tru
 pub returns : goal.returns
 unfolding is_flat
 returns c = sym (both_true (le-leb _ _ c.if-w-gt1.false) ∙ both_true (le-leb _ _ c.if-w-gt1-2.false) ∙ both_true (le-leb _ _ c.if-w-gt2.false))
-

@@ -1,8 +1,7 @@
 -- `recv_words::keys_sound` meets its contract: the tests of the definition in its order. Assumes nothing.
-use borrow.Author.Rules.{rules}
-use mathlib.Core.Path.{◌≡◌, refl, sym, ap, ◌∙◌}
-use Rattle.base.specs.Choose.{if_true, if_false, both_true, both_false}
-use borrow.Author.Tests.{eq-eqb, ne_eqb, lt-leb, le-leb}
+use mathlib.Core.Path.{sym, ◌∙◌}
+use Rattle.base.specs.Choose.{both_true, both_false}
+use borrow.Author.Tests.{lt-leb, le-leb}
 use Rattle.recv_keys.specs.Keys.{keys_sound}
 use Rattle.recv_words.proofs.keys_sound.Goals as goal
 
@@ -21,4 +20,3 @@ returns-then-apps_fit c = c.windows_sound.ensures ∙ sym (both_true (le-leb _ _
 pub returns : goal.returns
 unfolding keys_sound
 returns c = sym (both_true (le-leb _ _ c.if-count-gt-EPOCHS.false) ∙ both_true (le-leb _ _ c.if-w-gt-MOST_LEAST.false) ∙ both_false _ (sym c.apps_fit.ensures ∙ c.if-apps_fit.false))
-

@@ -1,10 +1,7 @@
 -- `recv_words::last_fit` meets its contract. Invariant: the answer for the entries that are left is the answer for all. Assumes nothing.
-use borrow.Author.Rules.{rules}
-use mathlib.Core.Path.{◌≡◌, refl, sym, ap, ◌∙◌}
+use mathlib.Core.Path.{refl, sym, ◌∙◌}
 use native.Mathlib.Omega.{arith}
-use Prim.Native.Nat.{◌-◌, ◌≤◌}
-use Rattle.recv_words.specs.Words.{entries_of}
-use Rattle.recv_keys.specs.Keys.{last_fit}
+use Prim.Native.Nat.{◌-◌}
 use Rattle.recv_keys.specs.Laws.{fit_hit, fit_miss, fit_none}
 use Rattle.recv_words.proofs.last_fit.Goals as goal
 
@@ -19,4 +16,3 @@ loop-i-preserved c = (omega arith, sym (fit_miss _ _ _ c.loop-i-test.true (sym (
 
 pub returns : goal.returns
 returns c = sym (fit_none _ _ _ c.loop-i-test.false) ∙ c.loop-i.invariant.1
-

@@ -1,11 +1,8 @@
 -- `recv_words::last_fit` meets its contract. Invariant: the answer for the entries that are left is the answer for all. Assumes nothing.
-use borrow.Author.Rules.{rules}
-use mathlib.Core.Path.{◌≡◌, refl, sym, ap, ◌∙◌}
-use native.Mathlib.Omega.{arith}
+use mathlib.Core.Path.{◌≡◌}
 use Prim.Native.Nat.{◌-◌, ◌≤◌}
 use Rattle.recv_words.specs.Words.{entries_of}
 use Rattle.recv_keys.specs.Keys.{last_fit}
-use Rattle.recv_keys.specs.Laws.{fit_hit, fit_miss, fit_none}
 use Rattle.recv_words.proofs.last_fit.Given as goal
 
 abbrev pub invariant-loop-i : goal.invariant-loop-i
@@ -13,4 +10,3 @@ invariant-loop-i l = (l.i ≤ 5) × (last_fit (entries_of l.w) l.bits l.i ≡ la
 
 abbrev pub decreases-loop-i : goal.decreases-loop-i
 decreases-loop-i l = l.i
-

@@ -1,6 +1,5 @@
 -- `recv_words::question_of` meets its contract. Assumes nothing.
-use borrow.Author.Rules.{rules}
-use mathlib.Core.Path.{◌≡◌, refl, sym, ap, ◌∙◌}
+use mathlib.Core.Path.{sym, ◌∙◌}
 use Rattle.base.specs.Choose.{if_true, if_false}
 use borrow.Author.Tests.{eq-eqb, ne_eqb}
 use Rattle.recv_words.specs.Words.{question_of}
@@ -17,4 +16,3 @@ returns-then-kind-eq2 c = rw c.ask_of-a.ensures (sym (if_false _ _ (ne_eqb _ _ c
 pub returns : goal.returns
 unfolding question_of
 returns c = sym (if_false _ _ (ne_eqb _ _ c.if-kind-eq1.false) ∙ if_false _ _ (ne_eqb _ _ c.if-kind-eq2.false))
-

@@ -1,6 +1,5 @@
 -- `recv_words::question_sound` meets its contract, by the kind of the question. Assumes nothing.
-use borrow.Author.Rules.{rules}
-use mathlib.Core.Path.{◌≡◌, refl, sym, ap, ◌∙◌}
+use mathlib.Core.Path.{sym, ap, ◌∙◌}
 use Rattle.base.specs.Choose.{if_true, if_false, both_true, both_false}
 use borrow.Author.Tests.{eq-eqb, ne_eqb, lt-leb, le-leb}
 use Rattle.datagram.specs.Datagram.{opening_sound, question_sound}
@@ -23,4 +22,3 @@ returns-then-kind-eq2 c = c.ask_keyed-then-kind-eq2.ensures ∙ sym (both_true (
 pub returns : goal.returns
 unfolding question_sound question_of
 returns c = sym (ap (λ (q : Question). question_sound (keys_of c.args.w.now) q c.args.room) (if_false _ _ (ne_eqb _ _ c.if-kind-eq1.false) ∙ if_false _ _ (ne_eqb _ _ c.if-kind-eq2.false)))
-

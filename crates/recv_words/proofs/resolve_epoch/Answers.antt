@@ -1,8 +1,7 @@
 -- `recv_words::resolve_epoch` meets its contract. Assumes nothing.
-use borrow.Author.Rules.{rules}
-use mathlib.Core.Path.{◌≡◌, refl, sym, ap, ◌∙◌}
-use Rattle.base.specs.Choose.{if_true, if_false, both_true, both_false}
-use borrow.Author.Tests.{eq-eqb, ne_eqb, lt-leb, le-leb}
+use mathlib.Core.Path.{sym, ◌∙◌}
+use Rattle.base.specs.Choose.{if_true, if_false}
+use borrow.Author.Tests.{eq-eqb, ne_eqb}
 use Rattle.recv_keys.specs.Keys.{resolve}
 use Rattle.recv_words.proofs.resolve_epoch.Goals as goal
 
@@ -13,4 +12,3 @@ returns-then-w-eq1 c = rw (c.last_fit-a.ensures, c.epoch_two-t.ensures) at c.or_
 pub returns : goal.returns
 unfolding resolve
 returns c = rw (c.last_fit-a.ensures, c.epoch_two-t.ensures) at c.or_else-2.ensures ∙ sym (if_false _ _ (ne_eqb _ _ c.if-w-eq1.false))
-

@@ -1,7 +1,4 @@
 -- `recv_words::shift` meets its contract. Assumes nothing.
-use borrow.Author.Rules.{rules}
-use mathlib.Core.Path.{◌≡◌, refl, sym, ap, ◌∙◌}
-use native.Mathlib.Omega.{arith}
 use Rattle.recv_words.specs.Entries.{stays, moves}
 use Rattle.recv_words.proofs.shift.Goals as goal
 
@@ -10,4 +7,3 @@ returns-then-i-j c = moves _ _ _ _ c.if-i-j.true (rw c.entry_at-e.ensures at c.p
 
 pub returns-else-i-j : goal.returns-else-i-j
 returns-else-i-j c = stays _ _ _ c.requires c.if-i-j.false c.sized.ensures
-

@@ -1,6 +1,4 @@
 -- `recv_words::uninstall` meets its contract. Assumes nothing.
-use borrow.Author.Rules.{rules}
-use mathlib.Core.Path.{◌≡◌, refl, sym, ap, ◌∙◌}
 use native.Mathlib.Omega.{arith}
 use Rattle.recv_words.specs.Entries.{uninstalls, count-all}
 use Rattle.recv_words.proofs.uninstall.Goals as goal
@@ -10,4 +8,3 @@ overflow_sub-w c = omega (arith, count-all _ _ _ _ _ _ c.shift.ensures c.shift-2
 
 pub returns : goal.returns
 returns c = uninstalls _ _ _ _ _ _ c.shift.ensures c.shift-2.ensures c.shift-3.ensures c.shift-4.ensures
-

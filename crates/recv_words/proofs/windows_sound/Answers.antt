@@ -1,10 +1,7 @@
 -- `recv_words::windows_sound` meets its contract. Invariant: the verdict on the entries that are left is the verdict on all. Assumes nothing.
-use borrow.Author.Rules.{rules}
-use mathlib.Core.Path.{◌≡◌, refl, sym, ap, ◌∙◌}
+use mathlib.Core.Path.{refl, sym, ◌∙◌}
 use native.Mathlib.Omega.{arith}
-use Prim.Native.Nat.{◌-◌, ◌≤◌}
-use Rattle.recv_words.specs.Words.{entries_of}
-use Rattle.recv_keys.specs.Keys.{windows_sound}
+use Prim.Native.Nat.{◌-◌}
 use Rattle.recv_keys.specs.Laws.{windows_in, windows-none, windows-out}
 use Rattle.recv_words.proofs.windows_sound.Goals as goal
 
@@ -19,4 +16,3 @@ loop-i-preserved c = (omega arith, sym (windows_in _ _ c.loop-i-test.true (rw c.
 
 pub returns : goal.returns
 returns c = sym (windows-none _ _ c.loop-i-test.false) ∙ c.loop-i.invariant.1
-

@@ -1,8 +1,7 @@
 -- `recv_words::words_sound` meets its contract: the tests of the definition in its order. Assumes nothing.
-use borrow.Author.Rules.{rules}
-use mathlib.Core.Path.{◌≡◌, refl, sym, ap, ◌∙◌}
-use Rattle.base.specs.Choose.{if_true, if_false, both_true, both_false}
-use borrow.Author.Tests.{eq-eqb, ne_eqb, lt-leb, le-leb}
+use mathlib.Core.Path.{sym, ◌∙◌}
+use Rattle.base.specs.Choose.{both_true, both_false}
+use borrow.Author.Tests.{lt-leb, le-leb}
 use Rattle.datagram.specs.Datagram.{is_sound}
 use Rattle.recv_keys.specs.Keeps.{in-range}
 use Rattle.recv_words.proofs.words_sound.Goals as goal
@@ -29,4 +28,3 @@ returns-then-keys_sound c = c.question_sound.ensures ∙ sym (both_true (sym c.k
 pub returns : goal.returns
 unfolding is_sound
 returns c = sym (both_false _ (sym c.keys_sound.ensures ∙ c.if-keys_sound.false))
-

@@ -6,7 +6,7 @@ use Rattle.resend.specs.Tests.{all_pass, passed_with, passed_after}
 use lib.ListN.{get_or}
 use Prim.Native.Nat.{ℕ, ◌-◌, ◌≤◌}
 use mathlib.Core.List.{List}
-use mathlib.Core.Path.{◌≡◌, refl, sym, ap, subst, ◌∙◌}
+use mathlib.Core.Path.{◌≡◌, refl, ap, ◌∙◌}
 use native.Mathlib.Omega.{arith}
 use borrow.Author.Rules.{rules}
 use Rattle.resend_steps.proofs.all_passed.Statement.{statement}

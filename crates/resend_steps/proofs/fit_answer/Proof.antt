@@ -2,7 +2,6 @@
 use Rattle.resend_steps.specs.Answer.{fit_full, fit-spent, fit-done}
 use Rattle.flight_words.specs.Words.{flight_of}
 use Rattle.send_words.specs.Words.{state_of}
-use mathlib.Core.Path.{sym, ◌∙◌}
 use borrow.Author.Rules.{rules}
 use Rattle.resend_steps.proofs.fit_answer.Statement.{statement}
 use Rattle.resend_steps.proofs.fit_answer.Tie as tie

@@ -6,7 +6,7 @@ use Rattle.queue.specs.Queue.{InRange}
 use lib.ListN.{length}
 use Prim.Native.Nat.{◌-◌, ◌≤◌}
 use native.Mathlib.Omega.{arith}
-use mathlib.Core.Path.{◌≡◌, refl, sym, ap, subst, ◌∙◌}
+use mathlib.Core.Path.{◌≡◌, refl, ap, ◌∙◌}
 use borrow.Author.Rules.{rules}
 use Rattle.resend_steps.proofs.resend_all.Statement.{statement}
 use Rattle.resend_steps.proofs.resend_all.Tie as tie

@@ -8,7 +8,6 @@ use Rattle.send_words.specs.Words.{state_of}
 use Rattle.queue.specs.Queue.{ready}
 use borrow.Author.Tests.{not-true, not-false}
 use mathlib.Core.Path.{sym, ap, ◌∙◌}
-use mathlib.Core.List.{[]}
 use borrow.Author.Rules.{rules}
 use Rattle.resend_steps.proofs.resend_answer.Statement.{statement}
 use Rattle.resend_steps.proofs.resend_answer.Tie as tie

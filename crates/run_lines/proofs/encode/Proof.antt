@@ -1,7 +1,7 @@
 -- `run_lines::encode` meets its contract: what is passed is written. Assumes nothing.
 use Prim.Native.Nat.{ℕ, ◌≤◌, ◌-◌, ◌+◌}
 use lib.ListN.{length, drop, drop_of_length-le}
-use mathlib.Core.List.{List, [], ◌∷◌, ◌++◌}
+use mathlib.Core.List.{List, ◌∷◌, ◌++◌}
 use mathlib.Core.Path.{refl, ap}
 use native.Mathlib.Omega.{arith}
 use Rattle.run_lines.specs.Lines.{Wrote, wrote_none, wrote-next, wrote_as, wrote_then, wrote-all, hex_of, line_of, hex_next}

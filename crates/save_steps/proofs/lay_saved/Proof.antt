@@ -2,11 +2,6 @@
 use borrow.Author.Rules.{rules}
 use Rattle.save_steps.proofs.lay_saved.Statement.{statement}
 use Rattle.save_steps.proofs.lay_saved.Tie as tie
-use Rattle.save_steps.proofs.lay_saved.Reads as reads
-use Rattle.save_steps.proofs.lay_saved.Lts as lts
-use Rattle.save_steps.proofs.put_saved.Reads as put-saved-reads
-use Rattle.send_steps.proofs.lay.Reads as lay-reads
-use Rattle.send_steps.proofs.next_of.Reads as next-of-reads
 
 -- src/lib.rt:98:9
 next-of-requires : tie.Need-next-of-requires

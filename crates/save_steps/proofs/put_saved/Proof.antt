@@ -3,10 +3,6 @@ use Rattle.save_steps.specs.Save.{adds}
 use borrow.Author.Rules.{rules}
 use Rattle.save_steps.proofs.put_saved.Statement.{statement}
 use Rattle.save_steps.proofs.put_saved.Tie as tie
-use Rattle.save_steps.proofs.put_saved.Reads as reads
-use Rattle.save_steps.proofs.put_saved.Lts as lts
-use Rattle.flight_words.proofs.put_entry.Reads as put-entry-reads
-use Rattle.flight_words.proofs.sized.Reads as sized_Reads
 
 -- src/lib.rt:68:5
 sized-requires : tie.Need-sized-requires

@@ -6,13 +6,6 @@ use Rattle.save_steps.specs.Save.{judged-range, judged-kept, judged-sent, judged
 use borrow.Author.Rules.{rules}
 use Rattle.save_steps.proofs.save_answer.Statement.{statement}
 use Rattle.save_steps.proofs.save_answer.Tie as tie
-use Rattle.save_steps.proofs.save_answer.Reads as reads
-use Rattle.save_steps.proofs.save_answer.Lts as lts
-use Rattle.flight.proofs.has_room.Reads as has-room-reads
-use Rattle.save_steps.proofs.full_answer.Reads as full-answer-reads
-use Rattle.send_steps.proofs.is_ready.Reads as is-ready-reads
-use Rattle.send_steps.proofs.refused.Reads as refused-reads
-use Rattle.send_steps.proofs.send_answer.Reads as send-answer-reads
 
 -- src/lib.rt:49:9
 is-ready-requires : tie.Need-is-ready-requires

@@ -14,12 +14,6 @@ use Rattle.save_steps.specs.Save.{saves-laid, saves-nothing}
 use borrow.Author.Rules.{rules}
 use Rattle.save_steps.proofs.send_saved.Statement.{statement}
 use Rattle.save_steps.proofs.send_saved.Tie as tie
-use Rattle.save_steps.proofs.send_saved.Reads as reads
-use Rattle.save_steps.proofs.send_saved.Lts as lts
-use Rattle.send_keys.proofs.is_done.Reads as is-done-reads
-use Rattle.base.proofs.move_bytes.Reads as move-bytes-reads
-use Rattle.save_steps.proofs.lay_saved.Reads as lay-saved-reads
-use Rattle.save_steps.proofs.save_answer.Reads as save-answer-reads
 
 -- src/lib.rt:116:17
 element-copy-out-saved : tie.Need-element-copy-out-saved

@@ -1,8 +1,6 @@
 -- `sealing::plain_at` meets its contract. Assumes nothing.
 use borrow.Author.Rules.{rules}
 use mathlib.Core.Path.{sym, ◌∙◌}
-use native.Mathlib.Omega.{arith}
-use Rattle.sealing.specs.Seek.{passed}
 use Rattle.sealing.specs.Heads.{plain-short, plain-cut, plain-passed}
 use Rattle.sealing.proofs.plain_at.Statement.{statement}
 use Rattle.sealing.proofs.plain_at.Tie as tie

@@ -1,6 +1,6 @@
 -- `send_calls::flat_sealing` meets its contract, case by case. Assumes nothing.
 use borrow.Author.Rules.{rules}
-use mathlib.Core.Path.{◌≡◌, refl, sym, ap, ◌∙◌}
+use mathlib.Core.Path.{sym, ap, ◌∙◌}
 use Rattle.send_calls.specs.Calls.{flat_sealing}
 use Rattle.sealing.specs.declared.SealQuestion.{SealQuestion}
 use Rattle.send_calls.proofs.flat_sealing.Statement.{statement}

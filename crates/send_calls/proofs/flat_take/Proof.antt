@@ -1,6 +1,6 @@
 -- `send_calls::flat_take` meets its contract, case by case. Assumes nothing.
 use borrow.Author.Rules.{rules}
-use mathlib.Core.Path.{◌≡◌, refl, sym, ap, ◌∙◌}
+use mathlib.Core.Path.{sym, ap, ◌∙◌}
 use Rattle.send_calls.specs.Calls.{flat_take}
 use Rattle.send_calls.proofs.flat_take.Statement.{statement}
 use Rattle.send_calls.proofs.flat_take.Tie as tie

@@ -1,8 +1,8 @@
 -- `send_words::is_flat` meets its contract. Assumes nothing.
 use borrow.Author.Rules.{rules}
-use mathlib.Core.Path.{◌≡◌, refl, sym, ap, ◌∙◌}
-use Rattle.base.specs.Choose.{if_true, if_false, both_true, both_false}
-use borrow.Author.Tests.{eq-eqb, ne_eqb, lt-leb, le-leb, lt-ltb, le-ltb}
+use mathlib.Core.Path.{sym}
+use Rattle.base.specs.Choose.{both_true, both_false}
+use borrow.Author.Tests.{lt-leb, le-leb}
 use Rattle.send_words.specs.Words.{is_flat}
 use Rattle.send_words.proofs.is_flat.Statement.{statement}
 use Rattle.send_words.proofs.is_flat.Tie as tie

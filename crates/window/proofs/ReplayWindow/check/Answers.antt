@@ -1,5 +1,4 @@
 -- `ReplayWindow::check` meets its contract: what each verdict says holds where it is returned. Assumes nothing.
-use borrow.Author.Rules.{rules}
 use mathlib.Core.Path.{sym}
 use native.Mathlib.Omega.{arith}
 use Rattle.base.specs.Bits.{bit}
@@ -29,4 +28,3 @@ returns c = let low = c.if-top-seqno.false in
     let near = c.if-offset-ge-WIDTH.false in
     let set = c.if-self-offset-eq0.false in
     sym ((verdict-is _ _ Seen).1 (omega arith, omega arith, omega arith))
-
