@@ -45,7 +45,8 @@ use Rattle.recv_keys.specs.Keys.{entry_at, find, marked}
 use Rattle.recv_keys.specs.Laws.{found-keyed}
 use Rattle.recv_keys.specs.declared.Found.TheVariants as found
 use Rattle.recv_keys.specs.declared.RecvKeys.{RecvKeys}
-use Rattle.window.specs.Used.{above, Agrees, tells}
+use Rattle.window.specs.Used.{above, Agrees}
+use Rattle.window.proofs.Used.{tells}
 use Rattle.window.specs.Window.{verdict}
 use Rattle.window.specs.declared.Verdict.TheVariants as number
 use Rattle.window.specs.declared.Verdict.{Verdict}

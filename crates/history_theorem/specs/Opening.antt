@@ -19,7 +19,7 @@ use Rattle.recv_keys.specs.Keys.{entry_at, find, marked}
 use Rattle.recv_keys.specs.Laws.{found-keyed}
 use Rattle.recv_keys.specs.declared.Found.TheVariants as found
 use Rattle.recv_keys.specs.declared.RecvKeys.{RecvKeys}
-use Rattle.window.specs.Used.{tells}
+use Rattle.window.proofs.Used.{tells}
 use Rattle.window.specs.Window.{verdict}
 use Rattle.window.specs.declared.Verdict.TheVariants.{Fresh}
 use Rattle.history_theorem.specs.Account.{upd}

@@ -42,8 +42,9 @@ use Rattle.recv_keys.specs.declared.Found.TheVariants as found
 use Rattle.recv_keys.specs.declared.Found.{Found}
 use Rattle.recv_keys.specs.declared.RecvEpochEntry.{RecvEpochEntry}
 use Rattle.recv_keys.specs.declared.RecvKeys.{RecvKeys}
-use Rattle.sequence.specs.Laws.{Nearest}
-use Rattle.window.specs.Used.{above, Agrees, expects}
+use Rattle.sequence.proofs.Laws.{Nearest}
+use Rattle.window.specs.Used.{above, Agrees}
+use Rattle.window.proofs.Used.{expects}
 use Rattle.window.specs.Window.{verdict}
 use Rattle.window.specs.declared.Verdict.TheVariants.{Fresh}
 use Rattle.history_theorem.specs.Account.{upd, Shown, nothing, a_mask, an_opening, Account, resolves_to, record_size, good_plain}

@@ -28,7 +28,8 @@ use Rattle.recv_keys.specs.declared.Found.TheVariants.{At, Nothing}
 use Rattle.recv_keys.specs.declared.Found.{Found}
 use Rattle.recv_keys.specs.declared.RecvEpochEntry.{RecvEpochEntry}
 use Rattle.recv_keys.specs.declared.RecvKeys.{RecvKeys}
-use Rattle.window.specs.Used.{Agrees, agrees-new, agrees-marked}
+use Rattle.window.specs.Used.{Agrees}
+use Rattle.window.proofs.Used.{agrees-new, agrees-marked}
 use Rattle.window.specs.Window.{unmarked}
 use Rattle.history_theorem.specs.Account.{upd, Account, is_in, without, applications, fifth, last_with, or_two, resolves_to}
 use Rattle.history_theorem.specs.Lists.{upd_same, upd_other, upd-by, empty_list, mem-by}

@@ -24,7 +24,8 @@ use Rattle.recv_keys.specs.declared.Found.TheVariants as found
 use Rattle.recv_keys.specs.declared.Found.{Found}
 use Rattle.recv_keys.specs.declared.RecvKeys.{RecvKeys}
 use Rattle.sealing.specs.Sealing.{masked_header}
-use Rattle.window.specs.Used.{above, Agrees, expects}
+use Rattle.window.specs.Used.{above, Agrees}
+use Rattle.window.proofs.Used.{expects}
 use Rattle.window.specs.Window.{verdict}
 use Rattle.window.specs.declared.Verdict.{Verdict}
 use Rattle.history_theorem.specs.Claim.{Masks, reach_of}

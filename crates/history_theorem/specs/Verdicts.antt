@@ -29,7 +29,7 @@ use Rattle.recv_keys.specs.declared.Found.TheVariants as found
 use Rattle.recv_keys.specs.declared.Found.{Found}
 use Rattle.recv_keys.specs.declared.RecvEpochEntry.{RecvEpochEntry}
 use Rattle.recv_keys.specs.declared.RecvKeys.{RecvKeys}
-use Rattle.window.specs.Laws.{after, verdict-is, spent}
+use Rattle.window.proofs.Laws.{after, verdict-is, spent}
 use Rattle.window.specs.Window.{verdict}
 use Rattle.window.specs.declared.Verdict.TheVariants.{Fresh, Seen}
 use Rattle.history_theorem.specs.Claim.{SameVerdicts, Moved, Turned, OtherLength}

@@ -25,7 +25,7 @@ use Rattle.recv_keys.specs.declared.Found.TheVariants as found
 use Rattle.recv_keys.specs.declared.Found.{Found}
 use Rattle.recv_keys.specs.declared.RecvEpochEntry.{RecvEpochEntry}
 use Rattle.recv_keys.specs.declared.RecvKeys.{RecvKeys}
-use Rattle.sequence.specs.Laws.{near}
+use Rattle.sequence.proofs.Laws.{near}
 use Rattle.sequence.specs.Sequence.{block_of}
 use Rattle.window.specs.Window.{verdict}
 use Rattle.window.specs.declared.ReplayWindow.{ReplayWindow}

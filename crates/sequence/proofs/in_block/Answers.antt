@@ -3,7 +3,7 @@
 use native.Mathlib.Nat.{mod-le, mod-lt}
 use native.Mathlib.Omega.{arith}
 use Rattle.sequence.specs.Sequence.{own}
-use Rattle.sequence.specs.Laws.{is-nearest}
+use Rattle.sequence.proofs.Laws.{is-nearest}
 use Rattle.sequence.proofs.in_block.Goals as goal
 
 pub overflow_sub-own : goal.overflow_sub-own

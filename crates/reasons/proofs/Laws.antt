@@ -13,12 +13,13 @@ use native.Mathlib.Omega.{arith}
 use borrow.Author.Tests.{eqb-true, eq-eqb}
 use Rattle.base.specs.Choose.{choose, both, if_true, by_test, by_less, both_left, both_right, both_true, eq-or_ne}
 use Rattle.sequence.specs.Sequence.{block_of, own, nearest}
-use Rattle.sequence.specs.Laws.{cases}
+use Rattle.sequence.proofs.Laws.{cases}
 use Rattle.window.specs.Used.{above}
 use Rattle.reasons.specs.declared.Reason.{Reason}
 use Rattle.reasons.specs.declared.Reason.TheVariants.{Short, Record, Epoch, Old, Seen, Cipher, Taken}
 use Rattle.reasons.specs.declared.Told.{Told}
-use Rattle.reasons.specs.Met.{has, meet, has-mem, meet-has, met_next}
+use Rattle.reasons.specs.Met.{has, meet}
+use Rattle.reasons.proofs.Met.{has-mem, meet-has, met_next}
 use Rattle.reasons.specs.Reasons.{record_at, epoch_of, bits_of, partial_of, is_whole, is_well_formed, is_formed, epoch_at, kept_at, old_from, is_taken, taken_in, number_in, reason_in, told_in, only, tell, told_to, told_at}
 
 -- ---- cases

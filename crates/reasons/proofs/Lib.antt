@@ -1,0 +1,4 @@
+pub mod Example
+pub mod Laws
+pub mod Met
+pub mod Claim
