@@ -1,3 +1,1 @@
 pub mod Classify
-pub mod Laws
-pub mod Rows
