@@ -1,5 +1,4 @@
 -- `run_chacha::block` is safe and ends: the loop goes by the sixteen words. Assumes nothing.
-use borrow.Author.Rules.{rules}
 use Prim.Native.Nat.{◌≤◌, ◌-◌}
 use Rattle.run_chacha.proofs.block.Given as goal
 
@@ -8,4 +7,3 @@ invariant-loop-k g l = l.k ≤ 16
 
 abbrev pub decreases-loop-k : goal.decreases-loop-k
 decreases-loop-k g l = 16 - l.k
-
