@@ -1,7 +1,7 @@
 -- `mask_keys::move_up` meets its contract. The loop's invariant: the bytes before `j` are moved up, the others as they were. Assumes nothing.
 use Prim.Native.Nat.{◌-◌}
 use native.Mathlib.Omega.{arith}
-use Rattle.mask_keys.specs.Laws.{moving_none, moving_next, moving_all}
+use Rattle.mask_keys.proofs.Laws.{moving_none, moving_next, moving_all}
 use Rattle.mask_keys.proofs.move_up.Goals as goal
 
 pub loop-j-init : goal.loop-j-init

@@ -1,7 +1,7 @@
 -- `mask_keys::move_up` meets its contract. The loop's invariant: the bytes before `j` are moved up, the others as they were. Assumes nothing.
 use Prim.Native.Nat.{◌-◌, ◌≤◌}
 use lib.ListN.{length}
-use Rattle.mask_keys.specs.Laws.{Moving}
+use Rattle.mask_keys.proofs.Laws.{Moving}
 use Rattle.mask_keys.proofs.move_up.Given as goal
 
 abbrev pub invariant-loop-j : goal.invariant-loop-j

@@ -3,7 +3,7 @@ use Rattle.mask_keys.specs.Keys.{sample_size}
 use Prim.Native.Nat.{◌-◌}
 use native.Mathlib.Omega.{arith}
 use lib.ListN.{drop, length-take}
-use Rattle.mask_keys.specs.Laws.{sampled_none, sampled_next, sampled_all}
+use Rattle.mask_keys.proofs.Laws.{sampled_none, sampled_next, sampled_all}
 use Rattle.mask_keys.proofs.sample_at.Goals as goal
 
 pub loop-i-init : goal.loop-i-init

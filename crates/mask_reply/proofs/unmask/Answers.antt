@@ -1,5 +1,5 @@
 -- `replies::unmask` meets its contract: bytes stored one by one are the mask's bytes written over the number's. Assumes nothing.
-use Rattle.mask_reply.specs.Leads.{one-stored, two-stored}
+use Rattle.mask_reply.proofs.Leads.{one-stored, two-stored}
 use Rattle.mask_reply.proofs.unmask.Goals as goal
 
 pub returns-then-s_flag : goal.returns-then-s_flag

@@ -1,7 +1,7 @@
 -- `recv_calls::mask_step` meets its contract: 12, 15, then the reply to the question that waits. Assumes nothing.
 use mathlib.Core.Path.{refl, sym, ◌∙◌}
 use Rattle.datagram.specs.declared.Reading.TheVariants as says
-use Rattle.mask_reply.specs.Leads.{mask-asks, mask-other, mask-out}
+use Rattle.mask_reply.proofs.Leads.{mask-asks, mask-other, mask-out}
 use Rattle.mask_reply.specs.Mask.{masking}
 use Rattle.recv_calls.specs.Replies.{kind-mask, mask_not_asked, mask-refused, mask_leads}
 use Rattle.recv_calls.proofs.mask_step.Goals as goal

@@ -1,7 +1,7 @@
 -- `recv_calls::opened_step` meets its contract: 12, 15, then the reply to the question that waits. Assumes nothing.
 use mathlib.Core.Path.{refl, sym, subst, ◌∙◌}
 use Rattle.datagram.specs.declared.Reading.TheVariants as says
-use Rattle.opening_reply.specs.Leads.{opened-asks, opened-other, opened_out}
+use Rattle.opening_reply.proofs.Leads.{opened-asks, opened-other, opened_out}
 use Rattle.opening_reply.specs.Opening.{openings}
 use Rattle.recv_calls.specs.Replies.{Marked-as, kind-opening, opening_not_asked, opened-refused}
 use Rattle.recv_calls.proofs.opened_step.Goals as goal

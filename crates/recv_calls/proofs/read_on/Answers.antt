@@ -2,7 +2,7 @@
 use mathlib.Core.Path.{sym, subst, ◌∙◌}
 use native.Mathlib.Omega.{arith}
 use Rattle.datagram.specs.Sound.{ready}
-use Rattle.records.specs.Leads.{read-asks}
+use Rattle.records.proofs.Leads.{read-asks}
 use Rattle.recv_calls.specs.Calls.{Stepped}
 use Rattle.recv_calls.proofs.read_on.Goals as goal
 

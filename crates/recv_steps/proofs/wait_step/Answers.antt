@@ -2,7 +2,7 @@
 use mathlib.Core.Path.{◌∙◌, sym}
 use native.Mathlib.Omega.{arith}
 use Rattle.datagram.specs.Sound.{held-mask, ready}
-use Rattle.records.specs.Leads.{read-asks, read-other, read-out}
+use Rattle.records.proofs.Leads.{read-asks, read-other, read-out}
 use Rattle.records.specs.Records.{asking}
 use Rattle.recv_steps.proofs.wait_step.Goals as goal
 
