@@ -1,4 +1,5 @@
 -- `acks::write_length` meets its contract. Assumes nothing.
+use mathlib.Core.List.{[]}
 use mathlib.Core.Path.{refl, ap, ◌∙◌}
 use native.Mathlib.Nat.{div-one}
 use Rattle.base.specs.Parts.{lent}

@@ -1,5 +1,6 @@
 -- `message_steps::send_all` meets its contract. The loop's invariant is `Going`, whatever the table of numbers: what is left gives the whole.
 -- Assumes nothing.
+use mathlib.Core.List.{[]}
 use Prim.Native.Nat.{ℕ, ◌+◌, ◌-◌, ◌≤◌}
 use borrow.Author.Rules.{rules}
 use lib.ListN.{length}

@@ -1,4 +1,5 @@
 -- `resend_steps::resend_answer` meets its contract. Assumes nothing.
+use mathlib.Core.List.{[]}
 use Rattle.send_keys.specs.Answer.{is_done}
 use Rattle.resend_steps.specs.Answer.{cleared, refused, answer-unready, answer-unkept, answer-tested}
 use Rattle.resend.specs.Tests.{passed_after, kept-few, fitting}

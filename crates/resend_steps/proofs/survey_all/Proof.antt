@@ -1,4 +1,5 @@
 -- `resend_steps::survey_all` meets its contract. Assumes nothing.
+use mathlib.Core.List.{[]}
 use Rattle.resend_steps.specs.Answer.{surveyed_more}
 use Rattle.flight_words.specs.Entries.{entry-at}
 use Rattle.flight_words.specs.Words.{flight_of}
