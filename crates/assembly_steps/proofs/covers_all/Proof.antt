@@ -6,7 +6,7 @@ use mathlib.Core.Bool.{true}
 use mathlib.Core.List.{List}
 use mathlib.Core.Path.{◌≡◌, sym, ap, ◌∙◌}
 use native.Mathlib.Omega.{arith}
-use Rattle.assembly.specs.Covering.{all_true, all_hole, covered-on}
+use Rattle.assembly.proofs.Covering.{all_true, all_hole, covered-on}
 use Rattle.assembly.specs.Spans.{covered}
 use Rattle.assembly_steps.specs.Parts.{Reach}
 use Rattle.assembly_steps.proofs.covers_all.Statement.{statement}

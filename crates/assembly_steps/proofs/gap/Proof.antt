@@ -5,7 +5,7 @@ use mathlib.Core.Bool.{false}
 use Prim.Native.Nat.{ℕ, ◌+◌, ◌<◌, ◌≤◌}
 use native.Mathlib.Omega.{arith}
 use Rattle.assembly.specs.Spans.{covered, most-pieces}
-use Rattle.assembly.specs.Covering.{covered_miss, covered_none, not_fewer, still_not}
+use Rattle.assembly.proofs.Covering.{covered_miss, covered_none, not_fewer, still_not}
 use Rattle.assembly_steps.proofs.gap.Statement.{statement}
 use Rattle.assembly_steps.proofs.gap.Tie as tie
 

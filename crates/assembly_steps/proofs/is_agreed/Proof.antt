@@ -4,7 +4,8 @@ use borrow.Author.Tests.{not-true, not-false}
 use mathlib.Core.Path.{sym, ◌∙◌}
 use native.Mathlib.Omega.{arith}
 use Rattle.base.specs.Choose.{both_true, both_false}
-use Rattle.assembly.specs.Assembly.{is_agreed, fit-total, fit-end}
+use Rattle.assembly.specs.Assembly.{is_agreed}
+use Rattle.assembly.proofs.Assembly.{fit-total, fit-end}
 use Rattle.assembly_steps.proofs.is_agreed.Statement.{statement}
 use Rattle.assembly_steps.proofs.is_agreed.Tie as tie
 

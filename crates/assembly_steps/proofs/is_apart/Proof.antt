@@ -4,7 +4,7 @@ use mathlib.Core.Path.{sym}
 use Prim.Native.Nat.{◌-◌, ◌≤◌}
 use native.Mathlib.Omega.{arith}
 use borrow.Author.Tests.{leb-true}
-use Rattle.assembly.specs.Covering.{not_from, not_to}
+use Rattle.assembly.proofs.Covering.{not_from, not_to}
 use Rattle.assembly_steps.proofs.is_apart.Statement.{statement}
 use Rattle.assembly_steps.proofs.is_apart.Tie as tie
 

@@ -6,7 +6,7 @@ use mathlib.Core.Path.{◌≡◌, refl, sym, ◌∙◌}
 use Prim.Native.Nat.{ℕ, ◌≤◌, ◌<◌}
 use native.Mathlib.Omega.{arith}
 use Rattle.assembly.specs.Spans.{covered, most-pieces}
-use Rattle.assembly.specs.Covering.{covered_miss, covered_none}
+use Rattle.assembly.proofs.Covering.{covered_miss, covered_none}
 use Rattle.assembly_steps.proofs.is_bare.Statement.{statement}
 use Rattle.assembly_steps.proofs.is_bare.Tie as tie
 

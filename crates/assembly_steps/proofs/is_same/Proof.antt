@@ -4,7 +4,7 @@ use mathlib.Core.Path.{◌≡◌, refl, sym, ◌∙◌}
 use Prim.Native.Nat.{◌≤◌}
 use native.Mathlib.Omega.{arith}
 use Rattle.assembly.specs.Spans.{is_same, most-pieces}
-use Rattle.assembly.specs.Covering.{same_hit, same_miss, same_none}
+use Rattle.assembly.proofs.Covering.{same_hit, same_miss, same_none}
 use Rattle.assembly_steps.proofs.is_same.Statement.{statement}
 use Rattle.assembly_steps.proofs.is_same.Tie as tie
 

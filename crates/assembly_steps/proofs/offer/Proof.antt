@@ -5,8 +5,9 @@ use mathlib.Core.Path.{sym, ap, ◌∙◌}
 use native.Mathlib.Omega.{arith}
 use Rattle.base.specs.Choose.{if_true, if_false}
 use Rattle.assembly.specs.Spans.{count_of, expected_of}
-use Rattle.assembly.specs.Words.{held-count, held-expected}
-use Rattle.assembly.specs.Assembly.{offered, fit-number, fit-total, fit-end}
+use Rattle.assembly.proofs.Words.{held-count, held-expected}
+use Rattle.assembly.specs.Assembly.{offered}
+use Rattle.assembly.proofs.Assembly.{fit-number, fit-total, fit-end}
 use Rattle.assembly_steps.specs.Steps.{holds}
 use Rattle.assembly_steps.proofs.offer.Statement.{statement}
 use Rattle.assembly_steps.proofs.offer.Tie as tie

@@ -5,7 +5,7 @@ use mathlib.Core.Bool.{true}
 use Prim.Native.Nat.{ℕ, ◌+◌, ◌-◌, ◌≤◌}
 use native.Mathlib.Omega.{arith}
 use Rattle.assembly.specs.Spans.{covered, most-pieces, start_of, span_of}
-use Rattle.assembly.specs.Covering.{covered_hit, covered_miss, covered_none, covered_more, is_within, within_from, within_to}
+use Rattle.assembly.proofs.Covering.{covered_hit, covered_miss, covered_none, covered_more, is_within, within_from, within_to}
 use Rattle.assembly_steps.proofs.reach.Statement.{statement}
 use Rattle.assembly_steps.proofs.reach.Tie as tie
 

@@ -2,7 +2,7 @@
 use borrow.Author.Rules.{rules}
 use mathlib.Core.Path.{sym, ap, ◌∙◌}
 use native.Mathlib.Omega.{arith}
-use Rattle.assembly.specs.Covering.{run-bare, run-same, run-other, by-ends}
+use Rattle.assembly.proofs.Covering.{run-bare, run-same, run-other, by-ends}
 use Rattle.assembly_steps.proofs.share_run.Statement.{statement}
 use Rattle.assembly_steps.proofs.share_run.Tie as tie
 

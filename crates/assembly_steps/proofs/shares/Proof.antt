@@ -6,7 +6,7 @@ use Prim.Native.Nat.{ℕ, ◌-◌, ◌≤◌}
 use native.Mathlib.Omega.{arith}
 use lib.ListN.{length}
 use Rattle.assembly.specs.Spans.{all_shared}
-use Rattle.assembly.specs.Covering.{shared_none, bare_shared}
+use Rattle.assembly.proofs.Covering.{shared_none, bare_shared}
 use Rattle.assembly_steps.proofs.shares.Statement.{statement}
 use Rattle.assembly_steps.proofs.shares.Tie as tie
 

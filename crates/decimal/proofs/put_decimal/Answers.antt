@@ -5,7 +5,7 @@ use Prim.Native.Nat.{ℕ}
 use native.Mathlib.Omega.{arith}
 use Rattle.base.specs.Parts.{splice}
 use Rattle.decimal.specs.Decimal.{digits, decimal}
-use Rattle.decimal.specs.Laws.{length-decimal}
+use Rattle.decimal.proofs.Laws.{length-decimal}
 use Rattle.decimal.proofs.put_decimal.Goals as goal
 
 pub put_digits-requires : goal.put_digits-requires

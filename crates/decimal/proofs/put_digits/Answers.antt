@@ -5,7 +5,7 @@ use mathlib.Core.Path.{◌≡◌, refl, sym, ap, ◌∙◌}
 use native.Mathlib.Omega.{arith}
 use Rattle.base.specs.Parts.{splice, stored}
 use Rattle.decimal.specs.Decimal.{digit, digits}
-use Rattle.decimal.specs.Laws.{digits-none, digits-next}
+use Rattle.decimal.proofs.Laws.{digits-none, digits-next}
 use Rattle.decimal.proofs.put_digits.Goals as goal
 
 pub loop-i-init : goal.loop-i-init

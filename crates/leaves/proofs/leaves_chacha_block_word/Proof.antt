@@ -4,7 +4,7 @@ use native.Mathlib.Omega.{arith}
 use borrow.Author.Rules.{rules}
 use Rattle.base.specs.Parts.{part}
 use Rattle.chacha.specs.Chacha.{word}
-use Rattle.chacha.specs.Laws.{block-beyond}
+use Rattle.chacha.proofs.Laws.{block-beyond}
 use Rattle.leaves.proofs.leaves_chacha_block_word.Statement.{statement}
 use Rattle.leaves.proofs.leaves_chacha_block_word.Tie as tie
 

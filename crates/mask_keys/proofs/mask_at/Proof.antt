@@ -1,7 +1,7 @@
 -- `mask_keys::mask_at` meets its contract. Assumes nothing.
 use mathlib.Core.Path.{◌∙◌}
 use Rattle.base.specs.Parts.{part}
-use Rattle.chacha.specs.Laws.{mask-same}
+use Rattle.chacha.proofs.Laws.{mask-same}
 use Rattle.mask_keys.specs.Keys.{sample_size}
 use borrow.Author.Rules.{rules}
 use Rattle.mask_keys.proofs.mask_at.Statement.{statement}

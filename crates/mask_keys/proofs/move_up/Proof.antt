@@ -3,7 +3,7 @@ use Prim.Native.Nat.{◌-◌, ◌≤◌}
 use borrow.Author.Rules.{rules}
 use native.Mathlib.Omega.{arith}
 use lib.ListN.{length}
-use Rattle.mask_keys.specs.Laws.{Moving, moving_none, moving_next, moving_all}
+use Rattle.mask_keys.proofs.Laws.{Moving, moving_none, moving_next, moving_all}
 use Rattle.mask_keys.proofs.move_up.Statement.{statement}
 use Rattle.mask_keys.proofs.move_up.Tie as tie
 

@@ -4,7 +4,7 @@ use Prim.Native.Nat.{◌-◌}
 use borrow.Author.Rules.{rules}
 use native.Mathlib.Omega.{arith}
 use lib.ListN.{length, drop, length-take}
-use Rattle.mask_keys.specs.Laws.{Sampled, sampled_none, sampled_next, sampled_all}
+use Rattle.mask_keys.proofs.Laws.{Sampled, sampled_none, sampled_next, sampled_all}
 use Rattle.mask_keys.proofs.sample_at.Statement.{statement}
 use Rattle.mask_keys.proofs.sample_at.Tie as tie
 

@@ -2,7 +2,7 @@
 use borrow.Author.Rules.{rules}
 use Rattle.mask_reply.proofs.unmask.Statement.{statement}
 use Rattle.mask_reply.proofs.unmask.Tie as tie
-use Rattle.mask_reply.specs.Leads.{one-stored, two-stored}
+use Rattle.mask_reply.proofs.Leads.{one-stored, two-stored}
 
 add-i : tie.Need-overflow-add-i
 add-i c = search rules

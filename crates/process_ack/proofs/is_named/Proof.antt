@@ -4,7 +4,8 @@ use mathlib.Core.Path.{◌≡◌, refl, sym, ap, ◌∙◌}
 use native.Mathlib.Omega.{arith}
 use Prim.Native.Nat.{◌-◌, ◌≤◌}
 use Rattle.base.specs.Choose.{if_false}
-use Rattle.process_ack.specs.Ack.{is_named, named-next, named-at}
+use Rattle.process_ack.specs.Ack.{is_named}
+use Rattle.process_ack.proofs.Ack.{named-next, named-at}
 use Rattle.process_ack.proofs.is_named.Statement.{statement}
 use Rattle.process_ack.proofs.is_named.Tie as tie
 

@@ -2,7 +2,7 @@
 use borrow.Author.Rules.{rules}
 use mathlib.Core.Path.{◌≡◌, refl, sym, ap, ◌∙◌}
 use Rattle.datagram.specs.declared.Reading.TheVariants as says
-use Rattle.mask_reply.specs.Leads.{mask-asks, mask-other, mask-out}
+use Rattle.mask_reply.proofs.Leads.{mask-asks, mask-other, mask-out}
 use Rattle.mask_reply.specs.Mask.{masking}
 use Rattle.recv_calls.specs.Replies.{kind-mask, mask_not_asked, mask-refused, mask_leads}
 use Rattle.recv_calls.proofs.mask_step.Statement.{statement}

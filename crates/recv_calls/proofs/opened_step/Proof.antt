@@ -2,7 +2,7 @@
 use borrow.Author.Rules.{rules}
 use mathlib.Core.Path.{◌≡◌, refl, sym, ap, subst, ◌∙◌}
 use Rattle.datagram.specs.declared.Reading.TheVariants as says
-use Rattle.opening_reply.specs.Leads.{opened-asks, opened-other, opened_out}
+use Rattle.opening_reply.proofs.Leads.{opened-asks, opened-other, opened_out}
 use Rattle.opening_reply.specs.Opening.{openings}
 use Rattle.recv_calls.specs.Replies.{Marked-as, kind-opening, opening_not_asked, opened-refused}
 use Rattle.recv_calls.proofs.opened_step.Statement.{statement}

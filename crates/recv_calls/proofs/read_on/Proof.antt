@@ -3,7 +3,7 @@ use borrow.Author.Rules.{rules}
 use mathlib.Core.Path.{◌≡◌, refl, sym, ap, subst, ◌∙◌}
 use native.Mathlib.Omega.{arith}
 use Rattle.datagram.specs.Sound.{ready}
-use Rattle.records.specs.Leads.{read-asks}
+use Rattle.records.proofs.Leads.{read-asks}
 use Rattle.recv_calls.specs.Calls.{Stepped}
 use Rattle.recv_calls.proofs.read_on.Statement.{statement}
 use Rattle.recv_calls.proofs.read_on.Tie as tie

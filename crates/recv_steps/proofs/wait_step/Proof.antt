@@ -5,7 +5,7 @@ use native.Mathlib.Omega.{arith}
 use Rattle.datagram.specs.Sound.{held-mask, ready}
 use Rattle.recv_steps.proofs.wait_step.Statement.{statement}
 use Rattle.recv_steps.proofs.wait_step.Tie as tie
-use Rattle.records.specs.Leads.{read-asks, read-other, read-out}
+use Rattle.records.proofs.Leads.{read-asks, read-other, read-out}
 use Rattle.records.specs.Records.{asking}
 use Rattle.recv_steps.specs.Goes.{Goes}
 

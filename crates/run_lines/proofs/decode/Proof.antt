@@ -3,7 +3,8 @@ use Prim.Native.Nat.{◌≤◌, ◌-◌, ◌+◌}
 use lib.ListN.{length, drop, get_or}
 use mathlib.Core.Path.{◌≡◌, ap, ◌∙◌}
 use native.Mathlib.Omega.{arith}
-use Rattle.run_lines.specs.Lines.{Wrote, wrote_none, wrote-next, wrote_as, wrote-all, digit_of, bytes_of, bytes_next, bytes-end}
+use Rattle.run_lines.specs.Lines.{Wrote, digit_of, bytes_of}
+use Rattle.run_lines.proofs.Lines.{wrote_none, wrote-next, wrote_as, wrote-all, bytes_next, bytes-end}
 use borrow.Author.Rules.{rules}
 use Rattle.run_lines.proofs.decode.Statement.{statement}
 use Rattle.run_lines.proofs.decode.Tie as tie

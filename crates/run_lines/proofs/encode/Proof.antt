@@ -4,7 +4,8 @@ use lib.ListN.{length, drop, drop_of_length-le}
 use mathlib.Core.List.{List, [], ◌∷◌, ◌++◌}
 use mathlib.Core.Path.{refl, ap}
 use native.Mathlib.Omega.{arith}
-use Rattle.run_lines.specs.Lines.{Wrote, wrote_none, wrote-next, wrote_as, wrote_then, wrote-all, hex_of, line_of, hex_next}
+use Rattle.run_lines.specs.Lines.{Wrote, hex_of, line_of}
+use Rattle.run_lines.proofs.Lines.{wrote_none, wrote-next, wrote_as, wrote_then, wrote-all, hex_next}
 use borrow.Author.Rules.{rules}
 use Rattle.run_lines.proofs.encode.Statement.{statement}
 use Rattle.run_lines.proofs.encode.Tie as tie

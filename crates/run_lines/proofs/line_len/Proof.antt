@@ -3,7 +3,8 @@ use Prim.Native.Nat.{◌≤◌, ◌-◌, ◌+◌}
 use lib.ListN.{length, drop}
 use mathlib.Core.Path.{◌≡◌}
 use native.Mathlib.Omega.{arith}
-use Rattle.run_lines.specs.Lines.{line_len, line-here, line_on, line-end}
+use Rattle.run_lines.specs.Lines.{line_len}
+use Rattle.run_lines.proofs.Lines.{line-here, line_on, line-end}
 use borrow.Author.Rules.{rules}
 use Rattle.run_lines.proofs.line_len.Statement.{statement}
 use Rattle.run_lines.proofs.line_len.Tie as tie

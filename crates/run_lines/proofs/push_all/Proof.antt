@@ -3,7 +3,8 @@ use Prim.Native.Nat.{◌≤◌, ◌-◌}
 use lib.ListN.{length, drop, drop_of_length-le}
 use mathlib.Core.Path.{refl}
 use native.Mathlib.Omega.{arith}
-use Rattle.run_lines.specs.Lines.{Wrote, wrote_none, wrote-next, wrote_as, wrote-all, drop-next}
+use Rattle.run_lines.specs.Lines.{Wrote}
+use Rattle.run_lines.proofs.Lines.{wrote_none, wrote-next, wrote_as, wrote-all, drop-next}
 use borrow.Author.Rules.{rules}
 use Rattle.run_lines.proofs.push_all.Statement.{statement}
 use Rattle.run_lines.proofs.push_all.Tie as tie

@@ -2,7 +2,7 @@
 use borrow.Author.Rules.{rules}
 use lib.ListN.{length}
 use mathlib.Core.Path.{sym, ◌∙◌}
-use Rattle.outgoing.specs.Send.{send_clear}
+use Rattle.outgoing.proofs.Send.{send_clear}
 use Rattle.send_words.specs.Words.{state_of}
 use Rattle.send_steps.specs.Sends.{sends-laid, sends-nothing}
 use Rattle.send_steps.proofs.send.Statement.{statement}

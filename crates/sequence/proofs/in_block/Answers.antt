@@ -4,7 +4,7 @@ use borrow.Author.Rules.{rules}
 use native.Mathlib.Nat.{mod-le, mod-lt}
 use native.Mathlib.Omega.{arith}
 use Rattle.sequence.specs.Sequence.{own}
-use Rattle.sequence.specs.Laws.{is-nearest}
+use Rattle.sequence.proofs.Cases.{is-nearest}
 use Rattle.sequence.proofs.in_block.Goals as goal
 
 pub overflow_sub-own : goal.overflow_sub-own

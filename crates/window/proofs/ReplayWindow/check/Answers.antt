@@ -4,7 +4,7 @@ use mathlib.Core.Path.{sym}
 use native.Mathlib.Omega.{arith}
 use Rattle.base.specs.Bits.{bit}
 use Rattle.window.specs.declared.Verdict.TheVariants.{Fresh, Seen}
-use Rattle.window.specs.Laws.{verdict-is}
+use Rattle.window.proofs.Laws.{verdict-is}
 use Rattle.window.proofs.ReplayWindow.check.Goals as goal
 
 -- above the highest
