@@ -1,1 +1,2 @@
 pub mod Classify
+pub mod Laws

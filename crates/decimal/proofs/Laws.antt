@@ -1,11 +1,12 @@
 -- What a number in decimal is: how long, which characters, no leading zero, and read back it is the number. Assumes nothing.
 use Rattle.std.specs.Prelude.{List, [], ◌∷◌, ◌++◌, ◌≡◌, refl, ℕ, zero, suc, ◌+◌, ◌-◌, ◌*◌, ◌/◌, ◌^◌, ◌<◌, ◌≤◌, length, get_or, take, drop}
-use Rattle.std.proofs.Common.{append_assoc, ⊎_elim, sym, ap, ◌∙◌, pow-suc, mul_assoc, arith, lt-ltb, le-ltb, length-append, take-append-drop, length-take-le, take-take, drop-drop, drop_at}
+use Rattle.std.proofs.Common.{append_assoc, ⊎_elim, sym, ap, ◌∙◌, pow-suc, mul_assoc, arith, length-append, take-append-drop, length-take-le, take-take, drop-drop, drop_at}
 use Rattle.std.proofs.Math.ListN.{get_or-append}
 use Rattle.std.proofs.lemmas.List.{take-append-le, get_or_at}
-use Rattle.base.specs.Choose.{if_true, if_false, lt-or_ge}
+use Rattle.base.specs.Choose.{lt-or_ge}
 use Rattle.base.specs.Parts.{splice}
 use Rattle.decimal.specs.Decimal.{digit, digits, most_digits, places_up_to, places_of, decimal, value}
+use Rattle.decimal.proofs.Cases.{places_last, places_cases}
 
 -- ---- a digit less
 
@@ -14,19 +15,6 @@ tenth k n h = omega (arith, pow-suc 10 k)
 
 tenfold : (k n : ℕ) → n / 10 < 10 ^ k → n < 10 ^ suc k
 tenfold k n h = omega (arith, pow-suc 10 k)
-
-pub places_last : (k n : ℕ) → n < 10 → places_up_to k n ≡ 1
-unfolding places_up_to
-places_last zero n h = refl
-places_last (suc k) n h = if_true _ _ (lt-ltb n 10 h)
-
-pub places_next : (k n : ℕ) → 10 ≤ n → places_up_to (suc k) n ≡ suc (places_up_to k (n / 10))
-unfolding places_up_to
-places_next k n h = if_false _ _ (le-ltb n 10 h) ∙ omega arith
-
--- what holds of one digit and of a digit more holds of the count
-places_cases : (P : ℕ → Type 0) (k n : ℕ) → (n < 10 → P 1) → (10 ≤ n → P (suc (places_up_to k (n / 10)))) → P (places_up_to (suc k) n)
-places_cases P k n f g = ⊎_elim (λ l. rw (places_last (suc k) n l) (f l)) (λ h. rw (places_next k n h) (g h)) (lt-or_ge n 10)
 
 -- ---- how many digits
 

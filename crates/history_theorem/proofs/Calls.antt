@@ -39,32 +39,10 @@ use Rattle.window.specs.declared.Verdict.TheVariants.{Fresh}
 use Rattle.history_theorem.specs.Account.{Shown, nothing, Account, is_in, without, owed_by, key_owed, with_key, keys}
 use Rattle.history_theorem.proofs.Lists.{by_both, some≢none, mem-by, drops_on, splice-behind}
 use Rattle.history_theorem.proofs.Reading.{is_found, unasked}
-use Rattle.history_theorem.specs.Receiver.{
-  Trial,
-  Lost,
-  Receiver,
-  with_state,
-  flagged,
-  goes_to,
-  unkeyed,
-  loses,
-  is_the,
-  removed_from,
-  removed,
-  loses_owed,
-  remove_owed,
-  starts_on,
-  begun,
-  begin_owed,
-  leaves_rest,
-  finishes,
-  written_in,
-  wrote,
-  read_out,
-  new_inbound,
-}
+use Rattle.history_theorem.specs.Receiver.{Trial, Receiver, with_state, flagged, unkeyed, loses, is_the, removed_from, removed, loses_owed, remove_owed, starts_on, begun, begin_owed, leaves_rest, finishes, written_in, wrote, read_out, new_inbound}
 use Rattle.history_theorem.proofs.Sound.{UnderWay, FreshAsked, intact_from, Intact, Sound}
 use Rattle.history_theorem.proofs.Table.{keyed_in, find_in, full_same, keyed-installed, installed-table, keyed-left, left-table, one_place, was, stood}
+use Rattle.history_theorem.proofs.Ends.{ends-sound}
 
 -- what such a call leaves of the record under way: all, or nothing
 pub data Leaves (y : Receiver) : Receiver → Type 0 where
@@ -347,46 +325,6 @@ module _ (y : Receiver) (i : Sound y) where
 
   -- ---- leaving the rest of a datagram
 
-  -- no question waits, of no record: the cut stands at the end
-  ends-sound : (s : Receiving) (a : Account) → s ≡ record { keys = k; datagram = moved b b.size b.readings }
-      → a ≡ goes_to y.account (length y.arrived) y.account.readings → Made s → b.question ≡ question.Nothing → y.trial ≡ none
-      → Sound (with_state y s a)
-  ends-sound s a e f m q idle =
-      subst (λ x. Sound (with_state y x a)) (sym e)
-      (subst (λ x. Sound (with_state y (record { keys = k; datagram = moved b b.size b.readings }) x)) (sym f) (record {
-        made = subst Made e m;
-        table = i.table;
-        asked = tt;
-        hands = i.hands;
-        tally = record {
-          keyed = i.tally.keyed;
-          highest = i.tally.highest;
-          encryption = i.tally.encryption;
-          released = i.tally.released;
-          place = i.intact.long ∙ i.whole;
-          readings = i.tally.readings;
-        };
-        whole = i.whole;
-        intact = record {
-          long = i.intact.long;
-          lies = drops_on (intact_from b.question b.at) b.size y.datagram y.arrived
-              (subst (λ (x : Question). intact_from x b.at ≤ b.size) (sym q) i.made.ready.at) i.intact.lies;
-          flag = tt;
-        };
-        under = (refl, idle);
-        proper = i.proper;
-        nonces = i.nonces;
-        spared = i.spared;
-        judged = i.judged;
-        lost = i.lost;
-        real = i.real;
-        shows = i.shows;
-        said = i.said;
-        later = λ x p. some≢none (sym p ∙ idle);
-        stops = i.stops;
-        waits = λ x p. some≢none (sym p ∙ idle);
-      }))
-
   -- the question that waits is the one shown: nothing moves
   stays-asked : (w : Shown) → y.account.waits ≡ w → leaves_rest y.account (length y.arrived) w ≡ y.account → finished y.state ≡ y.state
       → Fine y (finishes y)
@@ -397,7 +335,7 @@ module _ (y : Receiver) (i : Sound y) where
 
   finish-by : (q : Question) → b.question ≡ q → UnderWay q b.at y.account.waits y.trial → Fine y (finishes y)
   finish-by question.Nothing q z = (
-    ends-sound _ _ (finished-idle y.state q) (ap (leaves_rest y.account (length y.arrived)) z.0) (finished-made y.state i.made) q z.1,
+    (ends-sound y i) _ _ (finished-idle y.state q) (ap (leaves_rest y.account (length y.arrived)) z.0) (finished-made y.state i.made) q z.1,
     no_more _ z.1 refl refl,
   )
   finish-by (question.Mask a) q z = stays-asked _ z.2.0 refl (finished-masked y.state a q)
@@ -411,6 +349,7 @@ module _ (y : Receiver) (i : Sound y) where
   finish-ends w = finished-ends y.state y.datagram in-range i.whole (unasked y i b.question refl i.under w)
 
   -- ---- removing
+
 
   module _ (e j : ℕ) (f : find k.entries e k.count ≡ found.At j) where
     count : k.count ≤ 5

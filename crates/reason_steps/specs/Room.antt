@@ -13,7 +13,8 @@ use Rattle.reasons.specs.declared.Reason.{Reason}
 use Rattle.reasons.specs.declared.Reason.TheVariants.{Short, Record, Epoch, Old, Seen, Cipher, Taken}
 use Rattle.reasons.specs.declared.Told.{Told}
 use Rattle.reasons.specs.Reasons.{most_records, record_at, kept_at, told_in, name_of, shown, line_of, told_to, told_at, records, lines_to, printed}
-use Rattle.reasons.proofs.Laws.{tell-cases, top_at, taken-small, number_small}
+use Rattle.reasons.proofs.Laws.{top_at, taken-small, number_small}
+use Rattle.reasons.proofs.Cases.{tell-cases}
 use Rattle.reason_steps.specs.Writing.{Put, put_next, put_as}
 
 -- five digits of the index, ten of the number, a word of six letters, two spaces and the newline

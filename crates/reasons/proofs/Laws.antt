@@ -11,38 +11,17 @@ use Rattle.std.proofs.Common.{◌∙◌}
 use Prim.Native.Nat.{ℕ, zero, suc, ◌+◌, ◌-◌, ◌*◌, ◌<◌, ◌≤◌, max}
 use native.Mathlib.Omega.{arith}
 use borrow.Author.Tests.{eqb-true, eq-eqb}
-use Rattle.base.specs.Choose.{choose, both, if_true, by_test, by_less, both_left, both_right, both_true, eq-or_ne}
+use Rattle.base.specs.Choose.{choose, both, if_true, by_test, both_left, both_right, both_true, eq-or_ne}
 use Rattle.sequence.specs.Sequence.{block_of, own, nearest}
-use Rattle.sequence.proofs.Laws.{cases}
+use Rattle.sequence.proofs.Cases.{cases}
 use Rattle.window.specs.Used.{above}
 use Rattle.reasons.specs.declared.Reason.{Reason}
 use Rattle.reasons.specs.declared.Reason.TheVariants.{Short, Record, Epoch, Old, Seen, Cipher, Taken}
 use Rattle.reasons.specs.declared.Told.{Told}
 use Rattle.reasons.specs.Met.{has, meet}
 use Rattle.reasons.proofs.Met.{has-mem, meet-has, met_next}
-use Rattle.reasons.specs.Reasons.{record_at, epoch_of, bits_of, partial_of, is_whole, is_well_formed, is_formed, epoch_at, kept_at, old_from, is_taken, taken_in, number_in, reason_in, told_in, only, tell, told_to, told_at}
-
--- ---- cases
-
--- the tests of a record, in their order
-pub tell-cases : (P : Told → Type 0) (kept : List ℕ) (told : List Told) (r : List ℕ)
-    → (is_whole r ≡ false → P (only Short))
-    → (is_whole r ≡ true → is_well_formed r ≡ false → P (only Record))
-    → (is_whole r ≡ true → is_well_formed r ≡ true → has (epoch_of r) (meet (epoch_of r) kept) ≡ false → P (only Epoch))
-    → (is_whole r ≡ true → is_well_formed r ≡ true → has (epoch_of r) (meet (epoch_of r) kept) ≡ true → P (told_in (taken_in (epoch_of r) told) r))
-    → P (tell kept told r)
-unfolding tell
-tell-cases P kept told r a b c f = by_test P (λ w. by_test P (λ x. by_test P (f w x) (c w x)) (b w)) a
-
--- the tests of a number
-pub reason-cases : (P : Reason → Type 0) (taken : List ℕ) (n : ℕ) (opened : Bool)
-    → (n + old_from < above taken → P Old)
-    → (above taken ≤ n + old_from → has n taken ≡ true → P Seen)
-    → (above taken ≤ n + old_from → has n taken ≡ false → opened ≡ false → P Cipher)
-    → (above taken ≤ n + old_from → has n taken ≡ false → opened ≡ true → P Taken)
-    → P (reason_in taken n opened)
-unfolding reason_in
-reason-cases P taken n opened a b c f = by_less P _ _ a (λ l. by_test P (b l) (λ h. by_test P (f l h) (c l h)))
+use Rattle.reasons.specs.Reasons.{record_at, epoch_of, bits_of, partial_of, is_whole, is_well_formed, is_formed, epoch_at, kept_at, is_taken, taken_in, number_in, told_in, tell, told_to, told_at}
+use Rattle.reasons.proofs.Cases.{tell-cases, taken_next}
 
 -- ---- a record that is taken
 
@@ -75,10 +54,6 @@ pub record TakenAs (d : List ℕ) (e n j : ℕ) : Type 0 where
   pub number : (told_at d j).number ≡ n
 
 module _ (d : List ℕ) where
-  pub told-next : (i : ℕ) → told_to d (suc i) ≡ told_at d i ∷ told_to d i
-  unfolding told_to told_at
-  told-next i = refl
-
   pub takes_at : (j : ℕ) → (told_at d j).reason ≡ Taken → Takes (kept_at d j) (told_to d j) (record_at d j)
   unfolding told_at
   takes_at j e = takes (kept_at d j) (told_to d j) (record_at d j) e
@@ -86,11 +61,6 @@ module _ (d : List ℕ) where
   own-epoch : (j : ℕ) → (told_at d j).reason ≡ Taken → (told_at d j).epoch ≡ epoch_at d j
   unfolding told_at told_in
   own-epoch j e = ap (λ (t : Told). t.epoch) (takes_at j e).its
-
-  -- the numbers taken in an epoch before record i, one more
-  pub taken_next : (e i : ℕ) → taken_in e (told_to d (suc i)) ≡ choose (both (is_taken (told_at d i).reason) (eqb (told_at d i).epoch e)) ((told_at d i).number ∷ taken_in e (told_to d i)) (taken_in e (told_to d i))
-  unfolding taken_in
-  taken_next e i = ap (taken_in e) (told-next i)
 
   -- those in the list are those that records before were taken with
   pub listed : (e n i : ℕ) → Mem n (taken_in e (told_to d i)) → (j : ℕ) × (j < i) × TakenAs d e n j
@@ -103,7 +73,7 @@ module _ (d : List ℕ) where
       ⊎_elim
       (λ (q : n ≡ (told_at d i).number). (i, omega arith, record { taken = is; epoch = sym (own-epoch i is) ∙ eqb-true _ _ (both_right _ _ t); number = sym q }))
       (λ r. earlier (listed e n i r)) (mem-cases m'))
-      (λ t m'. earlier (listed e n i m')) (subst (λ (l : List ℕ). Mem n l) (taken_next e i) m)
+      (λ t m'. earlier (listed e n i m')) (subst (λ (l : List ℕ). Mem n l) (taken_next d e i) m)
     where
       earlier : (j : ℕ) × (j < i) × TakenAs d e n j → (j : ℕ) × (j < suc i) × TakenAs d e n j
       earlier f = (f.0, omega (arith, f.1), f.2)
@@ -111,7 +81,7 @@ module _ (d : List ℕ) where
   pub lists : (e n i j : ℕ) → j < i → TakenAs d e n j → Mem n (taken_in e (told_to d i))
   lists e n zero j l t = absurd (omega arith)
   lists e n (suc i) j l t =
-      subst (λ (x : List ℕ). Mem n x) (sym (taken_next e i))
+      subst (λ (x : List ℕ). Mem n x) (sym (taken_next d e i))
       (⊎_elim (λ (q : j ≡ i). now q)
       (λ q. by_test (λ (x : List ℕ). Mem n x) (λ _. there (lists e n i j (omega arith) t)) (λ _. lists e n i j (omega arith) t)) (eq-or_ne j i))
     where

@@ -91,14 +91,6 @@ pub record First (d : List ℕ) (i : ℕ) (why : Reason) : Type 0 where
 -- ---- the order
 
 module _ (d : List ℕ) (i : ℕ) where
-  -- the tests before one are passed
-  abbrev pub Before : Reason → Type 0
-  Before w = (q : Reason) → rank q < rank w → Fails d i q → ⊥
-
-  -- the numbers taken before in the epoch of record i
-  abbrev pub taken : List ℕ
-  taken = taken_in (epoch_at d i) (told_to d i)
-
   -- ---- the number
 
   -- e is one more than the highest number taken before in the epoch of record i, or 0 if none was

@@ -1,6 +1,6 @@
 -- The first four different epochs of the formed records are kept: which record's epoch is refused, said without the list that is kept.
 -- Assumes nothing.
-use Rattle.std.specs.Prelude.{Bool, false, ◌⊎◌, ◌≡◌, eqb, leb}
+use Rattle.std.specs.Prelude.{Bool, false, ◌≡◌, eqb, leb}
 use Rattle.std.proofs.Math.Bool.{true}
 use mathlib.Core.List.{List, [], ◌∷◌, ◌++◌, Memᴰ as Mem}
 use Prim.Native.Nat.{ℕ, zero, suc, ◌<◌, ◌≤◌}
@@ -42,26 +42,3 @@ pub record FourBefore (formed : ℕ → Bool) (epoch : ℕ → ℕ) (e i : ℕ) 
   pub four : length epochs ≡ most_kept
   pub different : Distinct epochs
   pub each : (x : ℕ) → Mem x epochs → (k : ℕ) × (k < i) × CameFirst formed epoch e x k
-
--- ---- different numbers
-
--- a list with one x taken out
-pub record Without (x : ℕ) (ms : List ℕ) : Type 0 where
-  rest : List ℕ
-  shorter : length ms ≡ suc (length rest)
-  others : (y : ℕ) → (y ≡ x → ⊥) → Mem y ms → Mem y rest
-
--- ---- one record more
-
-abbrev pub HasOrFull : ℕ → List ℕ → Type 0
-HasOrFull e ms = Mem e ms ⊎ (most_kept ≤ length ms)
-
--- ---- the records up to a place
-
-
-module _ (formed : ℕ → Bool) (epoch : ℕ → ℕ) where
-  abbrev pub up_to : ℕ → List ℕ
-  up_to i = met formed epoch i
-
-  abbrev pub Earlier : ℕ → ℕ → ℕ → Type 0
-  Earlier e i x = (k : ℕ) × (k < i) × CameFirst formed epoch e x k

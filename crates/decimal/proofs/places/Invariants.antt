@@ -1,7 +1,12 @@
 -- `decimal::places` meets its contract. The loop's invariant: the digits counted and those of the rest are all. Assumes nothing.
-use Prim.Native.Nat.{◌+◌, ◌-◌, ◌^◌, ◌<◌, ◌≤◌}
-use mathlib.Core.Path.{◌≡◌}
+use Prim.Native.Nat.{ℕ, suc, ◌+◌, ◌-◌, ◌^◌, ◌<◌, ◌≤◌}
+use mathlib.Core.Logic.{⊎_elim}
+use mathlib.Core.Path.{◌≡◌, refl, ap, ◌∙◌}
+use native.Mathlib.Omega.{arith}
+use Rattle.base.specs.Choose.{lt-or_ge}
 use Rattle.decimal.specs.Decimal.{places_up_to, places_of}
+use Rattle.decimal.proofs.Laws.{tenth}
+use Rattle.decimal.proofs.Cases.{places_last, places_next}
 use Rattle.decimal.proofs.places.Given as goal
 
 abbrev pub invariant-loop-rest : goal.invariant-loop-rest
@@ -9,3 +14,4 @@ invariant-loop-rest l = (0 < l.k) × (l.k ≤ 20) × (l.rest < 10 ^ (21 - l.k)) 
 
 abbrev pub decreases-loop-rest : goal.decreases-loop-rest
 decreases-loop-rest l = l.rest
+

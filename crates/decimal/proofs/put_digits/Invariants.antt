@@ -1,9 +1,11 @@
 -- `decimal::put_digits` meets its contract. The loop's invariant: the digits that are left, written over what is there, make all of them. Assumes nothing.
-use Prim.Native.Nat.{◌-◌, ◌≤◌}
-use lib.ListN.{length}
-use mathlib.Core.Path.{◌≡◌}
-use Rattle.base.specs.Parts.{splice}
-use Rattle.decimal.specs.Decimal.{digits}
+use Prim.Native.Nat.{ℕ, suc, ◌+◌, ◌-◌, ◌/◌, ◌≤◌}
+use lib.ListN.{length, length-set}
+use mathlib.Core.Path.{◌≡◌, refl, sym, ap, ◌∙◌}
+use native.Mathlib.Omega.{arith}
+use Rattle.base.specs.Parts.{splice, stored}
+use Rattle.decimal.specs.Decimal.{digit, digits}
+use Rattle.decimal.proofs.Laws.{digits-none, digits-next}
 use Rattle.decimal.proofs.put_digits.Given as goal
 
 abbrev pub invariant-loop-i : goal.invariant-loop-i
@@ -11,3 +13,4 @@ invariant-loop-i l = (l.i ≤ l.k) × (length l.out ≡ length l.initial.out) ×
 
 abbrev pub decreases-loop-i : goal.decreases-loop-i
 decreases-loop-i l = l.i
+

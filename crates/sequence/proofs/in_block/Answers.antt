@@ -1,9 +1,10 @@
 -- `sequence::in_block` meets its contract: of the cases of `nearest`, the tests leave the one that was returned.
 -- A remainder by a variable is an unknown to `omega`: `mod-lt` and `mod-le` bound it. Assumes nothing.
+use borrow.Author.Rules.{rules}
 use native.Mathlib.Nat.{mod-le, mod-lt}
 use native.Mathlib.Omega.{arith}
 use Rattle.sequence.specs.Sequence.{own}
-use Rattle.sequence.proofs.Laws.{is-nearest}
+use Rattle.sequence.proofs.Cases.{is-nearest}
 use Rattle.sequence.proofs.in_block.Goals as goal
 
 pub overflow_sub-own : goal.overflow_sub-own
@@ -35,3 +36,4 @@ returns-else-own-block-2 c = is-nearest _ _ _ (λ s z. omega arith) (λ s z. ome
 pub returns-else-half-expected : goal.returns-else-half-expected
 unfolding own
 returns-else-half-expected c = is-nearest _ _ _ (λ s z. omega arith) (λ s z. omega arith) (λ s t v. omega arith) (λ s t v. omega arith) (λ s t. omega arith)
+
