@@ -32,7 +32,7 @@ use Rattle.classify.specs.Classify.{kind_of, start_of, length_of, is_inside, is_
 use Rattle.classify.specs.declared.Class.TheVariants as class
 <<<<<<< HEAD
 =======
-use Rattle.classify.specs.Laws.{at_end}
+use Rattle.classify.proofs.Laws.{at_end}
 >>>>>>> abd2d7771ea9d10e6288cfb601ee7c09b173a60e
 
 -- ---- words in range, over n bytes

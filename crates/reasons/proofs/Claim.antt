@@ -19,7 +19,8 @@ use Rattle.reasons.specs.Met.{has, meet, FourBefore}
 use Rattle.reasons.proofs.Met.{has-mem, hasnt, kept_exactly}
 <<<<<<< HEAD
 use Rattle.reasons.specs.Reasons.{record_size, record_at, records, bits_of, reply_of, is_whole, ends_well, is_well_formed, is_formed, epoch_at, kept_at, old_from, number_in, reason_in, told_in, told_to, told_at}
-use Rattle.reasons.proofs.Laws.{tell-cases, reason-cases, listed, lists, taken-small}
+use Rattle.reasons.proofs.Laws.{listed, lists, taken-small}
+use Rattle.reasons.proofs.Cases.{tell-cases, reason-cases}
 use Rattle.reasons.specs.Claim.{records_read, WellFormed, Formed, Fifth, TakenBefore, number_at, Fails, rank, First, Before, taken, Numbered, Explained}
 =======
 use Rattle.reasons.specs.Reasons.{record_size, record_at, records, bits_of, reply_of, is_whole, ends_well, is_well_formed, is_formed, epoch_at, kept_at, old_from, taken_in, number_in, reason_in, told_in, told_to, told_at}
