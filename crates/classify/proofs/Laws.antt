@@ -1,10 +1,5 @@
 -- A reading in range lies within its datagram. Laws of leaving the rest of a datagram: the ranges are kept, a question that waits stays, and where none
 -- waits a read finds the end. Assumes nothing.
-<<<<<<< HEAD
-use Rattle.datagram.specs.Datagram.{moved}
-use Rattle.datagram.specs.declared.Datagram.{Datagram}
-<<<<<<<< HEAD:crates/classify/proofs/Laws.antt
-=======
 use Rattle.std.specs.Prelude.{ℕ, ◌+◌, ◌≤◌, eqb, length, drop, false, List, ◌≡◌}
 use Rattle.std.proofs.Common.{eq-eqb, leb-true, length-drop, sym, ◌∙◌, arith}
 use Rattle.std.proofs.Math.Bool.{true}
@@ -14,7 +9,6 @@ use Rattle.datagram.specs.Datagram.{question_sound, told}
 use Rattle.datagram.specs.Sound.{Ready, ready, is-ready}
 use Rattle.datagram.specs.declared.Ask.{Ask}
 use Rattle.datagram.specs.declared.Datagram.{Datagram}
->>>>>>> abd2d7771ea9d10e6288cfb601ee7c09b173a60e
 use Rattle.datagram.specs.declared.Question.TheVariants as question
 use Rattle.datagram.specs.declared.Question.{Question}
 use Rattle.datagram.specs.declared.Reading.TheVariants as says
@@ -30,10 +24,7 @@ use Rattle.records.specs.Records.{step_of, asking}
 use Rattle.recv_keys.specs.declared.RecvKeys.{RecvKeys}
 use Rattle.classify.specs.Classify.{kind_of, start_of, length_of, is_inside, is_sound, classified, left_at, finished}
 use Rattle.classify.specs.declared.Class.TheVariants as class
-<<<<<<< HEAD
-=======
-use Rattle.classify.proofs.Laws.{at_end}
->>>>>>> abd2d7771ea9d10e6288cfb601ee7c09b173a60e
+use Rattle.classify.specs.Laws.{at_end}
 
 -- ---- words in range, over n bytes
 
@@ -47,16 +38,6 @@ waits-inside n w t z =
 pub setting-first : (w : List ℕ) (s : Receiving) (d : List ℕ) → both (sound s) (is_sound s.datagram.size w) ≡ false → classified w s d ≡ class.Setting
 unfolding classified
 setting-first w s d e = if_false _ _ e
-<<<<<<< HEAD
-========
->>>>>>>> abd2d7771ea9d10e6288cfb601ee7c09b173a60e:crates/classify/specs/Laws.antt
-
--- ---- the rest of a datagram
-
--- the cut at the end, the readings as they were
-abbrev pub at_end : Datagram → Datagram
-at_end b = moved b b.size b.readings
-=======
 
 -- ---- the rest of a datagram
 
@@ -115,4 +96,3 @@ module _ (s : Receiving) (d : List ℕ) (in-range : sound s ≡ true) (long : le
 
   pub finished-stays : (read_of (finished s) d).state ≡ finished s
   finished-stays = ap (λ (r : Read). r.state) finished-read ∙ sym (finished-idle s idle)
->>>>>>> abd2d7771ea9d10e6288cfb601ee7c09b173a60e

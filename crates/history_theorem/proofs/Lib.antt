@@ -13,7 +13,4 @@ pub mod Table
 pub mod Undamaged
 pub mod Verdicts
 pub mod Claim
-<<<<<<< HEAD
-=======
 pub mod Ends
->>>>>>> abd2d7771ea9d10e6288cfb601ee7c09b173a60e

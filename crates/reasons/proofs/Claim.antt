@@ -17,17 +17,10 @@ use Rattle.reasons.specs.declared.Reason.TheVariants.{Short, Record, Epoch, Old,
 use Rattle.reasons.specs.declared.Told.{Told}
 use Rattle.reasons.specs.Met.{has, meet, FourBefore}
 use Rattle.reasons.proofs.Met.{has-mem, hasnt, kept_exactly}
-<<<<<<< HEAD
-use Rattle.reasons.specs.Reasons.{record_size, record_at, records, bits_of, reply_of, is_whole, ends_well, is_well_formed, is_formed, epoch_at, kept_at, old_from, number_in, reason_in, told_in, told_to, told_at}
-use Rattle.reasons.proofs.Laws.{listed, lists, taken-small}
-use Rattle.reasons.proofs.Cases.{tell-cases, reason-cases}
-use Rattle.reasons.specs.Claim.{records_read, WellFormed, Formed, Fifth, TakenBefore, number_at, Fails, rank, First, Before, taken, Numbered, Explained}
-=======
 use Rattle.reasons.specs.Reasons.{record_size, record_at, records, bits_of, reply_of, is_whole, ends_well, is_well_formed, is_formed, epoch_at, kept_at, old_from, taken_in, number_in, reason_in, told_in, told_to, told_at}
 use Rattle.reasons.proofs.Laws.{listed, lists, taken-small}
 use Rattle.reasons.proofs.Cases.{tell-cases, reason-cases}
 use Rattle.reasons.specs.Claim.{records_read, WellFormed, Formed, Fifth, TakenBefore, number_at, Fails, rank, First, Numbered, Explained}
->>>>>>> abd2d7771ea9d10e6288cfb601ee7c09b173a60e
 
 -- ---- each is what the definition tests
 
@@ -143,15 +136,11 @@ rank-one : (q w : Reason) → rank q ≡ rank w → q ≡ w
 rank-one q w e = sym (unrank-rank q) ∙ ap unrank e ∙ unrank-rank w
 
 module _ (d : List ℕ) (i : ℕ) where
-<<<<<<< HEAD
-  and-next : (w v : Reason) → rank v ≡ suc (rank w) → Before d i w → (Fails d i w → ⊥) → Before d i v
-=======
   -- the tests before one are passed
   abbrev Before : Reason → Type 0
   Before w = (q : Reason) → rank q < rank w → Fails d i q → ⊥
 
   and-next : (w v : Reason) → rank v ≡ suc (rank w) → Before w → (Fails d i w → ⊥) → Before v
->>>>>>> abd2d7771ea9d10e6288cfb601ee7c09b173a60e
   and-next w v e p f q l x =
       ⊎_elim (λ (s : rank q ≡ rank w). f (subst (λ (y : Reason). Fails d i y) (rank-one q w s) x)) (λ s. p q (omega arith) x) (eq-or_ne (rank q) (rank w))
 
@@ -161,33 +150,6 @@ module _ (d : List ℕ) (i : ℕ) where
       ⊎_elim (λ l. absurd (b.passes q l a.fails))
       (λ l. ⊎_elim (λ k. absurd (a.passes w k b.fails)) (λ k. rank-one q w (omega arith)) (lt-or_ge (rank w) (rank q))) (lt-or_ge (rank q) (rank w))
 
-<<<<<<< HEAD
-  came : (n : ℕ) → Mem n (taken d i) → (j : ℕ) × TakenBefore d i n j
-  came n m = let t = listed d (epoch_at d i) n i m in
-      (t.0, record { before = t.1; epoch = t.2.epoch; taken = t.2.taken; number = t.2.number })
-
-  comes : (n j : ℕ) → TakenBefore d i n j → Mem n (taken d i)
-  comes n j t = lists d (epoch_at d i) n i j t.before (record { taken = t.taken; epoch = t.epoch; number = t.number })
-
-  -- the highest number taken, if any was
-  came-highest : (l : List ℕ) → taken d i ≡ l → 0 < above l → (j : ℕ) × TakenBefore d i (above l - 1) j
-  came-highest [] e h = absurd (omega arith)
-  came-highest (n ∷ l) e h = came (above (n ∷ l) - 1) (subst (λ (x : List ℕ). Mem (above (n ∷ l) - 1) x) (sym e) (highest-used n l))
-
-  not_old : above (taken d i) ≤ number_at d i + old_from → Fails d i Old → ⊥
-  not_old l f = omega (arith, used-below (taken d i) (comes f.0 f.1 f.2), f.3)
-
-  not_seen : has (number_at d i) (taken d i) ≡ false → Fails d i Seen → ⊥
-  not_seen e f = (hasnt (number_at d i) (taken d i)).0 e (comes (number_at d i) f.0 f.1)
-
-  is-old : number_at d i + old_from < above (taken d i) → Fails d i Old
-  is-old l = let c = came-highest (taken d i) refl (omega arith) in (above (taken d i) - 1, c.0, c.1, omega arith)
-
-  -- of a well-formed record whose epoch is kept
-  first-number : is_well_formed (record_at d i) ≡ true → Before d i Old → First d i (reason_in (taken d i) (number_at d i) (eqb (reply_of (record_at d i)) 1))
-  first-number w p =
-      reason-cases (First d i) (taken d i) (number_at d i) (eqb (reply_of (record_at d i)) 1) (λ l. record { fails = is-old l; passes = p })
-=======
   -- the numbers taken before in the epoch of record i
   abbrev taken : List ℕ
   taken = taken_in (epoch_at d i) (told_to d i)
@@ -217,7 +179,6 @@ module _ (d : List ℕ) (i : ℕ) where
   first-number : is_well_formed (record_at d i) ≡ true → Before Old → First d i (reason_in taken (number_at d i) (eqb (reply_of (record_at d i)) 1))
   first-number w p =
       reason-cases (First d i) taken (number_at d i) (eqb (reply_of (record_at d i)) 1) (λ l. record { fails = is-old l; passes = p })
->>>>>>> abd2d7771ea9d10e6288cfb601ee7c09b173a60e
       (λ l h. record { fails = came (number_at d i) ((has-mem _ _).0 h); passes = and-next Old Seen refl p (not_old l) })
       (λ l h o. record { fails = refused o; passes = and-next Seen Cipher refl (and-next Old Seen refl p (not_old l)) (not_seen h) })
       (λ l h o. record {
@@ -238,27 +199,16 @@ module _ (d : List ℕ) (i : ℕ) where
       (λ w x. record { fails = ill x; passes = whole w }) (λ w x y. record { fails = (fifth-is d i).0 y; passes = formed w x })
       (λ w x y. first-number x (and-next Epoch Old refl (formed w x) (among y)))
     where
-<<<<<<< HEAD
-      none : (Before d i) Short
-=======
       none : Before Short
->>>>>>> abd2d7771ea9d10e6288cfb601ee7c09b173a60e
       none q l f = omega arith
 
       ill : is_well_formed (record_at d i) ≡ false → Fails d i Record
       ill x f = false≢true (sym x ∙ is_form _ f)
 
-<<<<<<< HEAD
-      whole : is_whole (record_at d i) ≡ true → Before d i Record
-      whole w = and-next Short Record refl none (λ f. omega (arith, whole_is d i w))
-
-      formed : is_whole (record_at d i) ≡ true → is_well_formed (record_at d i) ≡ true → Before d i Epoch
-=======
       whole : is_whole (record_at d i) ≡ true → Before Record
       whole w = and-next Short Record refl none (λ f. omega (arith, whole_is d i w))
 
       formed : is_whole (record_at d i) ≡ true → is_well_formed (record_at d i) ≡ true → Before Epoch
->>>>>>> abd2d7771ea9d10e6288cfb601ee7c09b173a60e
       formed w x = and-next Record Epoch refl (whole w) (λ f. f (form_is _ x))
 
       among : has (epoch_at d i) (meet (epoch_at d i) (kept_at d i)) ≡ true → Fails d i Epoch → ⊥
@@ -269,13 +219,8 @@ module _ (d : List ℕ) (i : ℕ) where
   numbered : i < records_read → Numbered d i
   unfolding number_in
   numbered l = record {
-<<<<<<< HEAD
-    expected = above (taken d i);
-    is-expected = record { above-all = λ n j t. used-below (taken d i) (comes n j t); highest = λ h. came-highest (taken d i) refl h };
-=======
     expected = above taken;
     is-expected = record { above-all = λ n j t. used-below taken (comes n j t); highest = λ h. came-highest taken refl h };
->>>>>>> abd2d7771ea9d10e6288cfb601ee7c09b173a60e
     nearest_to = nearest-least (eqb (bits_of (record_at d i)) 16) _ _ (omega (arith, taken-small d i (epoch_at d i)));
   }
 

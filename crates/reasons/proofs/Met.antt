@@ -17,18 +17,11 @@ use Rattle.std.proofs.Math.Logic.{⊎_elim}
 use Rattle.std.proofs.Math.Path.{refl, sym, subst}
 use Prim.Native.Nat.{ℕ, zero, suc, ◌<◌, ◌≤◌}
 use native.Mathlib.Omega.{arith}
-<<<<<<< HEAD
-use borrow.Author.Tests.{eqb-true, eq-eqb, le-leb, lt-leb}
-use Rattle.std.proofs.Math.ListN.{length, length-append}
-use Rattle.base.specs.Choose.{choose, if_true, if_false, by_test, test_cases, either_true, either-false, eq-or_ne, lt-or_ge}
-use Rattle.reasons.specs.Met.{most_kept, has, meet, met, Distinct, FourBefore, Without, HasOrFull, up_to, Earlier}
-=======
 use borrow.Author.Tests.{eqb-true, eq-eqb, le-leb}
 use Rattle.std.proofs.Math.ListN.{length, length-append}
 use Rattle.base.specs.Choose.{choose, if_true, by_test, test_cases, either_true, either-false, eq-or_ne, lt-or_ge}
 use Rattle.reasons.specs.Met.{most_kept, has, meet, met, Distinct, CameFirst, FourBefore}
 use Rattle.reasons.proofs.Known.{meet-known, meet-new}
->>>>>>> abd2d7771ea9d10e6288cfb601ee7c09b173a60e
 
 -- ---- what a list has
 
@@ -59,15 +52,12 @@ distinct_append e (k ∷ ms) d f = (
   distinct_append e ms d.1 (λ m. f (there m)),
 )
 
-<<<<<<< HEAD
-=======
 -- a list with one x taken out
 record Without (x : ℕ) (ms : List ℕ) : Type 0 where
   rest : List ℕ
   shorter : length ms ≡ suc (length rest)
   others : (y : ℕ) → (y ≡ x → ⊥) → Mem y ms → Mem y rest
 
->>>>>>> abd2d7771ea9d10e6288cfb601ee7c09b173a60e
 without : (x : ℕ) (ms : List ℕ) → Mem x ms → Without x ms
 without x [] m = absurd (elim m [ ])
 without x (k ∷ ms) m = ⊎_elim first (λ l. later (without x ms l)) (mem-cases m)
@@ -96,35 +86,14 @@ no_more (x ∷ es) ms d f =
 
 -- ---- one record more
 
-<<<<<<< HEAD
-module _ (e : ℕ) (ms : List ℕ) where
-  pub meet-known : has e ms ≡ true → meet e ms ≡ ms
-  unfolding meet
-  meet-known h = if_true _ _ (either_true _ h)
-
-=======
 abbrev HasOrFull : ℕ → List ℕ → Type 0
 HasOrFull e ms = Mem e ms ⊎ (most_kept ≤ length ms)
 
 module _ (e : ℕ) (ms : List ℕ) where
->>>>>>> abd2d7771ea9d10e6288cfb601ee7c09b173a60e
   pub meet_full : leb most_kept (length ms) ≡ true → meet e ms ≡ ms
   unfolding meet
   meet_full h = if_true _ _ (test_cases (has e ms) (λ t. either_true _ t) (λ t. either-false t ∙ h))
 
-<<<<<<< HEAD
-  pub meet-new : has e ms ≡ false → length ms < most_kept → meet e ms ≡ ms ++ (e ∷ [])
-  unfolding meet
-  meet-new h l = if_false _ _ (either-false h ∙ lt-leb most_kept (length ms) l)
-
-  -- the list stays as it is if it has e or is full, else e is added
-  by-meet : (P : List ℕ → Type 0) → (HasOrFull e ms → P ms) → ((Mem e ms → ⊥) → length ms < most_kept → P (ms ++ (e ∷ []))) → P (meet e ms)
-  by-meet P stays adds = test_cases (has e ms) (λ t. subst P (sym (meet-known t)) (stays (inl (has_in e ms t)))) absent
-    where
-      absent : has e ms ≡ false → P (meet e ms)
-      absent t =
-          ⊎_elim (λ l. subst P (sym (meet-new t l)) (adds ((hasnt e ms).0 t) l)) (λ l. subst P (sym (meet_full (le-leb _ _ l))) (stays (inr l)))
-=======
   -- the list stays as it is if it has e or is full, else e is added
   by-meet : (P : List ℕ → Type 0) → (HasOrFull e ms → P ms) → ((Mem e ms → ⊥) → length ms < most_kept → P (ms ++ (e ∷ []))) → P (meet e ms)
   by-meet P stays adds = test_cases (has e ms) (λ t. subst P (sym (meet-known e ms t)) (stays (inl (has_in e ms t)))) absent
@@ -132,7 +101,6 @@ module _ (e : ℕ) (ms : List ℕ) where
       absent : has e ms ≡ false → P (meet e ms)
       absent t =
           ⊎_elim (λ l. subst P (sym (meet-new e ms t l)) (adds ((hasnt e ms).0 t) l)) (λ l. subst P (sym (meet_full (le-leb _ _ l))) (stays (inr l)))
->>>>>>> abd2d7771ea9d10e6288cfb601ee7c09b173a60e
           (lt-or_ge (length ms) most_kept)
 
   -- what was kept stays
@@ -152,27 +120,12 @@ module _ (e : ℕ) (ms : List ℕ) where
 -- ---- the records up to a place
 
 
-<<<<<<< HEAD
-=======
 
->>>>>>> abd2d7771ea9d10e6288cfb601ee7c09b173a60e
 module _ (formed : ℕ → Bool) (epoch : ℕ → ℕ) where
   pub met_next : (i : ℕ) → met formed epoch (suc i) ≡ choose (formed i) (meet (epoch i) (met formed epoch i)) (met formed epoch i)
   unfolding met
   met_next i = refl
 
-<<<<<<< HEAD
-  -- the list stays as it is if record i is not formed, its epoch is kept already or there is no room, else its epoch is added
-  by_record : (P : List ℕ → Type 0) (i : ℕ) →
-      ((formed i ≡ true → HasOrFull (epoch i) (up_to formed epoch i)) → P (up_to formed epoch i)) →
-      (formed i ≡ true → (Mem (epoch i) (up_to formed epoch i) → ⊥) → length (up_to formed epoch i) < most_kept → P (up_to formed epoch i ++ (epoch i ∷ []))) → P (up_to formed epoch (suc i))
-  by_record P i stays adds = subst P (sym (met_next i)) (by_test P well ill)
-    where
-      well : formed i ≡ true → P (meet (epoch i) (up_to formed epoch i))
-      well t = by-meet (epoch i) (up_to formed epoch i) P (λ o. stays (λ u. o)) (adds t)
-
-      ill : formed i ≡ false → P (up_to formed epoch i)
-=======
   abbrev up_to : ℕ → List ℕ
   up_to i = met formed epoch i
 
@@ -186,18 +139,13 @@ module _ (formed : ℕ → Bool) (epoch : ℕ → ℕ) where
       well t = by-meet (epoch i) (up_to i) P (λ o. stays (λ u. o)) (adds t)
 
       ill : formed i ≡ false → P (up_to i)
->>>>>>> abd2d7771ea9d10e6288cfb601ee7c09b173a60e
       ill t = stays (λ u. absurd (false≢true (sym t ∙ u)))
 
   pub met-few : (i : ℕ) → length (met formed epoch i) ≤ most_kept
   unfolding met
   met-few zero = omega arith
   met-few (suc i) =
-<<<<<<< HEAD
-      by_record (λ l. length l ≤ most_kept) i (λ o. met-few i) (λ t out room. omega (arith, length-append (up_to formed epoch i) (epoch i ∷ [])))
-=======
       by_record (λ l. length l ≤ most_kept) i (λ o. met-few i) (λ t out room. omega (arith, length-append (up_to i) (epoch i ∷ [])))
->>>>>>> abd2d7771ea9d10e6288cfb601ee7c09b173a60e
 
   pub met-distinct : (i : ℕ) → Distinct (met formed epoch i)
   unfolding met
@@ -205,29 +153,6 @@ module _ (formed : ℕ → Bool) (epoch : ℕ → ℕ) where
   met-distinct (suc i) = by_record Distinct i (λ o. met-distinct i) (λ t out room. distinct_append _ _ (met-distinct i) out)
 
   -- a formed record's epoch is kept if there is room, and stays
-<<<<<<< HEAD
-  record_kept : (i : ℕ) → formed i ≡ true → HasOrFull (epoch i) (up_to formed epoch (suc i))
-  record_kept i f = by_record (HasOrFull (epoch i)) i (λ o. o f) (λ t new room. inl (append_right (up_to formed epoch i) (here refl)))
-
-  stays-kept : (x i : ℕ) → HasOrFull x (up_to formed epoch i) → HasOrFull x (up_to formed epoch (suc i))
-  stays-kept x i h =
-      by_record (HasOrFull x) i (λ o. h) (λ t new room. ⊎_elim (λ m. inl (append_left (epoch i ∷ []) m)) (λ l. absurd (omega arith)) h)
-
-  came-or_full : (i m : ℕ) → m < i → formed m ≡ true → HasOrFull (epoch m) (up_to formed epoch i)
-  came-or_full zero m h f = absurd (omega arith)
-  came-or_full (suc i) m h f =
-      ⊎_elim (λ (q : m ≡ i). subst (λ (n : ℕ). HasOrFull (epoch m) (up_to formed epoch (suc n))) q (record_kept m f))
-      (λ q. stays-kept (epoch m) i (came-or_full i m (omega arith) f)) (eq-or_ne m i)
-
-  -- no formed record of epoch e came while there is room and e is not kept
-  none_came : (e i m : ℕ) → length (up_to formed epoch i) < most_kept → (Mem e (up_to formed epoch i) → ⊥) → m < i → formed m ≡ true → epoch m ≡ e → ⊥
-  none_came e i m room out h f q = ⊎_elim (λ r. out (mem-cast (sym q) r)) (λ l. omega arith) (came-or_full i m h f)
-
-  earlier-still : (e i x : ℕ) → Earlier formed epoch e i x → Earlier formed epoch e (suc i) x
-  earlier-still e i x c = (c.0, omega (arith, c.1), c.2)
-
-  added-earlier : (e i : ℕ) → formed i ≡ true → length (up_to formed epoch i) < most_kept → (Mem e (up_to formed epoch i ++ (epoch i ∷ [])) → ⊥) → Earlier formed epoch e (suc i) (epoch i)
-=======
   record_kept : (i : ℕ) → formed i ≡ true → HasOrFull (epoch i) (up_to (suc i))
   record_kept i f = by_record (HasOrFull (epoch i)) i (λ o. o f) (λ t new room. inl (append_right (up_to i) (here refl)))
 
@@ -252,66 +177,10 @@ module _ (formed : ℕ → Bool) (epoch : ℕ → ℕ) where
   earlier-still e i x c = (c.0, omega (arith, c.1), c.2)
 
   added-earlier : (e i : ℕ) → formed i ≡ true → length (up_to i) < most_kept → (Mem e (up_to i ++ (epoch i ∷ [])) → ⊥) → Earlier e (suc i) (epoch i)
->>>>>>> abd2d7771ea9d10e6288cfb601ee7c09b173a60e
   added-earlier e i t room out = (i, omega arith, record { is-formed = t; its-epoch = refl; none_of_e = none })
     where
       none : (m : ℕ) → m ≤ i → formed m ≡ true → epoch m ≡ e → ⊥
       none m l f q =
-<<<<<<< HEAD
-          ⊎_elim (λ (s : m ≡ i). out (append_right (up_to formed epoch i) (here (sym q ∙ ap epoch s))))
-          (λ s. none_came e i m room (λ n. out (append_left (epoch i ∷ []) n)) (omega arith) f q) (eq-or_ne m i)
-
-  -- while e is not kept, each epoch kept came before it
-  came-first : (e i : ℕ) → (Mem e (up_to formed epoch i) → ⊥) → (x : ℕ) → Mem x (up_to formed epoch i) → Earlier formed epoch e i x
-  unfolding met
-  came-first e zero = λ out x m. absurd (elim m [ ])
-  came-first e (suc i) =
-      by_record (λ l. (Mem e l → ⊥) → (x : ℕ) → Mem x l → Earlier formed epoch e (suc i) x) i
-      (λ o out x m. earlier-still e i x (came-first e i out x m))
-      (λ t new room out x m. either_list t room out x (came-first e i (λ n. out (append_left (epoch i ∷ []) n)) x) (append_cases (up_to formed epoch i) m))
-    where
-      either_list : formed i ≡ true → length (up_to formed epoch i) < most_kept → (Mem e (up_to formed epoch i ++ (epoch i ∷ [])) → ⊥) → (x : ℕ) →
-          (Mem x (up_to formed epoch i) → Earlier formed epoch e i x) → Mem x (up_to formed epoch i) ⊎ Mem x (epoch i ∷ []) → Earlier formed epoch e (suc i) x
-      either_list t room out x old (inl m) = earlier-still e i x (old m)
-      either_list t room out x old (inr m) = subst (λ (y : ℕ). Earlier formed epoch e (suc i) y) (sym (mem-one m)) (added-earlier e i t room out)
-
-  -- an epoch that is kept came while there was room
-  came-with-room : (e i : ℕ) → Mem e (up_to formed epoch i) → (j : ℕ) × (formed j ≡ true) × (epoch j ≡ e) × (length (up_to formed epoch j) < most_kept)
-  unfolding met
-  came-with-room e zero = λ m. absurd (elim m [ ])
-  came-with-room e (suc i) =
-      by_record (λ l. Mem e l → (j : ℕ) × (formed j ≡ true) × (epoch j ≡ e) × (length (up_to formed epoch j) < most_kept)) i (λ o m. came-with-room e i m)
-      (λ t new room m. ⊎_elim (came-with-room e i) (λ r. (i, t, sym (mem-one r), room)) (append_cases (up_to formed epoch i) m))
-
-  -- once the four have come there is no room
-  four_fill : (e i j : ℕ) → FourBefore formed epoch e i → ((x : ℕ) → Earlier formed epoch e i x → Earlier formed epoch e j x) → most_kept ≤ length (up_to formed epoch j)
-  four_fill e i j b early = ⊎_elim no_fit (λ l. l) (lt-or_ge (length (up_to formed epoch j)) most_kept)
-    where
-      inside : length (up_to formed epoch j) < most_kept → (x : ℕ) → Earlier formed epoch e j x → Mem x (up_to formed epoch j)
-      inside room x c =
-          ⊎_elim (λ r. mem-cast (sym c.2.its-epoch) r) (λ l. absurd (omega arith)) (came-or_full j c.0 c.1 c.2.is-formed)
-
-      no_fit : length (up_to formed epoch j) < most_kept → most_kept ≤ length (up_to formed epoch j)
-      no_fit room = omega (arith, b.four, no_more b.epochs (up_to formed epoch j) b.different (λ x m. inside room x (early x (b.each x m))))
-
-  -- epoch e is refused at record i exactly if four others came before it
-  pub kept_exactly : (e i : ℕ) → (has e (meet e (met formed epoch i)) ≡ false) ↔ FourBefore formed epoch e i
-  kept_exactly e i = (there_are_four, λ b. (hasnt e (meet e (up_to formed epoch i))).1 (λ m. ⊎_elim (too_late b) (no_place b) (kept e (up_to formed epoch i) m)))
-    where
-      there_are_four : has e (meet e (up_to formed epoch i)) ≡ false → FourBefore formed epoch e i
-      there_are_four h =
-          let r = refused e (up_to formed epoch i) ((hasnt e (meet e (up_to formed epoch i))).0 h) in
-          record { epochs = up_to formed epoch i; four = omega (arith, r.1, met-few i); different = met-distinct i; each = came-first e i r.0 }
-
-      sooner : (j : ℕ) → formed j ≡ true → epoch j ≡ e → (x : ℕ) → Earlier formed epoch e i x → Earlier formed epoch e j x
-      sooner j f q x c = (c.0, ⊎_elim (λ l. l) (λ l. absurd (c.2.none_of_e j l f q)) (lt-or_ge c.0 j), c.2)
-
-      too_late : FourBefore formed epoch e i → Mem e (up_to formed epoch i) → ⊥
-      too_late b m =
-          let p = came-with-room e i m in omega (arith, p.3, four_fill e i p.0 b (λ x c. sooner p.0 p.1 p.2 x c))
-
-      no_place : FourBefore formed epoch e i → length (up_to formed epoch i) < most_kept → ⊥
-=======
           ⊎_elim (λ (s : m ≡ i). out (append_right (up_to i) (here (sym q ∙ ap epoch s))))
           (λ s. none_came e i m room (λ n. out (append_left (epoch i ∷ []) n)) (omega arith) f q) (eq-or_ne m i)
 
@@ -365,5 +234,4 @@ module _ (formed : ℕ → Bool) (epoch : ℕ → ℕ) where
           let p = came-with-room e i m in omega (arith, p.3, four_fill e i p.0 b (λ x c. sooner p.0 p.1 p.2 x c))
 
       no_place : FourBefore formed epoch e i → length (up_to i) < most_kept → ⊥
->>>>>>> abd2d7771ea9d10e6288cfb601ee7c09b173a60e
       no_place b l = omega (arith, four_fill e i i b (λ x c. c))
