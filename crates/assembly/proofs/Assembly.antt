@@ -8,7 +8,6 @@ use Rattle.assembly.specs.Assembly.{is_fit}
 
 -- ---- what a piece that 24 spares meets
 
-
 module _ (w : List ℕ) (h : Header) (fit : is_fit w h ≡ true) where
   pub fit-number : expected_of w < last-number
   unfolding is_fit

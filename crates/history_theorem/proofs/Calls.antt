@@ -350,7 +350,6 @@ module _ (y : Receiver) (i : Sound y) where
 
   -- ---- removing
 
-
   module _ (e j : ℕ) (f : find k.entries e k.count ≡ found.At j) where
     count : k.count ≤ 5
     count = i.made.ready.keys.count

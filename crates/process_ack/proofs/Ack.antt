@@ -12,7 +12,6 @@ use Rattle.process_ack.specs.Ack.{is_formed, is_pair, is_named, is_remembered, i
 
 -- ---- laws
 
-
 module _ (d : List ℕ) where
   pub named-next : (e number n : ℕ) → is_named d e number (n + 1) ≡ choose (is_pair d n e number) true (is_named d e number n)
   unfolding is_named

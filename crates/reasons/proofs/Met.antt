@@ -119,8 +119,6 @@ module _ (e : ℕ) (ms : List ℕ) where
 
 -- ---- the records up to a place
 
-
-
 module _ (formed : ℕ → Bool) (epoch : ℕ → ℕ) where
   pub met_next : (i : ℕ) → met formed epoch (suc i) ≡ choose (formed i) (meet (epoch i) (met formed epoch i)) (met formed epoch i)
   unfolding met

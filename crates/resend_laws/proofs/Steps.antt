@@ -249,7 +249,6 @@ module _ (s : Sending) (f : Flight) (kept q : List ℕ) (a : Able s f kept q) (n
 
 -- ---- all of them
 
-
 module _ (s : Sending) (f : Flight) (kept q : List ℕ) (a : Able s f kept q) (t : Tables s f) where
   pub reaches : (n : ℕ) → n ≤ f.saved → Reached s f n (reached s f kept q n)
   unfolding again_after

@@ -196,7 +196,6 @@ module _ (s : Sending) (f : Flight) (kept q : List ℕ) (a : Able s f kept q) (t
 
 -- ---- wholly
 
-
 module _ (s : Sending) (f : Flight) (kept q : List ℕ) (t : Tables s f) (d : is_done (answer_to s f kept q) ≡ true) where
   abbrev a : Able s f kept q
   a = able s f kept q d
@@ -278,7 +277,6 @@ not_at-all s f kept q d = record {
 }
 
 -- ---- a resend touches every record that is not marked, and no marked one
-
 
 module _ (s : Sending) (f : Flight) (kept q : List ℕ) (t : Tables s f) (d : is_done (answer_to s f kept q) ≡ true) (i : ℕ) (below : i < f.saved) where
   pub touches_unmarked : (entry_at f i).marked ≡ false → (entry_at (left_state s f kept q).flight i).number ≡ number_again s f i

@@ -56,7 +56,6 @@ allowed mtu kind n high fits =
 
 -- ---- one piece
 
-
 module _ (k kind : ℕ) (body : List ℕ) (at : ℕ) (l : Laid) (a : Able (suc k) kind body at l) where
   abbrev s : Sending
   s = l.saved.state

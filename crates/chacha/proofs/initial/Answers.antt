@@ -7,4 +7,3 @@ use Rattle.chacha.proofs.initial.Goals as goal
 pub returns : goal.returns
 unfolding initial
 returns c = simp (nonce_0, nonce_4, nonce_8) (cc)
-

@@ -5,4 +5,3 @@ use Rattle.chacha.proofs.mask.Goals as goal
 
 pub returns : goal.returns
 returns c = cc (mask_word c.args.key c.args.sample)
-

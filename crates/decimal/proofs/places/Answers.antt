@@ -27,4 +27,3 @@ loop-rest-preserved c = let l = c.loop-rest in
 
 pub returns : goal.returns
 returns c = let l = c.loop-rest in (omega (arith, places_last (20 - l.k) l.rest (omega arith)), omega arith, omega arith)
-

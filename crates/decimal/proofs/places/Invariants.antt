@@ -14,4 +14,3 @@ invariant-loop-rest l = (0 < l.k) × (l.k ≤ 20) × (l.rest < 10 ^ (21 - l.k)) 
 
 abbrev pub decreases-loop-rest : goal.decreases-loop-rest
 decreases-loop-rest l = l.rest
-

@@ -13,4 +13,3 @@ invariant-loop-i l = (l.i ≤ l.k) × (length l.out ≡ length l.initial.out) ×
 
 abbrev pub decreases-loop-i : goal.decreases-loop-i
 decreases-loop-i l = l.i
-

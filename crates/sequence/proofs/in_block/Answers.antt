@@ -36,4 +36,3 @@ returns-else-own-block-2 c = is-nearest _ _ _ (λ s z. omega arith) (λ s z. ome
 pub returns-else-half-expected : goal.returns-else-half-expected
 unfolding own
 returns-else-half-expected c = is-nearest _ _ _ (λ s z. omega arith) (λ s z. omega arith) (λ s t v. omega arith) (λ s t v. omega arith) (λ s t. omega arith)
-
