@@ -14,7 +14,7 @@ use Rattle.assembly.specs.Assembly as assembly
 use Rattle.assembly_theorem.specs.Account as account
 use Rattle.assembly_theorem.specs.Account.{Fragment, covers, byte_of, Account, new_account, Verdict, begun, turned, ended, over, other, same, held, whole, owed, begins, after}
 use Rattle.assembly_theorem.specs.Claim.{PieceCall, begin·, take·, Told, Piecing, new_piecing, verdict_of, does, Assembled, ran, AllFair}
-use Rattle.assembly_theorem.proofs.Proof.{every-run}
+use Rattle.assembly_theorem.proofs.Theorem.{every-run}
 use Rattle.assembly_theorem.proofs.Rules.{lends_again}
 
 -- every definition that an account or a list computes with

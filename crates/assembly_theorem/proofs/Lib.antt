@@ -2,7 +2,7 @@ pub mod Agreement
 pub mod Answers
 pub mod Example
 pub mod Laws
-pub mod Proof
+pub mod Theorem
 pub mod Reads
 pub mod Rules
 pub mod Story

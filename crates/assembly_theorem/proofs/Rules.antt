@@ -19,7 +19,7 @@ use Rattle.assembly_theorem.proofs.Agreement.{Same, same-one, one_same, Among, a
 use Rattle.assembly_theorem.specs.Claim.{PieceCall, begin·, take·, Out, Piecing, new_piecing, logged, does, FairPiece, Log, none as no-message, more, ran, AllFair}
 use Rattle.assembly_theorem.proofs.Laws.{length-stays}
 use Rattle.assembly_theorem.proofs.Reads.{kept-count}
-use Rattle.assembly_theorem.proofs.Proof.{Story, does_story, new_story}
+use Rattle.assembly_theorem.proofs.Theorem.{Story, does_story, new_story}
 
 -- ---- what the rules speak of
 

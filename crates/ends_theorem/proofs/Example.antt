@@ -59,7 +59,7 @@ use Rattle.ends_theorem.specs.Claim.{Holds, Startable}
 use Rattle.ends_theorem.specs.Flights.{FairAck}
 use Rattle.ends_theorem.specs.Ledger as ends-ledger
 use Rattle.ends_theorem.specs.Ledger.{Sent, Item, Kept, Name, Ledger, new_ledger, with_keys, with_saved, with_messages, total, keyed, send_number, save_number, posted, message_number, resend_number}
-use Rattle.ends_theorem.proofs.Proof.{every_list}
+use Rattle.ends_theorem.proofs.Theorem.{every_list}
 use Rattle.ends_theorem.specs.Sender as ends-sender
 use Rattle.ends_theorem.specs.World.{Side, post, gateway, Said, sending, receiving, dealing, Event, run, Setting, fresh-pair, Honest}
 

@@ -16,7 +16,7 @@ pub mod Matching
 pub mod Numbers
 pub mod Pieces
 pub mod Posting
-pub mod Proof
+pub mod Theorem
 pub mod Readback
 pub mod Repeats
 pub mod Replies

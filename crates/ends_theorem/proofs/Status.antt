@@ -19,7 +19,7 @@ use Rattle.ends_theorem.proofs.Counting.{unacked-is}
 use Rattle.ends_theorem.specs.Ledger.{Kept, Ledger, Going, items, waiting, with_saved, unacked, sends_again, again, passes, closes, resent}
 use Rattle.ends_theorem.proofs.Matches.{items_in, items_of, Matches}
 use Rattle.ends_theorem.proofs.Matching.{items-flat}
-use Rattle.ends_theorem.proofs.Proof.{always_matches}
+use Rattle.ends_theorem.proofs.Theorem.{always_matches}
 use Rattle.ends_theorem.specs.World.{Side, Event, run, Setting, fresh-pair, Honest}
 
 -- the status of a state is the account's

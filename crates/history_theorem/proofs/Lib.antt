@@ -5,7 +5,7 @@ pub mod Example
 pub mod Judging
 pub mod Lists
 pub mod Opening
-pub mod Proof
+pub mod Theorem
 pub mod Reading
 pub mod Reads
 pub mod Sound

@@ -68,7 +68,7 @@ use Rattle.hosts_theorem.specs.Log as hosts-log
 use Rattle.hosts_theorem.specs.Log.{Act, inward, husk_sending_sealing, outward, host_seals, husk_assembly_begin, husk_assembly_take, husk_receiving_classify}
 use Rattle.hosts_theorem.specs.Claim.{Hosts, CCall, runs, AllMade, AllFair, Started, Refines}
 use Rattle.hosts_theorem.proofs.Starts.{sending_words, first_host, starts}
-use Rattle.hosts_theorem.proofs.Proof.{every_list_of_calls}
+use Rattle.hosts_theorem.proofs.Theorem.{every_list_of_calls}
 
 -- every definition that the list computes with
 unfoldable pub opened : Unit {0}

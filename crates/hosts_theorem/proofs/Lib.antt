@@ -6,5 +6,5 @@ pub mod Noted
 pub mod Out
 pub mod Owed
 pub mod Pieces
-pub mod Proof
+pub mod Theorem
 pub mod Starts

@@ -43,7 +43,7 @@ use Rattle.history_theorem.proofs.Sound.{Judges, Sound}
 use Rattle.assembly_theorem.specs.Claim.{Assembled}
 use Rattle.ends_theorem.specs.Ledger.{Item, Ledger, waiting, items, oldest, unacked, owed, after, short_reply}
 use Rattle.ends_theorem.proofs.Matches.{items_of, Matches, Does}
-use Rattle.ends_theorem.proofs.Proof.{Good, holds}
+use Rattle.ends_theorem.proofs.Theorem.{Good, holds}
 use Rattle.ends_theorem.proofs.Status.{StatusIs, status_is}
 use Rattle.ends_theorem.specs.Sender.{Lent, AskedFor, sealed_header}
 use Rattle.ends_theorem.specs.World.{Side, post, gateway, Said, Over, End, World, class_of, content_in}

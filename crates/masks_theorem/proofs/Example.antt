@@ -22,7 +22,7 @@ use Rattle.hosts_theorem.proofs.Example as plain
 use Rattle.hosts_theorem.proofs.Example.{iv, v₁, v₂, v₃, v₄, u₁, u₂, u₃, u₄, u₅, cipher, header, alone, seal_asked, mask_asked, open_asked, handed_over, no_reading, one_waits, settings, hosts, begun}
 use Rattle.masks_theorem.specs.Hosts.{MaskKeys, KeyedAct, other, husk_receiving_key_masked, husk_receiving_begin_read, husk_sending_key_masked, husk_sending_sealed, key_asked, KeyedHosts, KeyedCall, list_of, AllMade}
 use Rattle.masks_theorem.specs.Claim.{NoKeys, Agreed, masks_of, AllFair, Claimed}
-use Rattle.masks_theorem.proofs.Proof.{every_list_with-mask-keys}
+use Rattle.masks_theorem.proofs.Theorem.{every_list_with-mask-keys}
 
 -- every definition that the list computes with
 opened : Unit {0}

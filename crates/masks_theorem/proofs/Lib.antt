@@ -2,7 +2,7 @@ pub mod Example
 pub mod Goes
 pub mod Keys
 pub mod Looks
-pub mod Proof
+pub mod Theorem
 pub mod Quiet
 pub mod Reads
 pub mod Sealing

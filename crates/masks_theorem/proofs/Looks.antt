@@ -4,12 +4,12 @@ use Rattle.std.proofs.Common.{sym, ap, subst, ◌∙◌}
 use Rattle.history_theorem.specs.Claim.{Masks}
 use Rattle.history_theorem.proofs.Sound.{Sound}
 use Rattle.ends_theorem.proofs.Matches.{Matches}
-use Rattle.ends_theorem.proofs.Proof.{Good, run-keeps}
+use Rattle.ends_theorem.proofs.Theorem.{Good, run-keeps}
 use Rattle.ends_theorem.proofs.Sends.{Sends}
 use Rattle.ends_theorem.specs.World.{Side, post, gateway, far, World, run}
 use Rattle.hosts_theorem.specs.Log.{Host, Act, Made, behind}
 use Rattle.hosts_theorem.specs.Claim.{Hosts, CCall, put, runs, AllMade, Stands, deeds_of, events_of, Owed, FairDeeds, AllFair, sight_of}
-use Rattle.hosts_theorem.proofs.Proof.{Seen, all_seen}
+use Rattle.hosts_theorem.proofs.Theorem.{Seen, all_seen}
 use Rattle.masks_theorem.specs.Hosts.{at}
 
 -- ---- two hosts by one of them, h, and the far one, f

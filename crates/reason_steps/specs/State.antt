@@ -20,7 +20,7 @@ use Rattle.reasons.specs.declared.Reason.{Reason}
 use Rattle.reasons.specs.declared.Reason.TheVariants.{Old, Seen, Cipher, Taken}
 use Rattle.reasons.specs.declared.Told.{Told}
 use Rattle.reasons.specs.Met.{most_kept}
-use Rattle.reasons.proofs.Met.{hasnt, has-mem}
+use Rattle.reasons.proofs.Meeting.{hasnt, has-mem}
 use Rattle.reasons.specs.Reasons.{epoch_of, bits_of, reply_of, partial_of, is_taken, taken_in, number_in, reason_in, told_in}
 
 -- ---- a record by the window of its epoch

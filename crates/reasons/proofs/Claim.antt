@@ -16,7 +16,7 @@ use Rattle.reasons.specs.declared.Reason.{Reason}
 use Rattle.reasons.specs.declared.Reason.TheVariants.{Short, Record, Epoch, Old, Seen, Cipher, Taken}
 use Rattle.reasons.specs.declared.Told.{Told}
 use Rattle.reasons.specs.Met.{has, meet, FourBefore}
-use Rattle.reasons.proofs.Met.{has-mem, hasnt, kept_exactly}
+use Rattle.reasons.proofs.Meeting.{has-mem, hasnt, kept_exactly}
 use Rattle.reasons.specs.Reasons.{record_size, record_at, records, bits_of, reply_of, is_whole, ends_well, is_well_formed, is_formed, epoch_at, kept_at, old_from, taken_in, number_in, reason_in, told_in, told_to, told_at}
 use Rattle.reasons.proofs.Laws.{listed, lists, taken-small}
 use Rattle.reasons.proofs.Cases.{tell-cases, reason-cases}

@@ -19,7 +19,7 @@ use Rattle.reasons.specs.declared.Reason.{Reason}
 use Rattle.reasons.specs.declared.Reason.TheVariants.{Short, Record, Epoch, Old, Seen, Cipher, Taken}
 use Rattle.reasons.specs.declared.Told.{Told}
 use Rattle.reasons.specs.Met.{has, meet}
-use Rattle.reasons.proofs.Met.{has-mem, meet-has, met_next}
+use Rattle.reasons.proofs.Meeting.{has-mem, meet-has, met_next}
 use Rattle.reasons.specs.Reasons.{record_at, epoch_of, bits_of, partial_of, is_whole, is_well_formed, is_formed, epoch_at, kept_at, is_taken, taken_in, number_in, told_in, tell, told_to, told_at}
 use Rattle.reasons.proofs.Cases.{tell-cases, taken_next}
 

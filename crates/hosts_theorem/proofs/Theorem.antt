@@ -20,7 +20,7 @@ use Rattle.ends_theorem.specs.Claim.{Holds, Startable}
 use Rattle.ends_theorem.proofs.Every.{every-does}
 use Rattle.ends_theorem.specs.Ledger.{application_data, last_number, owed}
 use Rattle.ends_theorem.proofs.Matches.{Matches}
-use Rattle.ends_theorem.proofs.Proof.{Good, FairDone, fair-step, run-keeps, new-good, every_list, stop_order-sent as stop_order}
+use Rattle.ends_theorem.proofs.Theorem.{Good, FairDone, fair-step, run-keeps, new-good, every_list, stop_order-sent as stop_order}
 use Rattle.ends_theorem.specs.Sender as world
 use Rattle.ends_theorem.specs.Sender.{Sender, lent_by}
 use Rattle.ends_theorem.proofs.Starting.{sending-starts, receiving-starts}

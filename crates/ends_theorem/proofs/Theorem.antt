@@ -10,7 +10,7 @@ use Rattle.waiting_laws.proofs.Fresh.{fresh_holds}
 use Rattle.queue.specs.Queue.{is_setting}
 use Rattle.history_theorem.specs.Account.{sealed_over}
 use Rattle.ends_theorem.proofs.Starting.{ranges-setting}
-use Rattle.assembly_theorem.proofs.Proof.{Story, does_story, new_story}
+use Rattle.assembly_theorem.proofs.Theorem.{Story, does_story, new_story}
 use Rattle.assembly_theorem.proofs.Rules.{Within, does-within, new-within}
 use Rattle.ends_theorem.proofs.Given.{Given, given-keeps, given-lies, took-all}
 use Rattle.base.specs.Choose.{by_test}
@@ -23,7 +23,7 @@ use Rattle.flight.specs.declared.Flight.{Flight}
 use Rattle.history_theorem.specs.Claim.{Masks, Once, FairCall}
 use Rattle.history_theorem.proofs.Direction.{trials_grow, as_sealed-grows, handed-grows}
 use Rattle.history_theorem.proofs.Lists.{mem-by}
-use Rattle.history_theorem.proofs.Proof.{Link, call_keeps, received, new-link}
+use Rattle.history_theorem.proofs.Theorem.{Link, call_keeps, received, new-link}
 use Rattle.history_theorem.specs.Receiver.{
   Sealed,
   Handed,
@@ -64,7 +64,7 @@ use Rattle.classify_theorem.specs.Claim.{reply_of, classifies}
 use Rattle.classify_theorem.proofs.Story as classify
 use Rattle.classify_theorem.proofs.Dealing.{classify_reply, classify_story, over_story}
 use Rattle.classify_theorem.proofs.Hearing.{hears_story}
-use Rattle.classify_theorem.proofs.Proof as classified
+use Rattle.classify_theorem.proofs.Theorem as classified
 use Rattle.classify_theorem.proofs.Rules as rules
 use Rattle.ends_theorem.proofs.Books.{sends_by}
 use Rattle.ends_theorem.specs.Claim.{SameNumbers, Holds, Startable, EveryList, TookOnly}

@@ -33,7 +33,7 @@ use Rattle.history_theorem.specs.Claim.{Masks, Proper}
 use Rattle.history_theorem.specs.Receiver.{Inbound, a_read, fate_of, question_in, keeps_shown, goes_to}
 use Rattle.ends_theorem.proofs.Every.{every-does}
 use Rattle.ends_theorem.specs.Ledger.{application_data, last_number, Ledger, key_number}
-use Rattle.ends_theorem.proofs.Proof.{Good, new-good}
+use Rattle.ends_theorem.proofs.Theorem.{Good, new-good}
 use Rattle.ends_theorem.specs.Sender.{Lent, FairSeal}
 use Rattle.ends_theorem.proofs.Sends.{lent-under}
 use Rattle.ends_theorem.specs.World.{Side, post, gateway, far, End, Setting, fresh-pair}
@@ -43,7 +43,7 @@ use Rattle.hosts_theorem.specs.Log.{reading_of, told, refused_told, Whole, Host,
 use Rattle.hosts_theorem.specs.Claim as theorem
 use Rattle.hosts_theorem.specs.Claim.{Hosts, runs, Started, calls_of, hearing, deeds_of, FairDeeds, sight_of}
 use Rattle.hosts_theorem.specs.Memory.{MadeOut}
-use Rattle.hosts_theorem.proofs.Proof.{starts, startable, every_list_of_calls, stop_order-sent as theorem-stop-order}
+use Rattle.hosts_theorem.proofs.Theorem.{starts, startable, every_list_of_calls, stop_order-sent as theorem-stop-order}
 use Rattle.history_theorem.specs.Receiver as receiver
 use Rattle.masks_theorem.specs.Hosts.{key_length, Given, MaskKeys, KeyedAct, other, husk_receiving_key, husk_receiving_key_masked, husk_receiving_remove, husk_receiving_read, husk_receiving_begin_read, husk_receiving_read_over, husk_sending_key, husk_sending_key_masked, husk_sending_sealed, husk_sending_sealed_over, Other, Made, key_asked, going_on, mask_shown, acts_of, gives, keys_behind, KeyedHosts, KeyedCall, put_keys, at, after, list_of, AllMade}
 use Rattle.masks_theorem.specs.Claim.{NoKeys, Agreed, masks_of, mask_in, Unless, key_of_asked, spared_in, spared, Fair, AllFair, keying_owed, Owed, AllOwed, EveryListWithMaskKeys}
