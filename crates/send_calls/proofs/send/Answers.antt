@@ -19,4 +19,3 @@ returns-then-is_flat c = let a = c.args in rw (← c.send_answer-v.ensures.answe
 
 pub returns : goal.returns
 returns c = ((sym (if_false _ _ (sym c.is_flat.ensures ∙ c.if-is_flat.false)), (sym (if_false _ _ (sym c.is_flat.ensures ∙ c.if-is_flat.false)), refl)), sym (if_false _ _ (sym c.is_flat.ensures ∙ c.if-is_flat.false)))
-
