@@ -86,24 +86,26 @@ quietly() {
     fi
 }
 
-# Runs rt, says which crates it has proved as it goes, and shows all that it wrote if it fails.
+# Runs rt in a crate's folder, says which crates it has proved as it goes, and shows all that it wrote if it fails. A program that rt runs
+# has no input.
 proving() {
     mkdir -p "$built"
-    if ! (cd "$root" && rt "$@") 2>&1 | tee "$built/log" | { grep --line-buffered -E '^rt: [a-z_]+ proved \([0-9]+ s\)' >&2 || true; }; then
+    if ! (cd "$root/crates/$2" && rt "$1" </dev/null) 2>&1 | tee "$built/log" |
+        awk '/^crate / { crate = $2 } /^logic=proved / { sub(":", "", crate); print "rt: " crate " proved"; fflush() }' >&2; then
         cat "$built/log" >&2
-        say "failed: rt $*; $built/log has what it wrote"
+        say "failed: rt $1 in crates/$2; $built/log has what it wrote"
         exit 2
     fi
 }
 
-# Names what is to be compared, whole: what the environment names, or what rt makes.
+# Names what is to be compared, whole: what the environment names, or what rt makes of a crate.
 name() {
-    local made=$root/target/$2
+    local made=$root/crates/$2/out/$4
     if [ -n "${!1:-}" ]; then
         made=$(realpath "${!1}")
     else
-        say "proving and building target/$2 (rt ${*:3}), which takes minutes the first time"
-        proving "${@:3}"
+        say "proving and building ${made#"$root"/} (rt $3 in crates/$2), which takes minutes the first time"
+        proving "$3" "$2"
     fi
     export "$1=$made"
 }

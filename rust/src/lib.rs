@@ -51,7 +51,7 @@
 //! # Linking
 //!
 //! The build looks for `libhuskelapse.a` in the folder that the environment variable `HUSKELAPSE_LIB` names; where that is not set, in
-//! `lib` beside this crate's `Cargo.toml`, where a release has it; else in `target/staticlib` of the repository. Documentation and
+//! `lib` beside this crate's `Cargo.toml`, where a release has it; else in `crates/huskelapse/out` of the repository. Documentation and
 //! `cargo check` need no library.
 //!
 //! # Licence

@@ -1,5 +1,5 @@
 //! Links the proved static library, libhuskelapse.a. It is looked for in the folder HUSKELAPSE_LIB; where that is not set, in lib beside
-//! the Cargo.toml of the crate huskelapse, where a release has it; else in target/staticlib of the repository, where rt makes it.
+//! the Cargo.toml of the crate huskelapse, where a release has it; else in crates/huskelapse/out of the repository, where rt makes it.
 //!
 //! Where it cannot be linked this warns and does not stop: documentation and `cargo check` need no library. What needs it fails when it
 //! is linked, and cargo shows the warning beside that.
@@ -32,7 +32,7 @@ fn folders() -> Vec<PathBuf> {
     let here = PathBuf::from(env::var_os("CARGO_MANIFEST_DIR").expect("cargo sets CARGO_MANIFEST_DIR"));
     let rust = here.parent().expect("this crate is a folder of the crate huskelapse");
     let root = rust.parent().expect("the crate huskelapse is a folder of the repository or of a release");
-    vec![rust.join("lib"), root.join("target/staticlib")]
+    vec![rust.join("lib"), root.join("crates/huskelapse/out")]
 }
 
 /// Why the library cannot be linked.
@@ -43,8 +43,8 @@ fn trouble(folders: &[PathBuf], found: bool) -> Option<String> {
     let looked: Vec<String> = folders.iter().map(|folder| folder.display().to_string()).collect();
     (!found).then(|| {
         format!(
-            "{NAME} is missing in {}, nothing that calls it can be linked: a release has it in rust/lib; in the repository's root `rt \
-             staticlib huskelapse` makes it (rt is the Rattle kit); or set HUSKELAPSE_LIB to the folder that holds it",
+            "{NAME} is missing in {}, nothing that calls it can be linked: a release has it in rust/lib; in the repository's crates/huskelapse \
+             `rt lib` makes it (rt is the Rattle kit); or set HUSKELAPSE_LIB to the folder that holds it",
             looked.join(" and ")
         )
     })

@@ -1,6 +1,7 @@
 // The C interface, one static library for hosts: each call of recv_calls, classify_calls, mask_calls, send_calls, flight_calls, ack_calls,
 // status_calls and assembly_calls as a C function with the same contract. The library keeps no state.
 #![tactic(auto)]
+
 ghost use Rattle.recv_calls.specs.Calls as receive;
 ghost use Rattle.classify_calls.specs.Calls as classify;
 ghost use Rattle.mask_calls.specs.Calls as masked;

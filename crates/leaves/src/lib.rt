@@ -1,5 +1,6 @@
 // The leaves as C functions over flat structs: a static library for hosts and for comparing with the Rust.
 #![tactic(auto)]
+
 ghost use Rattle.std.specs.Prelude.{◌≡◌, get_or};
 ghost use Rattle.window.specs.Window.{unmarked, verdict, marking};
 ghost use Rattle.sequence.specs.Sequence.{block_of, nearest};

@@ -1,5 +1,6 @@
 // Why a record of a receive history was left out (02, 8): a line for each record of the input.
 #![tactic(auto)]
+
 ghost use Rattle.std.specs.Prelude.{[], ◌∷◌, ◌≡◌, ℕ, ◌+◌, ◌*◌, ◌<◌, ◌≤◌, length, get_or, set, take};
 ghost use Rattle.window.specs.Window.{marking};
 ghost use Rattle.reasons.specs.Met.{most_kept};

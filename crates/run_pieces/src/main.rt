@@ -3,8 +3,11 @@
 // this code takes part.
 // The state is the words and the buffer that a host keeps, and the content of a record, which is laid piece by piece.
 #![tactic(auto)]
+
 use assembly_calls::HuskPiece;
 use assembly_steps::{COUNT, EXPECTED, HEADER_LENGTH, TOTAL, TYPE, WORDS};
+use std::io;
+use std::io::Read;
 
 // How many bytes of a message's buffer are watched.
 const MESSAGE_ROOM: usize = 16384;
@@ -54,7 +57,7 @@ fn bare(refusal: u8) -> HuskPiece {
 }
 
 // An answer on standard output: the fields, the checksum of a message's body and that of the whole buffer.
-fn say(letter: u8, p: HuskPiece, d: &[u8]) {
+fn say(rt: &impl Print, letter: u8, p: HuskPiece, d: &[u8]) -> io::Result<()> {
     let mut found = [0u8; 32];
     let mut text = [0u8; 128];
     run_lines::push(&mut found, 0, p.kind);
@@ -65,7 +68,7 @@ fn say(letter: u8, p: HuskPiece, d: &[u8]) {
     push4(&mut found, 9, body_checksum(p, d));
     push4(&mut found, 13, checksum(base::fragment(d, 0, MESSAGE_ROOM)));
     let n = run_lines::encode(letter, base::fragment(&found, 0, 17), &mut text);
-    io::write_all(1, base::fragment(&text, 0, n));
+    rt.write_all(base::fragment(&text, 0, n))
 }
 
 // ---- the content of a record
@@ -184,41 +187,56 @@ fn is_laying(letter: u8) -> bool {
 
 // One line of input; how long the content is behind it.
 fn replay_line(
+    rt: &impl Print,
     w: &mut [u64; WORDS],
     size: usize,
     line: &[u8],
     c: &mut [u8],
     d: &mut [u8],
-) -> usize {
+) -> io::Result<usize> {
     let letter = run_lines::get1(line, 0);
     let mut space = [0u8; 256];
     let n = run_lines::decode(base::behind(line, 2), &mut space);
     let input = base::fragment(&space, 0, n);
     if is_laying(letter) {
         let m = laid(size, letter, input, c);
-        say(letter, bare(0), d);
-        return m;
+        say(rt, letter, bare(0), d)?;
+        return Ok(m);
     }
     let p = step(w, letter, input, base::fragment(c, 0, size), d);
-    say(letter, p, d);
-    size
+    say(rt, letter, p, d)?;
+    Ok(size)
 }
 
-fn replay_lines(w: &mut [u64; WORDS], text: &[u8], c: &mut [u8], d: &mut [u8]) {
+fn replay_lines(
+    rt: &impl Print,
+    w: &mut [u64; WORDS],
+    text: &[u8],
+    c: &mut [u8],
+    d: &mut [u8],
+) -> io::Result<()> {
     let mut size = 0;
     let mut i = 0;
     while i < text.len() {
         let n = run_lines::line_len(base::behind(text, i));
-        size = replay_line(w, size, base::fragment(text, i, n), c, d);
+        size = replay_line(rt, w, size, base::fragment(text, i, n), c, d)?;
         i = run_lines::next_line(i, n, text.len());
     }
+    Ok(())
 }
 
-fn main() {
-    let mut space = io::large_buffer();
+fn main(rt: HostRuntime) -> io::Result<()> {
+    let mut space = [0u8; 65536];
     let mut c = [0u8; 20480];
     let mut d = [0u8; 16640];
     let mut w = [0u64; WORDS];
-    let n = io::read_full(0, &mut space);
-    replay_lines(&mut w, base::fragment(&space, 0, n), &mut c, &mut d);
+    let mut room: &mut [u8] = &mut space;
+    let n = io::copy(&mut rt.reader().take(65536), &mut room)?;
+    replay_lines(
+        &rt,
+        &mut w,
+        base::fragment(&space, 0, n as usize),
+        &mut c,
+        &mut d,
+    )
 }

@@ -3,10 +3,13 @@
 // how, which lines these are, and what each letter means).
 // The state is the words that a host keeps, and each step is a call of recv_calls.
 #![tactic(auto)]
+
 use datagram::{Datagram, Question};
 use recv_calls::HuskReading;
 use recv_keys::Found;
 use recv_words::{COUNT, WORDS};
+use std::io;
+use std::io::Read;
 
 // ---- the answer to a step
 
@@ -101,12 +104,12 @@ fn lay(r: HuskReading, shown: &[u8], out: &mut [u8]) -> usize {
 }
 
 // An answer on standard output.
-fn say(letter: u8, r: HuskReading, shown: &[u8]) {
+fn say(rt: &impl Print, letter: u8, r: HuskReading, shown: &[u8]) -> io::Result<()> {
     let mut found = [0u8; 16640];
     let mut text = [0u8; 33536];
     let n = lay(r, shown, &mut found);
     let m = run_lines::encode(letter, base::fragment(&found, 0, n), &mut text);
-    io::write_all(1, base::fragment(&text, 0, m));
+    rt.write_all(base::fragment(&text, 0, m))
 }
 
 // The bytes that a reading names in the datagram: of an opening question, the header.
@@ -117,8 +120,8 @@ fn shown(d: &[u8], r: HuskReading) -> &[u8] {
     base::fragment(d, r.start, r.length)
 }
 
-fn say_reading(letter: u8, r: HuskReading, d: &[u8]) {
-    say(letter, r, shown(d, r));
+fn say_reading(rt: &impl Print, letter: u8, r: HuskReading, d: &[u8]) -> io::Result<()> {
+    say(rt, letter, r, shown(d, r))
 }
 
 // ---- the steps
@@ -277,59 +280,84 @@ fn size_of(w: &[u64; WORDS]) -> usize {
     b.size
 }
 
-fn answer_reply(w: &mut [u64; WORDS], letter: u8, input: &[u8], d: &mut [u8]) {
+fn answer_reply(
+    rt: &impl Print,
+    w: &mut [u64; WORDS],
+    letter: u8,
+    input: &[u8],
+    d: &mut [u8],
+) -> io::Result<()> {
     let size = size_of(w);
     let r = reply(w, letter, input, d, size);
-    say_reading(letter, r, base::fragment(d, 0, size));
+    say_reading(rt, letter, r, base::fragment(d, 0, size))
 }
 
-fn answer_read(w: &mut [u64; WORDS], d: &[u8]) {
+fn answer_read(rt: &impl Print, w: &mut [u64; WORDS], d: &[u8]) -> io::Result<()> {
     let size = size_of(w);
     let r = recv_calls::read(w, base::fragment(d, 0, size));
-    say_reading(b'r', r, base::fragment(d, 0, size));
+    say_reading(rt, b'r', r, base::fragment(d, 0, size))
 }
 
 // A step that writes nothing to the datagram; the letter d shows it as it lies.
-fn answer(w: &mut [u64; WORDS], letter: u8, input: &[u8], d: &[u8]) {
+fn answer(
+    rt: &impl Print,
+    w: &mut [u64; WORDS],
+    letter: u8,
+    input: &[u8],
+    d: &[u8],
+) -> io::Result<()> {
     match letter {
-        b'r' => answer_read(w, d),
-        b'd' => say(b'd', bare(0, 0), base::fragment(d, 0, size_of(w))),
-        _ => say(letter, answered(host_step(w, letter, input)), b""),
+        b'r' => answer_read(rt, w, d),
+        b'd' => say(rt, b'd', bare(0, 0), base::fragment(d, 0, size_of(w))),
+        _ => say(rt, letter, answered(host_step(w, letter, input)), b""),
     }
 }
 
-fn step(w: &mut [u64; WORDS], letter: u8, input: &[u8], d: &mut [u8]) {
+fn step(
+    rt: &impl Print,
+    w: &mut [u64; WORDS],
+    letter: u8,
+    input: &[u8],
+    d: &mut [u8],
+) -> io::Result<()> {
     match letter {
-        b'm' | b'o' => answer_reply(w, letter, input, d),
-        b'b' => say(letter, answered(begin(w, input, d)), b""),
-        _ => answer(w, letter, input, d),
+        b'm' | b'o' => answer_reply(rt, w, letter, input, d),
+        b'b' => say(rt, letter, answered(begin(w, input, d)), b""),
+        _ => answer(rt, w, letter, input, d),
     }
 }
 
 // ---- lines
 
 // One line of input.
-fn replay_line(w: &mut [u64; WORDS], line: &[u8], d: &mut [u8]) {
+fn replay_line(rt: &impl Print, w: &mut [u64; WORDS], line: &[u8], d: &mut [u8]) -> io::Result<()> {
     let letter = run_lines::get1(line, 0);
     let mut input = [0u8; 16640];
     let n = run_lines::decode(base::behind(line, 2), &mut input);
-    step(w, letter, base::fragment(&input, 0, n), d)
+    step(rt, w, letter, base::fragment(&input, 0, n), d)
 }
 
-fn replay_lines(w: &mut [u64; WORDS], text: &[u8], d: &mut [u8]) {
+fn replay_lines(
+    rt: &impl Print,
+    w: &mut [u64; WORDS],
+    text: &[u8],
+    d: &mut [u8],
+) -> io::Result<()> {
     let mut i = 0;
     while i < text.len() {
         let n = run_lines::line_len(base::behind(text, i));
-        replay_line(w, base::fragment(text, i, n), d);
+        replay_line(rt, w, base::fragment(text, i, n), d)?;
         i = run_lines::next_line(i, n, text.len());
     }
+    Ok(())
 }
 
-fn main() {
-    let mut space = io::large_buffer();
+fn main(rt: HostRuntime) -> io::Result<()> {
+    let mut space = [0u8; 65536];
     let mut d = [0u8; 16385];
     let mut w = [0u64; WORDS];
     recv_calls::fresh(&mut w, 16);
-    let n = io::read_full(0, &mut space);
-    replay_lines(&mut w, base::fragment(&space, 0, n), &mut d);
+    let mut room: &mut [u8] = &mut space;
+    let n = io::copy(&mut rt.reader().take(65536), &mut room)?;
+    replay_lines(&rt, &mut w, base::fragment(&space, 0, n as usize), &mut d)
 }

@@ -2,9 +2,12 @@
 // expected stands in the file stdout, written from the Rust's answers and, where 02 changes them, from 02's rule (compare/README.md says
 // how, which lines these are, and what each letter means).
 #![tactic(auto)]
+
 use handshake::{Header, ParsedHeader};
 use incoming::Inner;
 use record::Parsed;
+use std::io;
+use std::io::Read;
 use window::{ReplayWindow, Verdict};
 
 // A step of a script over a window: 1 marks a number, 0 asks for the verdict on it.
@@ -235,7 +238,7 @@ fn answer(letter: u8, d: &[u8], out: &mut [u8]) -> usize {
 }
 
 // One line of input, answered on standard output.
-fn replay_line(line: &[u8]) {
+fn replay_line(rt: &impl Print, line: &[u8]) -> io::Result<()> {
     let letter = run_lines::get1(line, 0);
     let mut input = [0u8; 32768];
     let mut found = [0u8; 4096];
@@ -243,20 +246,22 @@ fn replay_line(line: &[u8]) {
     let n = run_lines::decode(base::behind(line, 2), &mut input);
     let k = answer(letter, base::fragment(&input, 0, n), &mut found);
     let m = run_lines::encode(letter, base::fragment(&found, 0, k), &mut text);
-    io::write_all(1, base::fragment(&text, 0, m));
+    rt.write_all(base::fragment(&text, 0, m))
 }
 
-fn replay_lines(text: &[u8]) {
+fn replay_lines(rt: &impl Print, text: &[u8]) -> io::Result<()> {
     let mut i = 0;
     while i < text.len() {
         let n = run_lines::line_len(base::behind(text, i));
-        replay_line(base::fragment(text, i, n));
+        replay_line(rt, base::fragment(text, i, n))?;
         i = run_lines::next_line(i, n, text.len());
     }
+    Ok(())
 }
 
-fn main() {
-    let mut space = io::large_buffer();
-    let n = io::read_full(0, &mut space);
-    replay_lines(base::fragment(&space, 0, n));
+fn main(rt: HostRuntime) -> io::Result<()> {
+    let mut space = [0u8; 65536];
+    let mut room: &mut [u8] = &mut space;
+    let n = io::copy(&mut rt.reader().take(65536), &mut room)?;
+    replay_lines(&rt, base::fragment(&space, 0, n as usize))
 }

@@ -2,12 +2,15 @@
 // expected stands in the file stdout, written from the Rust's answers (compare/README.md says how, and what each letter means).
 // The state is the words that a host keeps, and each step is a call of send_calls, flight_calls or ack_calls.
 #![tactic(auto)]
+
 use flight::Entry;
 use send_calls::HuskSealing;
 use send_words::{
     APPLICATION, APPLICATION_NEXT, APPLICATION_SEALED, CLOSED, COUNT, FIRST, HANDSHAKE_NEXT,
     HANDSHAKE_SEALED, LIMIT, MESSAGE, MTU, PLAINTEXT_NEXT, WORDS,
 };
+use std::io;
+use std::io::Read;
 
 // How many bytes are lent for the queue, and for the saved contents.
 const QUEUE: usize = 0;
@@ -63,16 +66,16 @@ fn lay(t: HuskSealing, shown: &[u8], out: &mut [u8]) -> usize {
 }
 
 // An answer on standard output.
-fn say(letter: u8, t: HuskSealing, shown: &[u8]) {
+fn say(rt: &impl Print, letter: u8, t: HuskSealing, shown: &[u8]) -> io::Result<()> {
     let mut found = [0u8; 2048];
     let mut text = [0u8; 4352];
     let n = lay(t, shown, &mut found);
     let m = run_lines::encode(letter, base::fragment(&found, 0, n), &mut text);
-    io::write_all(1, base::fragment(&text, 0, m));
+    rt.write_all(base::fragment(&text, 0, m))
 }
 
-fn answer(letter: u8, refusal: u8) {
-    say(letter, bare(refusal, 0, 0), b"");
+fn answer(rt: &impl Print, letter: u8, refusal: u8) -> io::Result<()> {
+    say(rt, letter, bare(refusal, 0, 0), b"")
 }
 
 // ---- steps that answer by a number
@@ -240,12 +243,12 @@ fn front(d: &mut [u8], n: usize) -> &mut [u8] {
     d
 }
 
-fn take(w: &mut [u64; WORDS], input: &[u8], queue: &[u8]) {
+fn take(rt: &impl Print, w: &mut [u64; WORDS], input: &[u8], queue: &[u8]) -> io::Result<()> {
     let mut buffer = [0xEEu8; 1600];
     let n = run_lines::get2(input, 0) as usize;
     let r = send_calls::take(w, front(&mut buffer, n), queue);
     let t = bare(r.refusal, r.kind, r.length);
-    say(b't', t, base::fragment(&buffer, 0, n));
+    say(rt, b't', t, base::fragment(&buffer, 0, n))
 }
 
 // ---- steps that show
@@ -257,10 +260,10 @@ fn question_kind(kind: u8) -> u8 {
     kind
 }
 
-fn question(w: &[u64; WORDS], queue: &[u8]) {
+fn question(rt: &impl Print, w: &[u64; WORDS], queue: &[u8]) -> io::Result<()> {
     let mut q = send_calls::sealing(w);
     q.kind = question_kind(q.kind);
-    say(b'q', q, base::fragment(queue, q.start, q.length));
+    say(rt, b'q', q, base::fragment(queue, q.start, q.length))
 }
 
 // The length of a datagram in the queue, counted from the front.
@@ -296,7 +299,7 @@ fn lay_keys(w: &[u64; WORDS], out: &mut [u8]) -> usize {
 }
 
 // The next numbers, the queue's lengths, how many records are saved and noted.
-fn view(w: &[u64; WORDS], saved: u64, noted: u64) {
+fn view(rt: &impl Print, w: &[u64; WORDS], saved: u64, noted: u64) -> io::Result<()> {
     let mut out = [0u8; 128];
     let a = lay_keys(w, &mut out);
     let b = push2(&mut out, a, w[COUNT]);
@@ -304,7 +307,7 @@ fn view(w: &[u64; WORDS], saved: u64, noted: u64) {
     let d = lay_lengths(w, w[COUNT] as usize, &mut out, c);
     let e = push2(&mut out, d, saved);
     let n = push2(&mut out, e, noted);
-    say(b'v', bare(0, 0, 0), base::fragment(&out, 0, n));
+    say(rt, b'v', bare(0, 0, 0), base::fragment(&out, 0, n))
 }
 
 fn remembered(numbers: &[u64; 384], i: usize, k: usize) -> u64 {
@@ -345,7 +348,13 @@ fn content_start(mtu: usize, i: usize) -> usize {
 }
 
 // A saved record: type, epoch, number, whether it was acknowledged, what it remembers, its content.
-fn show_entry(numbers: &[u64; 384], i: usize, e: Entry, content: &[u8]) {
+fn show_entry(
+    rt: &impl Print,
+    numbers: &[u64; 384],
+    i: usize,
+    e: Entry,
+    content: &[u8],
+) -> io::Result<()> {
     let mut out = [0u8; 2000];
     let a = push2(&mut out, 0, e.marked as u64);
     let b = push2(&mut out, a, e.remembered as u64);
@@ -354,26 +363,29 @@ fn show_entry(numbers: &[u64; 384], i: usize, e: Entry, content: &[u8]) {
     let mut t = bare(0, e.content_type, e.length);
     t.epoch = e.epoch;
     t.number = e.number;
-    say(b'e', t, base::fragment(&out, 0, n));
+    say(rt, b'e', t, base::fragment(&out, 0, n))
 }
 
 fn entry(
+    rt: &impl Print,
     w: &[u64; WORDS],
     f: &[u64; flight_words::WORDS],
     numbers: &[u64; 384],
     i: usize,
     kept: &[u8],
-) {
+) -> io::Result<()> {
     if i < 12 {
         let e = flight_words::entry_of(f, i);
         let start = content_start(w[MTU] as usize, i);
-        show_entry(numbers, i, e, base::fragment(kept, start, e.length));
+        show_entry(rt, numbers, i, e, base::fragment(kept, start, e.length))?;
     }
+    Ok(())
 }
 
 // ---- any step
 
 fn step(
+    rt: &impl Print,
     w: &mut [u64; WORDS],
     f: &mut [u64; flight_words::WORDS],
     numbers: &mut [u64; 384],
@@ -384,15 +396,15 @@ fn step(
     input: &[u8],
     queue: &mut [u8],
     kept: &mut [u8],
-) {
+) -> io::Result<()> {
     match letter {
-        b'n' => say(letter, note(count, epochs, noted, input), b""),
-        b'c' => say(letter, send_ack(w, count, epochs, noted, queue), b""),
-        b't' => take(w, input, queue),
-        b'q' => question(w, queue),
-        b'v' => view(w, f[flight_words::SAVED], count[0]),
-        b'e' => entry(w, f, numbers, run_lines::get1(input, 0) as usize, kept),
-        _ => answer(letter, call(w, f, numbers, letter, input, queue, kept)),
+        b'n' => say(rt, letter, note(count, epochs, noted, input), b""),
+        b'c' => say(rt, letter, send_ack(w, count, epochs, noted, queue), b""),
+        b't' => take(rt, w, input, queue),
+        b'q' => question(rt, w, queue),
+        b'v' => view(rt, w, f[flight_words::SAVED], count[0]),
+        b'e' => entry(rt, w, f, numbers, run_lines::get1(input, 0) as usize, kept),
+        _ => answer(rt, letter, call(w, f, numbers, letter, input, queue, kept)),
     }
 }
 
@@ -440,6 +452,7 @@ fn read_line(line: &[u8], out: &mut [u8]) -> usize {
 
 // One line of input.
 fn replay_line(
+    rt: &impl Print,
     w: &mut [u64; WORDS],
     f: &mut [u64; flight_words::WORDS],
     numbers: &mut [u64; 384],
@@ -450,21 +463,21 @@ fn replay_line(
     line: &[u8],
     queue: &mut [u8],
     kept: &mut [u8],
-) {
+) -> io::Result<()> {
     let mut space = [0u8; 16640];
     let n = read_line(line, &mut space);
     let input = base::fragment(&space, 0, n);
     let letter = run_lines::get1(line, 0);
     if letter == b'f' {
-        answer(letter, fresh(w, f, numbers, count, sizes, input));
-        return;
+        return answer(rt, letter, fresh(w, f, numbers, count, sizes, input));
     }
     let q = front(queue, sizes[QUEUE]);
     let k = front(kept, sizes[KEPT]);
-    step(w, f, numbers, count, epochs, noted, letter, input, q, k);
+    step(rt, w, f, numbers, count, epochs, noted, letter, input, q, k)
 }
 
 fn replay_lines(
+    rt: &impl Print,
     w: &mut [u64; WORDS],
     f: &mut [u64; flight_words::WORDS],
     numbers: &mut [u64; 384],
@@ -475,20 +488,21 @@ fn replay_lines(
     text: &[u8],
     queue: &mut [u8],
     kept: &mut [u8],
-) {
+) -> io::Result<()> {
     let mut i = 0;
     while i < text.len() {
         let n = run_lines::line_len(base::behind(text, i));
         let line = base::fragment(text, i, n);
         replay_line(
-            w, f, numbers, count, epochs, noted, sizes, line, queue, kept,
-        );
+            rt, w, f, numbers, count, epochs, noted, sizes, line, queue, kept,
+        )?;
         i = run_lines::next_line(i, n, text.len());
     }
+    Ok(())
 }
 
-fn main() {
-    let mut space = io::large_buffer();
+fn main(rt: HostRuntime) -> io::Result<()> {
+    let mut space = [0u8; 65536];
     let mut queue = [0u8; 24064];
     let mut kept = [0u8; 18064];
     let mut w = [0u64; WORDS];
@@ -499,8 +513,10 @@ fn main() {
     let mut noted = [0u64; 32];
     let mut sizes = [0usize; 2];
     send_calls::fresh(&mut w, 576, 1);
-    let n = io::read_full(0, &mut space);
+    let mut room: &mut [u8] = &mut space;
+    let n = io::copy(&mut rt.reader().take(65536), &mut room)?;
     replay_lines(
+        &rt,
         &mut w,
         &mut f,
         &mut numbers,
@@ -508,8 +524,8 @@ fn main() {
         &mut epochs,
         &mut noted,
         &mut sizes,
-        base::fragment(&space, 0, n),
+        base::fragment(&space, 0, n as usize),
         &mut queue,
         &mut kept,
-    );
+    )
 }

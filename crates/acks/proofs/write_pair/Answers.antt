@@ -1,7 +1,8 @@
 -- `acks::write_pair` meets its contract. Assumes nothing.
 use mathlib.Core.Path.{ap, ◌∙◌}
 use native.Mathlib.Omega.{arith}
-use Rattle.acks.specs.Acks.{pair_of, length-pair}
+use Rattle.acks.specs.Acks.{pair_of}
+use Rattle.acks.proofs.Acks.{length-pair}
 use Rattle.base.specs.Parts.{lent}
 use borrow.Rule.Slice.PartMut.{put_mid}
 use Prim.Native.Nat.{◌+◌, ◌-◌}

@@ -14,4 +14,3 @@ returns-then-is_flat c = λ n. begins_not _ n (sym c.is_flat.ensures ∙ c.if-is
 
 pub returns : goal.returns
 returns c = λ n. (sym (if_false _ _ (sym c.is_flat.ensures ∙ c.if-is_flat.false)), sym (if_false _ _ (sym c.is_flat.ensures ∙ c.if-is_flat.false)), refl)
-

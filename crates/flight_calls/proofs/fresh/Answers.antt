@@ -5,4 +5,3 @@ use Rattle.flight_calls.proofs.fresh.Goals as goal
 
 pub returns : goal.returns
 returns c = starts
-

@@ -26,4 +26,3 @@ returns-then-is_flat c = ((sym (if_false _ _ (both_true (sym c.is_flat.ensures �
 -- src/lib.rt:49:1
 pub returns : goal.returns
 returns c = ((sym (if_false _ _ (both_false _ (sym c.is_flat.ensures ∙ c.if-is_flat.false))), sym (if_false _ _ (both_false _ (sym c.is_flat.ensures ∙ c.if-is_flat.false))), refl, sym (if_false _ _ (both_false _ (sym c.is_flat.ensures ∙ c.if-is_flat.false))), refl), (sym (if_false _ _ (both_false _ (sym c.is_flat.ensures ∙ c.if-is_flat.false))), sym (if_false _ _ (both_false _ (sym c.is_flat.ensures ∙ c.if-is_flat.false)))))
-

@@ -30,4 +30,3 @@ returns-then-is_done c = let a = c.args in creates_all a.kind a.body.now a.w.now
 -- src/lib.rt:136:1
 pub returns : goal.returns
 returns c = let a = c.args in creates_nothing a.kind a.body.now a.w.now a.f.now a.memory.now a.kept.now c.message_answer-a.ensures (sym c.is_done.ensures ∙ c.if-is_done.false)
-

@@ -66,4 +66,3 @@ returns c = c.plan_answer.ensures
     ∙ if_false _ _ (le-ltb _ _ c.if-n-gt-MAX_BODY.false)
     ∙ if_true _ _ (rw c.epoch_of-epoch.ensures at (sym c.is_keyed.ensures ∙ c.if-not-is_keyed.false))
     ∙ if_false _ _ (lt-leb _ _ c.if-w-ge65535.false)))
-

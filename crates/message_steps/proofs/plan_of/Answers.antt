@@ -18,14 +18,14 @@ use Rattle.message_steps.proofs.plan_of.Goals as goal
 pub survey-requires : goal.survey-requires
 unfolding tail_of
 survey-requires c = let r = c.requires in (
-      r.low,
-      r.high,
-      omega (arith, c.record_len.ensures, len_small c.args.epoch 12),
-      record {
-        tailed = c.tail_of.ensures.1;
-        few = omega (arith, r.count, r.limit, ap (λ (t : Tail). t.count) c.tail_of.ensures.0);
-      },
-    )
+  r.low,
+  r.high,
+  omega (arith, c.record_len.ensures, len_small c.args.epoch 12),
+  record {
+    tailed = c.tail_of.ensures.1;
+    few = omega (arith, r.count, r.limit, ap (λ (t : Tail). t.count) c.tail_of.ensures.0);
+  },
+)
 
 -- src/lib.rt:23:1
 pub returns : goal.returns
@@ -41,4 +41,3 @@ returns c = (
     }),
   ),
 )
-

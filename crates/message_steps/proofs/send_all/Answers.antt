@@ -88,4 +88,3 @@ shape_of-kept c = (c.loop-n.invariant.0 []).kept
 -- src/lib.rt:98:1
 pub returns : goal.returns
 returns c = record { all = λ l. going_end (c.loop-n.invariant.0 l) c.loop-n-test.false; flat = c.loop-n.invariant.1; marks = c.loop-n.invariant.2 }
-

@@ -20,4 +20,3 @@ invariant-loop-n l = ((ns : List ℕ) → Going l.kind l.body (laid_as l.initial
 
 abbrev pub decreases-loop-n : goal.decreases-loop-n
 decreases-loop-n l = 13 - l.n
-

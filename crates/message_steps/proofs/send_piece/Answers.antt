@@ -79,4 +79,3 @@ returns c = let a = c.args in
     let x = content_of a.kind (state_of a.w.now).message_seq a.body.now a.at a.size in
     let w = length-content a.kind (state_of a.w.now).message_seq a.body.now a.at a.size c.requires.0 in
     saves-nothing (epoch_of a.kind) 22 x a.w.now a.f.now a.memory.now a.kept.now (rw w (rw c.epoch_of-epoch.ensures at c.save_answer-v.ensures.answer)) (sym c.is_done.ensures ∙ c.if-is_done.false)
-

@@ -2,7 +2,8 @@
 use mathlib.Core.Path.{refl, sym, ap, ◌∙◌}
 use native.Mathlib.Omega.{arith}
 use Rattle.base.specs.Choose.{if_false}
-use Rattle.process_ack.specs.Ack.{is_named, named-next, named-at}
+use Rattle.process_ack.specs.Ack.{is_named}
+use Rattle.process_ack.proofs.Ack.{named-next, named-at}
 use Rattle.process_ack.proofs.is_named.Goals as goal
 
 pub loop-i-init : goal.loop-i-init

@@ -3,7 +3,8 @@ use mathlib.Core.Path.{◌≡◌, refl, sym, ap, ◌∙◌}
 use native.Mathlib.Omega.{arith}
 use Prim.Native.Nat.{◌+◌, ◌-◌}
 use Rattle.base.specs.Choose.{if_true, if_false}
-use Rattle.process_ack.specs.Ack.{is_remembered, remembered_next}
+use Rattle.process_ack.specs.Ack.{is_remembered}
+use Rattle.process_ack.proofs.Ack.{remembered_next}
 use Rattle.process_ack.proofs.is_remembered.Goals as goal
 
 pub loop-j-init : goal.loop-j-init

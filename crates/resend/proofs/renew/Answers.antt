@@ -2,7 +2,8 @@
 use mathlib.Core.Path.{sym, ◌∙◌}
 use Rattle.base.specs.Choose.{if_true, if_false}
 use native.Mathlib.Omega.{arith}
-use Rattle.resend.specs.Resend.{new_entry, new_table, with_number, can-few}
+use Rattle.resend.specs.Resend.{new_entry, new_table, with_number}
+use Rattle.resend.proofs.Resend.{can-few}
 use Rattle.resend.proofs.renew.Goals as goal
 
 pub overflow_add-at : goal.overflow_add-at

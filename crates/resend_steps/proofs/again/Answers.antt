@@ -18,4 +18,3 @@ overflow_mul-i c = let h : c.args.i ≤ 12 = omega (arith, c.requires.1) in
 
 pub returns : goal.returns
 returns c = again-sent c.args.kept.now c.args.i c.args.w.now c.args.f.now c.args.numbers.now c.args.memory.now c.entry_of-e.result (entry-at _ _ c.requires.1 ∙ sym c.entry_of-e.ensures) _ _ _ _ c.if-e.false (rw c.fragment-content.ensures at c.send-a.ensures) c.next_of-number.ensures c.renew_if-t.ensures.0 c.renew_if-t.ensures.1 c.entry_of-e.ensures c.put_numbers.ensures
-

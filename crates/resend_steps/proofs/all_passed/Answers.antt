@@ -20,4 +20,3 @@ loop-i-preserved c = (omega (arith, c.loop-i-test.true), λ n. c.passed_with-p.e
 
 pub returns : goal.returns
 returns c n = c.loop-i.invariant.1 n ∙ ap (passed_after _ _ _) (omega (arith, c.loop-i.invariant.0, c.loop-i-test.false))
-

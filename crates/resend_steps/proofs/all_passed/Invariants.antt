@@ -16,4 +16,3 @@ invariant-loop-i l = (l.i ≤ l.saved) × ((n : List ℕ) → l.p ≡ passed_aft
 
 abbrev pub decreases-loop-i : goal.decreases-loop-i
 decreases-loop-i l = l.saved - l.i
-

@@ -12,4 +12,3 @@ returns-then-is_over-2 c = sym (if_false _ _ (sym (rw c.next_of.ensures at c.is_
 
 pub returns : goal.returns
 returns c = (rw c.next_of-3.ensures at c.is_over-3.ensures) ∙ sym (if_false _ _ (sym (rw c.next_of.ensures at c.is_over.ensures) ∙ c.if-is_over.false) ∙ if_false _ _ (sym (rw c.next_of-2.ensures at c.is_over-2.ensures) ∙ c.if-is_over-2.false))
-

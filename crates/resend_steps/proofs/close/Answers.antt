@@ -5,4 +5,3 @@ use Rattle.resend_steps.proofs.close.Goals as goal
 
 pub returns : goal.returns
 returns c = closes _ c.sized.ensures
-

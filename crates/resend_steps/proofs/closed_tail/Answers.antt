@@ -13,4 +13,3 @@ pub returns : goal.returns
 unfolding tail_of
 returns c = let t = c.tail_of-t.ensures in
     (ap (λ (x : Tail). record { used = x.used; joinable = false; count = x.count }) t.0 ∙ sym (closed-end (state_of c.args.w.now)), record { used = t.1.used; counted = λ z. absurd (false≢true z) }, omega (arith, ap (λ (x : Tail). x.count) t.0, c.requires.count, c.requires.limit))
-

@@ -14,4 +14,3 @@ returns-then-any_spent c n = fit-spent (state_of c.args.w.now) (flight_of c.args
 
 pub returns : goal.returns
 returns c n = fit-done (state_of c.args.w.now) (flight_of c.args.f.now n) _ (rw (c.low-epoch.ensures, c.closed_tail.ensures.0) at (c.survey_all-d.ensures.0 n)) c.if-w-t.false (rw c.low-epoch.ensures at c.any_spent.ensures) c.if-any_spent.false
-

@@ -13,4 +13,3 @@ returns-then-f-le12 c n = sym (both_true (le-leb _ _ c.if-f-le12.true))
 pub returns : goal.returns
 unfolding is_kept
 returns c n = sym (both_false _ (lt-leb _ _ c.if-f-le12.false))
-

@@ -8,4 +8,3 @@ returns-then-e c = passed-marked _ _ _ c.args.e c.if-e.true
 
 pub returns : goal.returns
 returns c = passed-unmarked _ _ _ c.args.e c.if-e.false (rw c.is_usable-usable.ensures at c.both.ensures) (rw c.is_allowed-allowed.ensures at c.both-2.ensures) (rw c.is_keyed-keyed.ensures at c.both-3.ensures) (rw c.has_room-room.ensures at c.both-4.ensures)
-

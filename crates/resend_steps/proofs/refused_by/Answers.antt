@@ -18,4 +18,3 @@ returns-then-not-p-4 c = sym (if_true _ _ (not-false _ c.if-not-p.false) ∙ if_
 
 pub returns : goal.returns
 returns c = sym (if_true _ _ (not-false _ c.if-not-p.false) ∙ if_true _ _ (not-false _ c.if-not-p-2.false) ∙ if_true _ _ (not-false _ c.if-not-p-3.false) ∙ if_true _ _ (not-false _ c.if-not-p-4.false))
-

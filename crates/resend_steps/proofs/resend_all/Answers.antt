@@ -33,4 +33,3 @@ shape_of-memory c = c.loop-i.invariant.2
 pub returns : goal.returns
 returns c = let v = c.loop-i.invariant in
     (v.3.0 ∙ ap (again_after _ _) (omega (arith, v.0, c.loop-i-test.false)), v.3.1, v.3.2)
-

@@ -15,4 +15,3 @@ invariant-loop-i l = (l.i ≤ l.saved) × InRange (queue_of l.w) × (length l.me
 
 abbrev pub decreases-loop-i : goal.decreases-loop-i
 decreases-loop-i l = l.saved - l.i
-

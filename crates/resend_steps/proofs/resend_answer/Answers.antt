@@ -33,4 +33,3 @@ returns-then-is_done c n = c.fit_answer.ensures n ∙ sym ((cleared c.all_passed
 
 pub returns : goal.returns
 returns c n = c.refused_by-a.ensures ∙ refused c.all_passed.result _ (ap is_done (sym c.refused_by-a.ensures) ∙ sym c.is_done.ensures ∙ c.if-is_done.false) ∙ answer-tested (state_of c.args.w.now) (flight_of c.args.f.now n) c.args.room c.args.kept (sym c.is_ready.ensures ∙ c.if-not-is_ready.false) (sym (c.is_kept.ensures n) ∙ c.if-not-is_kept.false) _ (c.all_passed.ensures n)
-

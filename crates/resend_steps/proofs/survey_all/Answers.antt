@@ -45,4 +45,3 @@ pub returns : goal.returns
 returns c = let v = c.loop-i.invariant in
     let few : c.loop-i.i ≤ 12 = omega (arith, v.0, c.requires.3) in
     (λ n. v.1 n ∙ ap (surveyed_after _ _ _ _) (omega (arith, v.0, c.loop-i-test.false)), omega (arith, v.4, few), omega (arith, v.5, few), omega (arith, v.6, few))
-

@@ -18,4 +18,3 @@ invariant-loop-i l = (l.i ≤ l.saved) × ((n : List ℕ) → l.d ≡ surveyed_a
 
 abbrev pub decreases-loop-i : goal.decreases-loop-i
 decreases-loop-i l = l.saved - l.i
-

@@ -5,7 +5,7 @@ use lib.ListN.{length, get_or}
 use mathlib.Core.Path.{sym, ap, ◌∙◌}
 use native.Mathlib.Omega.{arith}
 use Rattle.base.specs.Parts.{lent}
-use Rattle.outgoing.specs.Send.{clear-short}
+use Rattle.outgoing.proofs.Send.{clear-short}
 use Rattle.flight.specs.Flight.{counted}
 use Rattle.flight.specs.Save.{save_safe, kept-fits}
 use Rattle.send_words.specs.Words.{state_of}

@@ -9,4 +9,3 @@ returns-then-is_setting c = starts-done c.args.mtu c.args.limit (sym c.is_settin
 
 pub returns : goal.returns
 returns c = starts-refused c.args.mtu c.args.limit (sym c.is_setting.ensures ∙ c.if-is_setting.false)
-

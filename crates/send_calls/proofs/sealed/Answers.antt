@@ -11,4 +11,3 @@ returns-then-is_flat c = let d = sym c.is_flat.ensures ∙ c.if-is_flat.true in 
 
 pub returns : goal.returns
 returns c = let z = sym c.is_flat.ensures ∙ c.if-is_flat.false in ((sym (if_false _ _ z), (sym (if_false _ _ z), refl)), sym (if_false _ _ z))
-

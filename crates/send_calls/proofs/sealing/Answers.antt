@@ -11,4 +11,3 @@ returns-then-is_flat c = c.flat_sealing.ensures ∙ ap (λ (x : Question). flat_
 
 pub returns : goal.returns
 returns c = c.no_sealing.ensures ∙ sym (if_false _ _ (sym c.is_flat.ensures ∙ c.if-is_flat.false))
-

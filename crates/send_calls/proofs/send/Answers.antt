@@ -3,7 +3,7 @@ use borrow.Author.Rules.{rules}
 use lib.ListN.{length}
 use mathlib.Core.Path.{refl, sym, ap, ◌∙◌}
 use Rattle.base.specs.Choose.{if_false}
-use Rattle.outgoing.specs.Send.{send_clear}
+use Rattle.outgoing.proofs.Send.{send_clear}
 use Rattle.send_words.specs.Words.{state_of}
 use Rattle.send_calls.specs.Calls.{sends-laid, sends-nothing}
 use Rattle.send_calls.proofs.send.Goals as goal
@@ -19,4 +19,3 @@ returns-then-is_flat c = let a = c.args in rw (← c.send_answer-v.ensures.answe
 
 pub returns : goal.returns
 returns c = ((sym (if_false _ _ (sym c.is_flat.ensures ∙ c.if-is_flat.false)), (sym (if_false _ _ (sym c.is_flat.ensures ∙ c.if-is_flat.false)), refl)), sym (if_false _ _ (sym c.is_flat.ensures ∙ c.if-is_flat.false)))
-

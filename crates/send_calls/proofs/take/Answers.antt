@@ -12,4 +12,3 @@ returns-then-is_flat c = let d = sym c.is_flat.ensures ∙ c.if-is_flat.true in 
 
 pub returns : goal.returns
 returns c = let z = sym c.is_flat.ensures ∙ c.if-is_flat.false in ((c.no_take.ensures ∙ sym (if_false _ _ z), (sym (if_false _ _ z), refl)), sym (if_false _ _ z))
-

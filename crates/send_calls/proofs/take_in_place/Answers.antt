@@ -13,4 +13,3 @@ returns-then-is_flat c = let w = c.args.w.now in let s = state_of w in let d = s
 
 pub returns : goal.returns
 returns c = let w = c.args.w.now in let z = sym c.is_flat.ensures ∙ c.if-is_flat.false in (c.no_part.ensures ∙ sym (if_false _ _ z), (sym (if_false _ _ z), refl), λ b h. no-part c.no_part.result w c.args.queue.now b _ z c.no_part.ensures)
-

@@ -1,7 +1,8 @@
 -- `send_steps::lay` meets its contract. Assumes nothing.
 use native.Mathlib.Omega.{arith}
 use Rattle.queue.specs.Queue.{start_of}
-use Rattle.outgoing.specs.Send.{laid_memory, clear-short}
+use Rattle.outgoing.specs.Send.{laid_memory}
+use Rattle.outgoing.proofs.Send.{clear-short}
 use Rattle.send_steps.specs.Steps.{lays, at_slot}
 use Rattle.send_steps.proofs.lay.Goals as goal
 

@@ -1,7 +1,7 @@
 -- `send_steps::send` meets its contract. Assumes nothing.
 use lib.ListN.{length}
 use mathlib.Core.Path.{sym, ◌∙◌}
-use Rattle.outgoing.specs.Send.{send_clear}
+use Rattle.outgoing.proofs.Send.{send_clear}
 use Rattle.send_words.specs.Words.{state_of}
 use Rattle.send_steps.specs.Sends.{sends-laid, sends-nothing}
 use Rattle.send_steps.proofs.send.Goals as goal

@@ -10,4 +10,3 @@ use Rattle.take_steps.proofs.advance.Goals as goal
 
 pub returns : goal.returns
 returns c = let w = c.args.w.now in rw c.next_slot-next.ensures (fronts w _ (get_or w count_at 0 - 1) c.sized.ensures)
-

@@ -10,4 +10,3 @@ use Rattle.take_steps.proofs.copy_out.Goals as goal
 
 pub returns : goal.returns
 returns c = let a = c.args in let g = a.from in let n = a.n in let m = a.memory.now in let b = a.buffer.now in let z : g + n - g ≡ n = omega arith in let l : length (take (g + n - g) (drop g m)) ≡ n - 0 = simp (length-take, length-drop) (omega (arith, c.requires.0)) in ap (put_mid 0 (n - 0) b) c.move_bytes.ensures ∙ lent 0 n b (take (g + n - g) (drop g m)) l ∙ ap (λ (k : ℕ). splice 0 (take k (drop g m)) b) z
-

@@ -10,4 +10,3 @@ returns-then-w-eq1 c = sym (both_true (eq-eqb _ _ c.if-w-eq1.true))
 
 pub returns : goal.returns
 returns c = sym (both_false _ (ne_eqb _ _ c.if-w-eq1.false))
-

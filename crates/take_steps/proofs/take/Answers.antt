@@ -21,4 +21,3 @@ returns-then-is_taken c = let d = sym c.is_taken.ensures ∙ c.if-is_taken.true 
 pub returns-else-is_taken : goal.returns-else-is_taken
 unfolding take_buffer
 returns-else-is_taken c = let d = sym c.is_taken.ensures ∙ c.if-is_taken.false in (c.take_front-f.ensures.0, c.take_front-f.ensures.3, sym (if_false _ _ d))
-

@@ -35,4 +35,3 @@ returns-then-have-n c = ap take.Short c.front_len-n.ensures ∙ sym (if_true _ _
 pub returns : goal.returns
 unfolding take_answer
 returns c = ap take.Taken c.front_len-n.ensures ∙ sym (if_true _ _ (sym c.is_ready.ensures ∙ c.if-not-is_ready.false) ∙ if_false _ _ (ne_eqb _ _ c.if-w-eq0.false) ∙ if_true _ _ (rw c.front_len-n.ensures at (le-leb _ _ c.if-w-n.false)) ∙ if_false _ _ (sym c.front_waits.ensures ∙ c.if-front_waits.false) ∙ if_false _ _ (rw c.front_len-n.ensures at (le-ltb _ _ c.if-have-n.false)))
-

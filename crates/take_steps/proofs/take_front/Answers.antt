@@ -23,4 +23,3 @@ returns-then-is_taken c = let d = sym c.is_taken.ensures ∙ c.if-is_taken.true 
 pub returns : goal.returns
 unfolding take_state
 returns c = let d = sym c.is_taken.ensures ∙ c.if-is_taken.false in (c.take_answer-a.ensures, sym (if_false _ _ d), sym (if_false _ _ d), (sym (if_false _ _ d), refl))
-
