@@ -1,10 +1,4 @@
 -- `save_steps::lay_saved` meets its contract. Assumes nothing.
-use borrow.Author.Rules.{rules}
-use Rattle.save_steps.proofs.lay_saved.Reads as reads
-use Rattle.save_steps.proofs.lay_saved.Lts as lts
-use Rattle.save_steps.proofs.put_saved.Reads as put-saved-reads
-use Rattle.send_steps.proofs.lay.Reads as lay-reads
-use Rattle.send_steps.proofs.next_of.Reads as next-of-reads
 use Rattle.save_steps.proofs.lay_saved.Goals as goal
 
 -- src/lib.rt:86:1

@@ -1,16 +1,7 @@
 -- `save_steps::save_answer` meets its contract: 12, 12, 13, 14, 17, 18, 19, 20 in this order. Assumes nothing.
-use borrow.Author.Tests.{not-true, not-false}
 use mathlib.Core.Path.{sym, ◌∙◌}
 use Rattle.queue.specs.Queue.{ready}
 use Rattle.save_steps.specs.Save.{judged-range, judged-kept, judged-sent, judged_full}
-use borrow.Author.Rules.{rules}
-use Rattle.save_steps.proofs.save_answer.Reads as reads
-use Rattle.save_steps.proofs.save_answer.Lts as lts
-use Rattle.flight.proofs.has_room.Reads as has-room-reads
-use Rattle.save_steps.proofs.full_answer.Reads as full-answer-reads
-use Rattle.send_steps.proofs.is_ready.Reads as is-ready-reads
-use Rattle.send_steps.proofs.refused.Reads as refused-reads
-use Rattle.send_steps.proofs.send_answer.Reads as send-answer-reads
 use Rattle.save_steps.proofs.save_answer.Goals as goal
 
 -- src/lib.rt:50:9

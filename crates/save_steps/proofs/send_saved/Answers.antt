@@ -12,12 +12,6 @@ use Rattle.send_words.specs.Words.{state_of}
 use Rattle.flight_words.specs.Words.{saved-at}
 use Rattle.save_steps.specs.Save.{saves-laid, saves-nothing}
 use borrow.Author.Rules.{rules}
-use Rattle.save_steps.proofs.send_saved.Reads as reads
-use Rattle.save_steps.proofs.send_saved.Lts as lts
-use Rattle.send_keys.proofs.is_done.Reads as is-done-reads
-use Rattle.base.proofs.move_bytes.Reads as move-bytes-reads
-use Rattle.save_steps.proofs.lay_saved.Reads as lay-saved-reads
-use Rattle.save_steps.proofs.save_answer.Reads as save-answer-reads
 use Rattle.save_steps.proofs.send_saved.Goals as goal
 
 -- src/lib.rt:121:18
