@@ -4,7 +4,7 @@ use Rattle.base.specs.Choose.{choose, either}
 use Rattle.base.specs.Parts.{splice}
 use Rattle.queue.specs.declared.Place.{Place}
 use Rattle.queue.specs.declared.Queue.{Queue}
-use Rattle.queue.specs.Queue.{is_ready, slot_of, tail_of, place_of, laid, start_of, Ready, ready}
+use Rattle.queue.specs.Queue.{is_ready, slot_of, tail_of, place_of, laid, start_of, Ready}
 use Rattle.queue.specs.Laid.{record_len, record_bytes}
 use Rattle.send_keys.specs.Keys.{is_usable, is_keyed, next_of, used}
 use Rattle.send_keys.specs.Answer.{is_done}

@@ -1,6 +1,6 @@
 -- `ack_steps::process_ack` meets its contract. Assumes nothing.
 use Rattle.ack_steps.specs.Steps.{acts_not, acts-formed, acts-unformed, still-saved}
-use Rattle.process_ack.specs.Ack.{formed-long}
+use Rattle.process_ack.proofs.Ack.{formed-long}
 use native.Mathlib.Omega.{arith}
 use mathlib.Core.Path.{sym, ◌∙◌}
 use borrow.Author.Rules.{rules}

@@ -3,7 +3,8 @@ use Rattle.ack_steps.specs.Steps.{tabled}
 use native.Mathlib.Omega.{arith}
 use Prim.Native.Nat.{◌+◌, ◌*◌}
 use Rattle.base.specs.Parts.{part-put}
-use Rattle.acks.specs.Acks.{ack_content, length-content}
+use Rattle.acks.specs.Acks.{ack_content}
+use Rattle.acks.proofs.Acks.{length-content}
 use borrow.Author.Rules.{rules}
 use Rattle.ack_steps.proofs.send_from.Goals as goal
 
