@@ -7,7 +7,7 @@ pub mod Lists
 pub mod Opening
 pub mod Theorem
 pub mod Reading
-pub mod Reads
+pub mod ReadLaws
 pub mod Sound
 pub mod Table
 pub mod Undamaged

@@ -53,7 +53,7 @@ use Rattle.history_theorem.proofs.Judging.{is_ruled, neither, read_unruled, type
 use Rattle.history_theorem.proofs.Cut.{cut, finds, nonce-own}
 use Rattle.history_theorem.proofs.Lists.{by_both, drops_on}
 use Rattle.history_theorem.proofs.Opening.{Settles, typed-settles, typed-hands, yes_keys, yes_table, yes_new}
-use Rattle.history_theorem.proofs.Reads.{out_by, reads_out, masked_out, Quiet, passed-quiet, read-quiet, read-flag, read-shows, read-stops, plain-says, unopened-says, masked-long, masked-behind, masked-other, mask-quiet}
+use Rattle.history_theorem.proofs.ReadLaws.{out_by, reads_out, masked_out, Quiet, passed-quiet, read-quiet, read-flag, read-shows, read-stops, plain-says, unopened-says, masked-long, masked-behind, masked-other, mask-quiet}
 use Rattle.history_theorem.specs.Receiver.{
   Sealed,
   Handed,
