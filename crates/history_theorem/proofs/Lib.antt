@@ -14,3 +14,4 @@ pub mod Undamaged
 pub mod Verdicts
 pub mod Claim
 pub mod Ends
+pub mod Reached
