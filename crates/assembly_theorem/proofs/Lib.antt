@@ -3,6 +3,6 @@ pub mod Answers
 pub mod Example
 pub mod Laws
 pub mod Theorem
-pub mod Reads
+pub mod ReadLaws
 pub mod Rules
 pub mod Story

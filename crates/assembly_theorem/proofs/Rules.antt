@@ -18,7 +18,7 @@ use Rattle.assembly_theorem.specs.Account.{most_taken, longest_body, last_number
 use Rattle.assembly_theorem.proofs.Agreement.{Same, same-one, one_same, Among, among, is-among, Shares, shares_each, one_differs, oldest-in}
 use Rattle.assembly_theorem.specs.Claim.{PieceCall, begin·, take·, Out, Piecing, new_piecing, logged, does, FairPiece, Log, none as no-message, more, ran, AllFair}
 use Rattle.assembly_theorem.proofs.Laws.{length-stays}
-use Rattle.assembly_theorem.proofs.Reads.{kept-count}
+use Rattle.assembly_theorem.proofs.ReadLaws.{kept-count}
 use Rattle.assembly_theorem.proofs.Theorem.{Story, does_story, new_story}
 
 -- ---- what the rules speak of

@@ -28,7 +28,7 @@ use Rattle.assembly_theorem.specs.Account.{head_bytes, Fragment, fragment_in, en
 use Rattle.assembly_theorem.proofs.Agreement.{alike, same-is, Same, is-same, among, is-among, has_from, has_to, is-has, covers_one, one_covers, byte-first, Shares, shares_each, each_shares}
 use Rattle.assembly_theorem.specs.Claim.{verdict_of, logged, is_taken, WroteOnly, Out, Agrees, Right, Log, more}
 use Rattle.assembly_theorem.proofs.Laws.{Sound, is-sound, held-total, words_held, bytes_held, piece_inside, shared_each, each_shared, length-put, put-here, put-beside, put-covered, whole_each}
-use Rattle.assembly_theorem.proofs.Reads.{fragment_of, as_fragment, reads_same, within_has, Kept, empty, next, kept-covers, kept-all, kept-count, kept-found, kept-has, kept-still}
+use Rattle.assembly_theorem.proofs.ReadLaws.{fragment_of, as_fragment, reads_same, within_has, Kept, empty, next, kept-covers, kept-all, kept-count, kept-found, kept-has, kept-still}
 
 -- ---- the words stand for the account
 

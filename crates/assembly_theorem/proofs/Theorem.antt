@@ -17,7 +17,7 @@ use Rattle.assembly_theorem.specs.Account.{longest_body, Fragment, fragment_in, 
 use Rattle.assembly_theorem.proofs.Agreement.{one_covers}
 use Rattle.assembly_theorem.specs.Claim.{PieceCall, begin·, take·, Told, Given, Wrote, Out, Piecing, new_piecing, verdict_of, logged, takes, does, FairPiece, is_taken, WroteOnly, Log, none as no-message, Came, Assembled, ran, AllFair, EveryRun}
 use Rattle.assembly_theorem.proofs.Laws.{is-sound}
-use Rattle.assembly_theorem.proofs.Reads.{empty}
+use Rattle.assembly_theorem.proofs.ReadLaws.{empty}
 use Rattle.assembly_theorem.proofs.Story.{Stands, bare, held-still, begun-stands, long-step}
 
 -- the claim, and the words stand for the account

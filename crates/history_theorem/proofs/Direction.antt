@@ -55,8 +55,9 @@ use Rattle.history_theorem.proofs.Calls.{Leaves, as_was, no_more}
 use Rattle.history_theorem.specs.Claim.{Masks, FairMask, Opens, FairOpen, as_handed, window_marks, Due, Known, IsSeen, IsOld, Tells, SaysOpened}
 use Rattle.history_theorem.specs.Half.{Shape}
 use Rattle.history_theorem.proofs.Lists.{upd_same, upd-by, some≢none, some_inj, option_cases, mem-by}
-use Rattle.history_theorem.proofs.Reading.{refusal, same_again, is_found, mask-opening, mask-refused, open_idle, open_masked, masks-again, again-is, rest-idle, rest-masked, reached_to, idle-quiet, masked-quiet, opened-is, use_down}
-use Rattle.history_theorem.proofs.Reads.{out_by, reads_out, masked_out}
+use Rattle.history_theorem.proofs.Reading.{refusal, same_again, is_found, mask-opening, mask-refused, open_idle, open_masked, masks-again, again-is, rest-masked, idle-quiet, masked-quiet, opened-is, use_down}
+use Rattle.history_theorem.proofs.Reached.{rest-idle, reached_to}
+use Rattle.history_theorem.proofs.ReadLaws.{out_by, reads_out, masked_out}
 use Rattle.history_theorem.specs.Receiver.{
   Sealed,
   Handed,

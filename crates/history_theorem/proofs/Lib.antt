@@ -7,10 +7,11 @@ pub mod Lists
 pub mod Opening
 pub mod Theorem
 pub mod Reading
-pub mod Reads
+pub mod ReadLaws
 pub mod Sound
 pub mod Table
 pub mod Undamaged
 pub mod Verdicts
 pub mod Claim
 pub mod Ends
+pub mod Reached

@@ -24,7 +24,7 @@ use Rattle.window.specs.Window.{verdict}
 use Rattle.window.specs.declared.Verdict.TheVariants.{Fresh}
 use Rattle.history_theorem.specs.Account.{upd}
 use Rattle.history_theorem.specs.Claim.{Real, Shows, There, Ends, RightNonce}
-use Rattle.history_theorem.proofs.Reads.{out_by}
+use Rattle.history_theorem.proofs.ReadLaws.{out_by}
 use Rattle.history_theorem.specs.Receiver.{Handed, Out, settled, fate_of, handed_by}
 use Rattle.history_theorem.proofs.Sound.{FreshAsked, Hands, spend_hands, hand_hands, Moves, SameKeys}
 use Rattle.history_theorem.proofs.Table.{keyed_in, Table, keyed-marked, marked-table}

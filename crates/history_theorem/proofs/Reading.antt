@@ -1,16 +1,16 @@
 -- A read, a mask reply and an opening reply keep what holds between state, account and history. Assumes nothing.
-use Rattle.std.specs.Prelude.{ℕ, suc, ◌+◌, ◌-◌, ◌/◌, ◌%◌, ◌<◌, ◌≤◌, eqb, length, get_or, drop, Bool, false, ◌≡◌}
+use Rattle.std.specs.Prelude.{ℕ, ◌+◌, ◌-◌, ◌/◌, ◌%◌, ◌≤◌, eqb, length, get_or, drop, Bool, false, ◌≡◌}
 use borrow.Author.Tests.{eqb-true, eqb-false}
 use Rattle.std.proofs.Math.Bool.{true}
-use Rattle.std.proofs.Common.{true≢false, sym, ◌∙◌, arith}
+use Rattle.std.proofs.Common.{sym, ◌∙◌, arith}
 use Rattle.std.proofs.lemmas.Bool.{false≢true}
-use mathlib.Core.List.{List, [], ◌∷◌}
+use mathlib.Core.List.{List}
 use Rattle.std.proofs.Math.Option.{Option, none, some}
 use Rattle.std.proofs.Math.Path.{refl, ap, subst}
 use Rattle.base.specs.Choose.{if_true, if_false, test_cases}
 use Rattle.base.specs.Parts.{part}
-use Rattle.datagram.specs.Datagram.{is_sound, zeros, told, questioned, passed, end_asked}
-use Rattle.datagram.specs.Sound.{Held, Ready, held-mask, held_open}
+use Rattle.datagram.specs.Datagram.{zeros, told, questioned, passed, end_asked}
+use Rattle.datagram.specs.Sound.{Held, held-mask, held_open}
 use Rattle.datagram.specs.declared.Ask.{Ask}
 use Rattle.datagram.specs.declared.Datagram.{Datagram}
 use Rattle.datagram.specs.declared.Question.TheVariants as question
@@ -21,7 +21,6 @@ use Rattle.datagram.specs.declared.Reason.TheVariants as reason
 use Rattle.datagram.specs.declared.Step.{Step}
 use Rattle.dtls_aead.specs.Nonce.{nonce_of}
 use Rattle.incoming.specs.Inner.{inner_of}
-use Rattle.incoming.specs.declared.Inner.{Inner}
 use Rattle.mask_reply.proofs.Leads.{by-judged, mask-asks}
 use Rattle.mask_reply.specs.Mask.{unmasked, judged, masked_at, masked_by, masking, mask_step}
 use Rattle.opening_reply.proofs.Leads.{opened-asks}
@@ -30,13 +29,12 @@ use Rattle.opening_reply.specs.declared.Marked.{Marked}
 use Rattle.opening_reply.specs.declared.Opening.TheVariants as reply
 use Rattle.opening_reply.specs.declared.Opening.{Opening}
 use Rattle.receiving.specs.Calls.Call.{reading, masking as answering, opening}
-use Rattle.receiving.specs.Laws.{Made, after-made, made-sound}
-use Rattle.receiving.specs.Receiving.{stepped}
+use Rattle.receiving.specs.Laws.{Made, after-made}
 use Rattle.record.specs.Record.{tag_size, parsed}
 use Rattle.records.proofs.Leads.{read-asks}
-use Rattle.records.specs.Records.{step_of, opening_asked, asked_again, asking, read_step}
+use Rattle.records.specs.Records.{step_of, opening_asked, asked_again, asking}
 use Rattle.recv_keys.specs.Keeps.{found-epoch}
-use Rattle.recv_keys.specs.Keys.{entry_at, find, resolve, was_found, is_keyed, marked}
+use Rattle.recv_keys.specs.Keys.{entry_at, find, was_found, is_keyed, marked}
 use Rattle.recv_keys.specs.Laws.{found-keyed, window-at}
 use Rattle.recv_keys.specs.declared.Found.TheVariants as found
 use Rattle.recv_keys.specs.declared.Found.{Found}
@@ -47,74 +45,17 @@ use Rattle.window.specs.Used.{above, Agrees}
 use Rattle.window.proofs.Used.{expects}
 use Rattle.window.specs.Window.{verdict}
 use Rattle.window.specs.declared.Verdict.TheVariants.{Fresh}
-use Rattle.history_theorem.specs.Account.{upd, Shown, nothing, a_mask, an_opening, Account, resolves_to, record_size, good_plain}
-use Rattle.history_theorem.specs.Claim.{Real, Shows, There, Ends, Proper, RightNonce, NumberByte, Spares, Rules, TellsNeither, bits_under, block_in, Judged}
+use Rattle.history_theorem.specs.Account.{Shown, nothing, a_mask, an_opening, record_size, good_plain}
+use Rattle.history_theorem.specs.Claim.{Shows, There, Ends, Proper, RightNonce, NumberByte, Spares, Rules, TellsNeither, bits_under, block_in, Judged}
 use Rattle.history_theorem.proofs.Judging.{is_ruled, neither, read_unruled, typed_unruled, judged-told, stands_for}
 use Rattle.history_theorem.proofs.Cut.{cut, finds, nonce-own}
-use Rattle.history_theorem.proofs.Lists.{by_both, drops_on}
+use Rattle.history_theorem.proofs.Lists.{drops_on}
 use Rattle.history_theorem.proofs.Opening.{Settles, typed-settles, typed-hands, yes_keys, yes_table, yes_new}
-use Rattle.history_theorem.proofs.Reads.{out_by, reads_out, masked_out, Quiet, passed-quiet, read-quiet, read-flag, read-shows, read-stops, plain-says, unopened-says, masked-long, masked-behind, masked-other, mask-quiet}
-use Rattle.history_theorem.specs.Receiver.{
-  Sealed,
-  Handed,
-  Trial,
-  Deed,
-  a_read,
-  a_mask_reply,
-  an_open_reply,
-  Receiver,
-  Out,
-  Fate,
-  turnedDown,
-  underway,
-  settled,
-  fate_of,
-  handed_by,
-  question_in,
-  Use,
-  unused,
-  uses,
-  use_by,
-  use_of,
-  spent,
-  resolved_in,
-  spoken_by,
-  after,
-  rest_of,
-  reached,
-  read_by,
-  read_out,
-  after_read,
-  mask_by,
-  mask_out,
-  after_mask,
-  open_by,
-  open_out,
-  after_open,
-}
-use Rattle.history_theorem.proofs.Sound.{
-  Asked,
-  UnderWay,
-  FreshAsked,
-  Hands,
-  intact_from,
-  FlagAsked,
-  Intact,
-  Said,
-  Sound,
-  Moves,
-  moves-on,
-  same_keys,
-  more-proper,
-  more-nonces,
-  more-spared,
-  more-judged,
-  none_written,
-  step-intact,
-  settle_intact,
-  step-sound,
-}
-use Rattle.history_theorem.proofs.Table.{epoch_at, resolves, Table}
+use Rattle.history_theorem.proofs.ReadLaws.{out_by, reads_out, masked_out, Quiet, passed-quiet, read-quiet, read-flag, read-shows, read-stops, plain-says, unopened-says, masked-long, masked-behind, masked-other, mask-quiet}
+use Rattle.history_theorem.specs.Receiver.{Sealed, Trial, Deed, a_read, a_mask_reply, an_open_reply, Receiver, Out, Fate, turnedDown, underway, settled, fate_of, handed_by, question_in, Use, unused, uses, use_by, use_of, spent, resolved_in, spoken_by, after, rest_of, reached, read_by, read_out, after_read, mask_by, mask_out, after_mask, open_by, open_out, after_open}
+use Rattle.history_theorem.proofs.Sound.{UnderWay, FreshAsked, Hands, intact_from, FlagAsked, Intact, Said, Sound, Moves, moves-on, same_keys, more-proper, more-nonces, more-spared, more-judged, none_written, step-intact, settle_intact, step-sound}
+use Rattle.history_theorem.proofs.Table.{Table}
+use Rattle.history_theorem.proofs.Reached.{in-range, rest_from, rest-idle, reached_to, read_made, mask-idle}
 
 -- ---- a call that is refused, and a question asked again
 
@@ -245,20 +186,8 @@ module _ (y : Receiver) (i : Sound y) where
   abbrev d : List ℕ
   d = y.datagram
 
-  in-range : is_sound k b ≡ true
-  in-range = made-sound y.state i.made
-
-  -- where no opening is asked, the record at the cursor and what follows lie as they arrived
-  rest_from : intact_from b.question b.at ≡ b.at → rest_of y ≡ drop b.at d
-  rest_from e =
-      ap (λ (n : ℕ). drop n y.arrived) i.tally.place
-      ∙ sym (subst (λ (n : ℕ). drop n d ≡ drop n y.arrived) e i.intact.lies)
-
-  pub rest-idle : b.question ≡ question.Nothing → rest_of y ≡ drop b.at d
-  rest-idle q = rest_from (ap (λ (x : Question). intact_from x b.at) q)
-
   pub rest-masked : (a : Ask) → b.question ≡ question.Mask a → rest_of y ≡ drop b.at d
-  rest-masked a q = rest_from (ap (λ (x : Question). intact_from x b.at) q)
+  rest-masked a q = rest_from y i (ap (λ (x : Question). intact_from x b.at) q)
 
   -- and so where the host is shown no question
   pub unasked : (q : Question) → b.question ≡ q → UnderWay q b.at y.account.waits y.trial → y.account.waits ≡ nothing → b.question ≡ question.Nothing
@@ -270,14 +199,7 @@ module _ (y : Receiver) (i : Sound y) where
 
   pub rest-unasked : y.account.waits ≡ nothing → rest_of y ≡ drop y.account.place d
   rest-unasked w =
-      rest-idle (unasked b.question refl i.under w) ∙ ap (λ (n : ℕ). drop n d) (sym i.tally.place)
-
-  -- what the account comes to is what the state comes to
-  pub reached_to : (sealed : ℕ → List Sealed) → b.question ≡ question.Nothing
-      → (reached y sealed).resolved ≡ epoch_at k.entries (resolve k (get_or (drop b.at d) 0 0 % 4))
-  reached_to sealed q =
-      ap (λ (l : List ℕ). resolves_to y.account (get_or l 0 0 % 4)) (rest-idle q)
-      ∙ resolves k (get_or (drop b.at d) 0 0 % 4) y.account i.tally.keyed i.tally.released
+      (rest-idle y i) (unasked b.question refl i.under w) ∙ ap (λ (n : ℕ). drop n d) (sym i.tally.place)
 
   -- ---- a read
 
@@ -287,21 +209,21 @@ module _ (y : Receiver) (i : Sound y) where
   idle-quiet sealed q =
       let t = reached y sealed in
       subst (λ s. Quiet k y.account.ivs b d t.resolved t.ends t.plain t.encrypted (reads_out k s d))
-      (sym (read-asks k b d question.Nothing in-range i.whole q))
+      (sym (read-asks k b d question.Nothing (in-range y i) i.whole q))
       (unfold asking in
       (read-quiet k y.used y.account.ivs i.table b d i.made.ready i.whole _ _ _ _ (drop b.at d) refl (parsed (drop b.at d))
       (record_size (drop b.at d)) (cut (drop b.at d))
-      (ap (λ (n : ℕ). n + record_size (rest_of y)) i.tally.place ∙ ap (λ (l : List ℕ). b.at + record_size l) (rest-idle q)) (reached_to sealed q)
-      i.tally.encryption (ap good_plain (rest-idle q))))
+      (ap (λ (n : ℕ). n + record_size (rest_of y)) i.tally.place ∙ ap (λ (l : List ℕ). b.at + record_size l) (rest-idle y i q)) (reached_to y i sealed q)
+      i.tally.encryption (ap good_plain (rest-idle y i q))))
 
   idle-intact : (sealed : ℕ → List Sealed) → b.question ≡ question.Nothing → Intact (read_out y.state d).state.datagram d y.arrived
   idle-intact sealed q =
       step-intact (idle-quiet sealed q).moves y.arrived i.intact.long b.at
       (subst (λ (x : Question). drop (intact_from x b.at) d ≡ drop (intact_from x b.at) y.arrived) q i.intact.lies)
       (omega (arith, i.tally.place)) (omega (arith, i.whole, i.made.ready.at)) (λ a e. omega arith)
-      (subst (λ (s : Step). FlagAsked s.datagram.question (get_or (drop b.at y.arrived) 0 0)) (sym (read-asks k b d question.Nothing in-range i.whole q))
+      (subst (λ (s : Step). FlagAsked s.datagram.question (get_or (drop b.at y.arrived) 0 0)) (sym (read-asks k b d question.Nothing (in-range y i) i.whole q))
       (subst (λ (l : List ℕ). FlagAsked (asking question.Nothing k b d).datagram.question (get_or l 0 0))
-      (sym (rest-idle q) ∙ ap (λ (n : ℕ). drop n y.arrived) i.tally.place)
+      (sym (rest-idle y i q) ∙ ap (λ (n : ℕ). drop n y.arrived) i.tally.place)
       (unfold asking in
       (read-flag k y.used y.account.ivs i.table b d i.made.ready i.whole none 0 true true (drop b.at d) (parsed (drop b.at d))
       (record_size (drop b.at d)) (cut (drop b.at d))))))
@@ -309,8 +231,8 @@ module _ (y : Receiver) (i : Sound y) where
   idle-shows : (sealed : ℕ → List Sealed) → b.question ≡ question.Nothing
       → let o = read_out y.state d in Shows o.reading (reached y sealed).rest (shown_by o.reading d)
   idle-shows sealed q =
-      subst (λ (s : Step). Shows (reads_out k s d).reading (rest_of y) (shown_by (reads_out k s d).reading d)) (sym (read-asks k b d question.Nothing in-range i.whole q))
-      (subst (λ (l : List ℕ). let o = reads_out k (asking question.Nothing k b d) d in Shows o.reading l (shown_by o.reading d)) (sym (rest-idle q))
+      subst (λ (s : Step). Shows (reads_out k s d).reading (rest_of y) (shown_by (reads_out k s d).reading d)) (sym (read-asks k b d question.Nothing (in-range y i) i.whole q))
+      (subst (λ (l : List ℕ). let o = reads_out k (asking question.Nothing k b d) d in Shows o.reading l (shown_by o.reading d)) (sym (rest-idle y i q))
       (unfold asking in
       (read-shows k y.used y.account.ivs i.table b d i.made.ready i.whole none 0 true true (drop b.at d) refl (parsed (drop b.at d))
       (cut (drop b.at d)))))
@@ -319,8 +241,8 @@ module _ (y : Receiver) (i : Sound y) where
   unfolding asking
   idle-said sealed q =
       let few : y.account.readings ≤ 15 → b.readings ≤ 15 = λ h. omega (arith, i.tally.readings) in
-      subst (λ (s : Step). Said (reached y sealed) (reads_out k s d).reading) (sym (read-asks k b d question.Nothing in-range i.whole q))
-      (subst (λ (l : List ℕ). Said (reached y sealed) (reads_out k (step_of (parsed l) k b) d).reading) (rest-idle q) (record {
+      subst (λ (s : Step). Said (reached y sealed) (reads_out k s d).reading) (sym (read-asks k b d question.Nothing (in-range y i) i.whole q))
+      (subst (λ (l : List ℕ). Said (reached y sealed) (reads_out k (step_of (parsed l) k b) d).reading) (rest-idle y i q) (record {
         plain = λ p. plain-says k y.used y.account.ivs i.table b d i.made.ready i.whole none 0 true true (rest_of y) p.in_order p.whole (few p.among_16);
         unopened = λ p. unopened-says k y.used y.account.ivs i.table b d i.made.ready i.whole none 0 true true (rest_of y)
             p.sealed_form p.goes_on p.header p.whole p.bits (sym i.tally.encryption ∙ p.encryption_off) (few p.among_16);
@@ -330,25 +252,22 @@ module _ (y : Receiver) (i : Sound y) where
   unfolding asking
   idle-stops sealed q =
       subst (λ (n : ℕ). Ends (read_out y.state d).reading (rest_of y) n) (sym i.tally.readings)
-      (subst (λ (s : Step). Ends (reads_out k s d).reading (rest_of y) b.readings) (sym (read-asks k b d question.Nothing in-range i.whole q))
-      (subst (λ (l : List ℕ). Ends (reads_out k (step_of (parsed l) k b) d).reading (rest_of y) b.readings) (rest-idle q)
+      (subst (λ (s : Step). Ends (reads_out k s d).reading (rest_of y) b.readings) (sym (read-asks k b d question.Nothing (in-range y i) i.whole q))
+      (subst (λ (l : List ℕ). Ends (reads_out k (step_of (parsed l) k b) d).reading (rest_of y) b.readings) (rest-idle y i q)
       (read-stops k y.used y.account.ivs i.table b d i.made.ready i.whole none 0 true true (rest_of y) (parsed (rest_of y)) (finds (rest_of y)))))
 
   idle-judged : (sealed : ℕ → List Sealed) → b.question ≡ question.Nothing → TellsNeither (read_out y.state d).reading
   unfolding asking
   idle-judged sealed q =
-      subst (λ (s : Step). TellsNeither (reads_out k s d).reading) (sym (read-asks k b d question.Nothing in-range i.whole q))
+      subst (λ (s : Step). TellsNeither (reads_out k s d).reading) (sym (read-asks k b d question.Nothing (in-range y i) i.whole q))
       (neither _ (read_unruled k b (parsed (drop b.at d))))
-
-  read_made : Made (read_out y.state d).state
-  read_made = after-made (reading d) y.state i.made
 
   idle-sound : (sealed : ℕ → List Sealed) → b.question ≡ question.Nothing → y.account.waits ≡ nothing
       → Sound (read_by y sealed nothing (read_out y.state d))
   idle-sound sealed q z =
       let c = idle-quiet sealed q in
       let o = read_out y.state d in
-      step-sound y i o (reached y sealed) unused a_read c.moves same_keys read_made i.table c.asked
+      step-sound y i o (reached y sealed) unused a_read c.moves same_keys (read_made y i) i.table c.asked
       (subst (λ f. Hands y.used f) (sym (c.hands (shown_by o.reading d) y.handed)) i.hands)
       (subst (λ w. Proper a_read w o.reading) (sym z) (moves-on c.moves)) c.nonce c.real (idle-intact sealed q) (none_written y a_read o refl)
       (idle-judged sealed q) (idle-shows sealed q) (idle-said sealed q) (idle-stops sealed q) refl
@@ -357,7 +276,7 @@ module _ (y : Receiver) (i : Sound y) where
   pub masks-again : (a : Ask) → b.question ≡ question.Mask a
       → read_out y.state d ≡ same_again y (says.Mask a.epoch (b.at + a.header_len)) zeros
   unfolding asking
-  masks-again a q = ap (λ (s : Step). reads_out k s d) (read-asks k b d (question.Mask a) in-range i.whole q)
+  masks-again a q = ap (λ (s : Step). reads_out k s d) (read-asks k b d (question.Mask a) (in-range y i) i.whole q)
 
   mask-again : (sealed : ℕ → List Sealed) (a : Ask) → b.question ≡ question.Mask a → UnderWay (question.Mask a) b.at y.account.waits y.trial
       → Sound (read_by y sealed y.account.waits (read_out y.state d))
@@ -373,7 +292,7 @@ module _ (y : Receiver) (i : Sound y) where
       → read_out y.state d
       ≡ same_again y (says.Opening a.epoch n b.at a.header_len a.length) (nonce_of (entry_at k j).iv n)
   again-is a n j q f =
-      ap (λ (s : Step). reads_out k s d) (read-asks k b d (question.Opening a n) in-range i.whole q)
+      ap (λ (s : Step). reads_out k s d) (read-asks k b d (question.Opening a n) (in-range y i) i.whole q)
       ∙ (unfold asking asked_again opening_asked in
       (ap (λ (g : Found). reads_out k (asked_again g k b a n) d) f
       ∙ ap (λ (u : Question). reads_out k (record {
@@ -388,7 +307,7 @@ module _ (y : Receiver) (i : Sound y) where
       let u = z.2 in
       let w : y.account.waits ≡ an_opening a.epoch n b.at u.0 u.1 = u.2 in
       let x : Reading = says.Opening a.epoch n b.at a.header_len a.length in
-      is_found k a.epoch _ refl (held_open k b in-range a n q).1.installed λ j f.
+      is_found k a.epoch _ refl (held_open k b (in-range y i) a n q).1.installed λ j f.
       subst (λ v. Sound (read_by y sealed v (read_out y.state d))) (sym w)
       (subst (λ o. Sound (read_by y sealed (an_opening a.epoch n b.at u.0 u.1) o)) (sym (again-is a n j q f))
       (again-sound y i x (nonce_of (entry_at k j).iv n) (an_opening a.epoch n b.at u.0 u.1) refl refl (sym w)
@@ -413,13 +332,9 @@ module _ (y : Receiver) (i : Sound y) where
 
   -- ---- a mask reply
 
-  pub mask-idle : (m : List ℕ) → b.question ≡ question.Nothing → mask_step k b m d ≡ (told b says.Reply, d)
-  unfolding masking
-  mask-idle m q = mask-asks k b m d question.Nothing in-range i.whole q
-
   pub mask-opening : (m : List ℕ) (a : Ask) (n : ℕ) → b.question ≡ question.Opening a n → mask_step k b m d ≡ (told b says.Reply, d)
   unfolding masking
-  mask-opening m a n q = mask-asks k b m d (question.Opening a n) in-range i.whole q
+  mask-opening m a n q = mask-asks k b m d (question.Opening a n) (in-range y i) i.whole q
 
   mask_down : (m : List ℕ) → mask_step k b m d ≡ (told b says.Reply, d) → Proper (a_mask_reply m) y.account.waits says.Reply
       → Judged (a_mask_reply m) y.account.waits (resolved_in y.trial) (rest_of y) y.used says.Reply → Sound (mask_by y m (mask_out y.state m d))
@@ -428,18 +343,18 @@ module _ (y : Receiver) (i : Sound y) where
   module _ (m : List ℕ) (a : Ask) (q : b.question ≡ question.Mask a) where
     masked-is : mask_step k b m d ≡ masked_by (find k.entries a.epoch k.count) k b a m d
     unfolding masking
-    masked-is = mask-asks k b m d (question.Mask a) in-range i.whole q
+    masked-is = mask-asks k b m d (question.Mask a) (in-range y i) i.whole q
 
     pub masked-quiet : (to : Option ℕ) (end : ℕ) (good on : Bool) → to ≡ some a.epoch → end ≡ end_asked b a
         → Quiet k y.account.ivs b d to end good on (mask_out y.state m d)
     masked-quiet to end good on z e =
         subst (λ x. Quiet k y.account.ivs b d to end good on (masked_out k x)) (sym masked-is)
-        (mask-quiet k y.used y.account.ivs i.table b d i.made.ready i.whole to end good on a m (held-mask k b in-range a q) z e _ refl)
+        (mask-quiet k y.used y.account.ivs i.table b d i.made.ready i.whole to end good on a m (held-mask k b (in-range y i) a q) z e _ refl)
 
     masked-by : (P : Step × List ℕ → Type 0) → ((j : ℕ) → P (masked_by (found.At j) k b a m d)) → P (mask_step k b m d)
     masked-by P g =
         subst P (sym masked-is)
-        (is_found k a.epoch _ refl (held-mask k b in-range a q).installed λ j f. subst (λ x. P (masked_by x k b a m d)) (sym f) (g j))
+        (is_found k a.epoch _ refl (held-mask k b (in-range y i) a q).installed λ j f. subst (λ x. P (masked_by x k b a m d)) (sym f) (g j))
 
     -- no mask is asked again
     no_mask : (x s : ℕ) → (mask_out y.state m d).reading ≡ says.Mask x s → ⊥
@@ -452,7 +367,7 @@ module _ (y : Receiver) (i : Sound y) where
     behind : drop (end_asked b a) (mask_out y.state m d).datagram ≡ drop (end_asked b a) y.arrived
     behind =
         ap (drop (end_asked b a)) bytes_are
-        ∙ masked-behind k y.used y.account.ivs i.table b d i.made.ready i.whole none 0 true true a m (held-mask k b in-range a q)
+        ∙ masked-behind k y.used y.account.ivs i.table b d i.made.ready i.whole none 0 true true a m (held-mask k b (in-range y i) a q)
         ∙ drops_on b.at (end_asked b a) d y.arrived (omega arith)
         (subst (λ (x : Question). drop (intact_from x b.at) d ≡ drop (intact_from x b.at) y.arrived) q i.intact.lies)
 
@@ -463,10 +378,10 @@ module _ (y : Receiver) (i : Sound y) where
 
     mask-spares : y.account.waits ≡ a_mask a.epoch (b.at + a.header_len) → Spares (spoken_by y (a_mask_reply m) (mask_out y.state m d))
     mask-spares w = record {
-      long = ap length bytes_are ∙ masked-long k y.used y.account.ivs i.table b d i.made.ready i.whole none 0 true true a m (held-mask k b in-range a q);
+      long = ap length bytes_are ∙ masked-long k y.used y.account.ivs i.table b d i.made.ready i.whole none 0 true true a m (held-mask k b (in-range y i) a q);
       bytes = λ j off.
           ap (λ (l : List ℕ). get_or l j 0) bytes_are
-          ∙ masked-other k y.used y.account.ivs i.table b d i.made.ready i.whole none 0 true true a m (held-mask k b in-range a q)
+          ∙ masked-other k y.used y.account.ivs i.table b d i.made.ready i.whole none 0 true true a m (held-mask k b (in-range y i) a q)
           (get_or (rest_of y) 0 0) flagged j
           (λ l u.
           off (subst (λ v. NumberByte (a_mask_reply m) v y.account.place (get_or (rest_of y) 0 0) j) (sym w) (omega (arith, i.tally.place), omega (arith, i.tally.place))));
@@ -477,7 +392,7 @@ module _ (y : Receiver) (i : Sound y) where
         → Rules (mask_out y.state m d).reading a.epoch (y.used a.epoch) n
     unfolding masked_by masked_at
     mask-judged n near =
-        let h = held-mask k b in-range a q in
+        let h = held-mask k b (in-range y i) a q in
         is_found k a.epoch _ refl h.installed λ j f.
         let within = found-keyed k.entries a.epoch k.count j f in
         let agrees : Agrees (entry_at k j).replay (y.used a.epoch) =
@@ -498,7 +413,7 @@ module _ (y : Receiver) (i : Sound y) where
         (subst (λ f. Hands y.used f) (sym (c.hands (shown_by o.reading o.datagram) y.handed)) i.hands)
         (subst (λ w. Proper (a_mask_reply m) w o.reading) (sym z.2.0) (moves-on c.moves, no_mask)) c.nonce c.real
         (step-intact c.moves y.arrived i.intact.long (end_asked b a) behind (omega (arith, z.2.2))
-        (let h = held-mask k b in-range a q in omega (arith, h.head, h.fits, i.whole, i.made.ready.at))
+        (let h = held-mask k b (in-range y i) a q in omega (arith, h.head, h.fits, i.whole, i.made.ready.at))
         (λ x e. absurd (masked-by (λ p. p.0.datagram.question ≡ question.Mask x → ⊥) (λ j. masked_quits j x k b a m d) e))
         (masked-by (λ p. FlagAsked p.0.datagram.question (get_or (drop b.at y.arrived) 0 0)) (λ j. masked-flag j _ k b a m d)))
         (mask-spares z.2.0) (subst (λ w. Judged (a_mask_reply m) w (resolved_in y.trial) (rest_of y) y.used o.reading) (sym z.2.0) (ap resolved_in z.1 ∙ z.2.1, mask-judged))
@@ -509,7 +424,7 @@ module _ (y : Receiver) (i : Sound y) where
 
   masks : (m : List ℕ) (q : Question) → b.question ≡ q → UnderWay q b.at y.account.waits y.trial → Sound (mask_by y m (mask_out y.state m d))
   masks m question.Nothing q z =
-      mask_down m (mask-idle m q)
+      mask_down m (mask-idle y i m q)
       (subst (λ w. Proper (a_mask_reply m) w says.Reply) (sym z.0) refl)
       (subst (λ w. Judged (a_mask_reply m) w (resolved_in y.trial) (rest_of y) y.used says.Reply) (sym z.0) (neither says.Reply refl))
   masks m (question.Mask a) q z = mask-on m a q z
@@ -521,7 +436,7 @@ module _ (y : Receiver) (i : Sound y) where
   -- one that is refused writes nothing
   refused-bytes : (m : List ℕ) (q : Question) → b.question ≡ q → UnderWay q b.at y.account.waits y.trial
       → fate_of (mask_out y.state m d).reading ≡ turnedDown → (mask_out y.state m d).datagram ≡ d
-  refused-bytes m question.Nothing q z f = ap (λ (p : Step × List ℕ). (masked_out k p).datagram) (mask-idle m q)
+  refused-bytes m question.Nothing q z f = ap (λ (p : Step × List ℕ). (masked_out k p).datagram) (mask-idle y i m q)
   refused-bytes m (question.Mask a) q z f =
       absurd (moves-on (masked-quiet m a q z.0.resolved z.0.ends true true z.2.1 z.2.2).moves f)
   refused-bytes m (question.Opening a n) q z f = ap (λ (p : Step × List ℕ). (masked_out k p).datagram) (mask-opening m a n q)
@@ -540,11 +455,11 @@ module _ (y : Receiver) (i : Sound y) where
 
   pub open_idle : (p : Opening) → b.question ≡ question.Nothing → opened_step k b p d ≡ still k (told b says.Reply)
   unfolding openings
-  open_idle p q = opened-asks k b p d question.Nothing in-range i.whole q
+  open_idle p q = opened-asks k b p d question.Nothing (in-range y i) i.whole q
 
   pub open_masked : (p : Opening) (a : Ask) → b.question ≡ question.Mask a → opened_step k b p d ≡ still k (told b says.Reply)
   unfolding openings
-  open_masked p a q = opened-asks k b p d (question.Mask a) in-range i.whole q
+  open_masked p a q = opened-asks k b p d (question.Mask a) (in-range y i) i.whole q
 
   open_down : (p : Opening) → opened_step k b p d ≡ still k (told b says.Reply) → Proper (an_open_reply p) y.account.waits says.Reply
       → Sound (open_by y p (open_out y.state p d))
@@ -561,7 +476,7 @@ module _ (y : Receiver) (i : Sound y) where
     waits-is = z.2.2
 
     held : Held k a (b.size - b.at)
-    held = (held_open k b in-range a n q).1
+    held = (held_open k b (in-range y i) a n q).1
 
     -- behind the record nothing was written
     settled-intact : (o : Out) → Moves b d t.resolved t.ends o → fate_of o.reading ≡ settled → o.datagram ≡ d
@@ -575,7 +490,7 @@ module _ (y : Receiver) (i : Sound y) where
     pub opened-is : (p : Opening) (j : ℕ) → find k.entries a.epoch k.count ≡ found.At j → opened_step k b p d ≡ opened_at j p k b a n d
     unfolding openings opened_by
     opened-is p j f =
-        opened-asks k b p d (question.Opening a n) in-range i.whole q ∙ ap (λ (g : Found). opened_by g p k b a n d) f
+        opened-asks k b p d (question.Opening a n) (in-range y i) i.whole q ∙ ap (λ (g : Found). opened_by g p k b a n d) f
 
     opened-made : (p : Opening) (m : Marked) → opened_step k b p d ≡ m → Made (opens_to m).state
     opened-made p m e = subst (λ x. Made (opens_to x).state) e (after-made (opening p d) y.state i.made)
@@ -665,7 +580,7 @@ module _ (y : Receiver) (i : Sound y) where
       open_down p (open_masked p a q)
       (subst (λ w. Proper (an_open_reply p) w says.Reply) (sym z.2.0) refl)
   opens p (question.Opening a n) q z =
-      is_found k a.epoch _ refl (held_open k b in-range a n q).1.installed (λ j f. opens_by a n q z p j f)
+      is_found k a.epoch _ refl (held_open k b (in-range y i) a n q).1.installed (λ j f. opens_by a n q z p j f)
 
   pub open_sound : (p : Opening) → Sound (after_open y p)
   unfolding after_open
@@ -679,7 +594,7 @@ module _ (y : Receiver) (i : Sound y) where
   quiet-reads sealed (question.Mask a) q =
       ap (λ (o : Out). handed_by o.reading (shown_by o.reading o.datagram) y.handed) (masks-again a q)
   quiet-reads sealed (question.Opening a n) q =
-      is_found k a.epoch _ refl (held_open k b in-range a n q).1.installed
+      is_found k a.epoch _ refl (held_open k b (in-range y i) a n q).1.installed
       (λ j f. ap (λ (o : Out). handed_by o.reading (shown_by o.reading o.datagram) y.handed) (again-is a n j q f))
 
   pub read-hands : (sealed : ℕ → List Sealed) → (after_read y sealed).handed ≡ y.handed
@@ -689,7 +604,7 @@ module _ (y : Receiver) (i : Sound y) where
   quiet-masks : (m : List ℕ) (q : Question) → b.question ≡ q → UnderWay q b.at y.account.waits y.trial
       → let o = mask_out y.state m d in handed_by o.reading (shown_by o.reading o.datagram) y.handed ≡ y.handed
   quiet-masks m question.Nothing q z =
-      ap (λ (p : Step × List ℕ). handed_by p.0.reading (shown_by p.0.reading (masked_out k p).datagram) y.handed) (mask-idle m q)
+      ap (λ (p : Step × List ℕ). handed_by p.0.reading (shown_by p.0.reading (masked_out k p).datagram) y.handed) (mask-idle y i m q)
   quiet-masks m (question.Mask a) q z =
       (masked-quiet m a q z.0.resolved z.0.ends true true z.2.1 z.2.2).hands _ y.handed
   quiet-masks m (question.Opening a n) q z =

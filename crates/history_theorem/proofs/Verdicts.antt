@@ -60,7 +60,7 @@ use Rattle.history_theorem.specs.Receiver.{
   after_open,
   use_in,
 }
-use Rattle.history_theorem.proofs.Reads.{out_by, reads_out, masked_out}
+use Rattle.history_theorem.proofs.ReadLaws.{out_by, reads_out, masked_out}
 use Rattle.history_theorem.proofs.Sound.{UnderWay, Sound}
 
 -- ---- marking one number of one epoch

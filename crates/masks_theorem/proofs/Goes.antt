@@ -30,7 +30,7 @@ use Rattle.masks_theorem.specs.Claim.{Agreed, masks_of, mask_in, Stands, NotAske
 use Rattle.masks_theorem.proofs.Slots.{Agree}
 use Rattle.masks_theorem.proofs.Quiet.{NotMask, account_of, next-keyed, next-settles}
 use Rattle.masks_theorem.proofs.Keys.{asked-keyed, key_is}
-use Rattle.masks_theorem.proofs.Reads.{asks-mask}
+use Rattle.masks_theorem.proofs.ReadLaws.{asks-mask}
 use Rattle.masks_theorem.proofs.Looks.{pair_of, behind_all, MadeAll, FairAll, Well, looks, stands-own, sound-own}
 use Rattle.masks_theorem.proofs.Steps.{HoldsIn}
 

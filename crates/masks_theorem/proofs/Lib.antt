@@ -4,7 +4,7 @@ pub mod Keys
 pub mod Looks
 pub mod Theorem
 pub mod Quiet
-pub mod Reads
+pub mod ReadLaws
 pub mod Sealing
 pub mod Slots
 pub mod Steps

@@ -38,7 +38,7 @@ use Rattle.masks_theorem.specs.Claim.{Agreed, masks_of, mask_in, NotAsked}
 use Rattle.masks_theorem.proofs.Slots.{key_of, Agree, most, agree-filled, agree-emptied}
 use Rattle.masks_theorem.proofs.Quiet.{NotMask, Quiet, quiet, account_of, next-keyed, next-settles, mask-asks-none, same-app}
 use Rattle.masks_theorem.proofs.Keys.{count-is, asked-keyed, key_is, key_new, agree_left}
-use Rattle.masks_theorem.proofs.Reads.{asks-mask, mask-told, read-asks, read-shows}
+use Rattle.masks_theorem.proofs.ReadLaws.{asks-mask, mask-told, read-asks, read-shows}
 use Rattle.masks_theorem.proofs.Looks.{pair_of, Well, looks, stands-own, sound-own}
 
 -- ---- what holds of a receiving host and its mask keys: the slots hold the keys given, no mask is asked in an epoch with one, and they are the agreed ones

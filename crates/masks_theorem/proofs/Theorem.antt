@@ -49,7 +49,7 @@ use Rattle.masks_theorem.specs.Hosts.{key_length, Given, MaskKeys, KeyedAct, oth
 use Rattle.masks_theorem.specs.Claim.{NoKeys, Agreed, masks_of, mask_in, Unless, key_of_asked, spared_in, spared, Fair, AllFair, keying_owed, Owed, AllOwed, EveryListWithMaskKeys}
 use Rattle.masks_theorem.proofs.Slots.{key_of as slotKey, Agree}
 use Rattle.masks_theorem.proofs.Quiet.{quiet, same-app, after-app, account_of, next-keyed}
-use Rattle.masks_theorem.proofs.Reads.{asks-mask, mask-told, read-asks, read-shows}
+use Rattle.masks_theorem.proofs.ReadLaws.{asks-mask, mask-told, read-asks, read-shows}
 use Rattle.masks_theorem.proofs.Looks.{pair_of, behind_all, MadeAll, FairAll, made_at, fair-at, made-both, fair-both, runs_own, runs-far, Well, well-behind, well-pair, looks, stands-own, sound-own, sends-own, matches-own}
 use Rattle.masks_theorem.proofs.Steps.{HoldsIn, quiet-holds, keys_hold, keys-masked_hold, removes_hold}
 use Rattle.masks_theorem.proofs.Goes.{First, Gone, gone}
