@@ -1,5 +1,5 @@
 -- Records noted for the outgoing ACK, and sending it (01, "Flights acknowledged or sent again"; RFC 9147, section 7). Assumes nothing.
-use Rattle.std.specs.Prelude.{false, List, [], ◌++◌, ℕ, zero, suc, ◌+◌, ◌-◌, ◌*◌, ltb, eqb, length, get_or, set, replicate}
+use Rattle.std.specs.Prelude.{false, List, [], ◌++◌, ℕ, zero, suc, ◌+◌, ◌*◌, ltb, eqb, length, get_or, set, replicate}
 use Rattle.base.specs.Bytes.{be}
 use Rattle.base.specs.Choose.{choose}
 use Rattle.queue.specs.Queue.{is_ready}

@@ -3,7 +3,7 @@ use Rattle.std.specs.Prelude.{Bool, true, List, ◌≡◌, refl, length, get_or}
 use Rattle.std.proofs.lemmas.Bool.{false≢true}
 use Rattle.std.proofs.Math.Logic.{⊎_elim}
 use Rattle.std.proofs.Common.{sym, ap, ◌∙◌, arith, get_or-set_other}
-use Prim.Native.Nat.{ℕ, zero, suc, ◌+◌, ◌-◌, ◌*◌, ◌≤◌, ◌<◌}
+use Prim.Native.Nat.{ℕ, zero, suc, ◌+◌, ◌*◌, ◌≤◌, ◌<◌}
 use Rattle.std.proofs.Math.Numerals.{add-one}
 use Rattle.base.specs.Choose.{choose, if_true, by_test, by_less, eq-or_ne}
 use Rattle.flight.specs.declared.Flight.{Flight}

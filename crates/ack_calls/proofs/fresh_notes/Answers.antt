@@ -6,4 +6,3 @@ use Rattle.ack_calls.proofs.fresh_notes.Goals as goal
 pub returns : goal.returns
 unfolding fresh_notes
 returns c = refl
-

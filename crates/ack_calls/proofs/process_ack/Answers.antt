@@ -3,7 +3,6 @@ use mathlib.Core.Path.{refl, sym, ◌∙◌}
 use native.Mathlib.Omega.{arith}
 use Rattle.base.specs.Choose.{if_false}
 use Rattle.ack_calls.specs.Calls.{acts, acts-none, acted-few, acted-fewer, acted-told}
-use borrow.Author.Rules.{rules}
 use Rattle.ack_calls.proofs.process_ack.Goals as goal
 
 pub overflow_sub-before : goal.overflow_sub-before
@@ -20,4 +19,3 @@ returns-then-is_flat c = acts-none _ c.args.f.now c.args.numbers.now _ (sym c.is
 
 pub returns : goal.returns
 returns c = let z = sym c.is_flat.ensures ∙ c.if-is_flat.false in (c.no_acked-2.ensures ∙ sym (if_false _ _ z), sym (if_false _ _ z), refl)
-

@@ -10,7 +10,6 @@ use Rattle.flight_words.specs.Words.{flight_of}
 use Rattle.resend.specs.Resend.{again_after}
 use Rattle.resend.specs.Tests.{resend_safe, kept-few, closed-range}
 use Rattle.ack_calls.specs.Calls.{resends-all, resends-nothing, both_told}
-use borrow.Author.Rules.{rules}
 use Rattle.ack_calls.proofs.resend.Goals as goal
 
 pub unmarked-n-requires : goal.unmarked-n-requires
@@ -44,4 +43,3 @@ returns-then-is_flat c = let z = both_true (sym c.is_flat.ensures ∙ c.if-is_fl
 pub returns : goal.returns
 returns c = let z = both_false _ (sym c.is_flat.ensures ∙ c.if-is_flat.false) in
     ((c.told-2.ensures ∙ sym (if_false _ _ z), sym (if_false _ _ z), refl, sym (if_false _ _ z), refl), sym (if_false _ _ z))
-

@@ -2,7 +2,6 @@
 use mathlib.Core.Path.{ap, ◌∙◌}
 use Rattle.process_ack.specs.Ack.{tally_after}
 use Rattle.ack_steps.specs.Steps.{one-unmarked, all-marked, none-there}
-use borrow.Author.Rules.{rules}
 use Rattle.ack_steps.proofs.empty.Goals as goal
 
 pub returns-then-t-2 : goal.returns-then-t-2
@@ -13,4 +12,3 @@ returns-then-t c n = all-marked c.args.f.now n c.tally_of-t.result (c.tally_of-t
 
 pub returns : goal.returns
 returns c n = none-there c.args.f.now n c.tally_of-t.result (c.tally_of-t.ensures n ∙ ap (tally_after _) c.requires.0) c.if-t.false
-

@@ -1,9 +1,8 @@
 -- `ack_steps::mark_all` meets its contract. Assumes nothing.
 use native.Mathlib.Omega.{arith}
-use Prim.Native.Nat.{◌-◌, ◌≤◌}
 use mathlib.Core.Path.{refl, ap, ◌∙◌}
 use Rattle.process_ack.specs.Ack.{marks_after}
-use Rattle.ack_steps.specs.Steps.{Flights, marks-more}
+use Rattle.ack_steps.specs.Steps.{marks-more}
 use Rattle.ack_steps.proofs.mark_all.Goals as goal
 
 pub loop-i-init : goal.loop-i-init
@@ -18,4 +17,3 @@ loop-i-preserved c = (omega (arith, c.loop-i-test.true), marks-more c.args.d.now
 
 pub returns : goal.returns
 returns c = (c.loop-i.invariant.1.0 ∙ ap (marks_after _ _ _) (omega (arith, c.loop-i.invariant.0, c.loop-i-test.false)), c.loop-i.invariant.1.1)
-

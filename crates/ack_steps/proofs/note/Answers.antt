@@ -3,7 +3,6 @@ use mathlib.Core.Path.{sym, ◌∙◌}
 use Rattle.base.specs.Choose.{if_true, if_false}
 use borrow.Author.Tests.{lt-ltb, le-ltb}
 use Rattle.acks.specs.Acks.{noted}
-use borrow.Author.Rules.{rules}
 use Rattle.ack_steps.proofs.note.Goals as goal
 
 pub returns-then-n-gt32 : goal.returns-then-n-gt32
@@ -17,4 +16,3 @@ returns-then-n-lt32 c = sym (if_false _ _ (le-ltb _ _ c.if-n-gt32.false) ∙ if_
 pub returns : goal.returns
 unfolding noted
 returns c = sym (if_false _ _ (le-ltb _ _ c.if-n-gt32.false) ∙ if_false _ _ (le-ltb _ _ c.if-n-lt32.false))
-

@@ -3,7 +3,6 @@ use Rattle.ack_steps.specs.Steps.{acts_not, acts-formed, acts-unformed, still-sa
 use Rattle.process_ack.proofs.Ack.{formed-long}
 use native.Mathlib.Omega.{arith}
 use mathlib.Core.Path.{sym, ◌∙◌}
-use borrow.Author.Rules.{rules}
 use Rattle.ack_steps.proofs.process_ack.Goals as goal
 
 pub returns-then-saved-gt12 : goal.returns-then-saved-gt12
@@ -23,4 +22,3 @@ returns-then-is_formed c = acts-formed c.args.f.now c.args.numbers.now c.args.co
 
 pub returns : goal.returns
 returns c = (acts-unformed c.args.f.now c.args.numbers.now c.args.content.now c.if-saved-gt12.false (sym c.is_formed.ensures ∙ c.if-is_formed.false), λ f. f)
-

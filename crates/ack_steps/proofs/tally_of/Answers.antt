@@ -1,12 +1,8 @@
 -- `ack_steps::tally_of` meets its contract. Assumes nothing.
 use Rattle.process_ack.specs.Ack.{tally_with}
-use mathlib.Core.Path.{subst}
 use native.Mathlib.Omega.{arith}
-use Prim.Native.Nat.{ℕ, ◌-◌, ◌≤◌}
-use mathlib.Core.List.{List}
-use mathlib.Core.Path.{◌≡◌, refl, ap, ◌∙◌}
+use mathlib.Core.Path.{refl, ap, ◌∙◌}
 use Rattle.process_ack.specs.Ack.{tally_after}
-use Rattle.flight_words.specs.Words.{flight_of}
 use Rattle.ack_steps.specs.Steps.{tally-more}
 use Rattle.ack_steps.proofs.tally_of.Goals as goal
 
@@ -19,4 +15,3 @@ loop-i-preserved c = (omega (arith, c.loop-i-test.true), λ n. c.tallied-t.ensur
 
 pub returns : goal.returns
 returns c n = c.loop-i.invariant.1 n ∙ ap (tally_after _) (omega (arith, c.loop-i.invariant.0, c.loop-i-test.false))
-

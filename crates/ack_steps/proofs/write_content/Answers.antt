@@ -3,9 +3,7 @@ use mathlib.Core.Path.{refl, sym, ap, ◌∙◌}
 use native.Mathlib.Omega.{arith}
 use Rattle.acks.specs.Acks.{pairs_of}
 use Rattle.acks.proofs.Acks.{pairs-more, content-whole, splice-none}
-use Prim.Native.Nat.{◌-◌, ◌≤◌}
 use mathlib.Core.Path.{◌≡◌}
-use lib.ListN.{length}
 use Rattle.base.specs.Parts.{splice}
 use Rattle.ack_steps.specs.Steps.{tabled}
 use Rattle.ack_steps.proofs.write_content.Goals as goal
@@ -25,4 +23,3 @@ shape_of-d c = c.loop-i.invariant.1 ∙ c.write_length.auto.d
 
 pub returns : goal.returns
 returns c = let a = c.args in let t = tabled a.n a.epochs.now a.numbers.now in let n : c.loop-i.i ≡ a.n = omega (arith, c.loop-i.invariant.0, c.loop-i-test.false) in c.loop-i.invariant.2 ∙ ap (λ k. splice 2 (pairs_of t k) c.write_length.new.d) n ∙ ap (splice 2 (pairs_of t a.n)) c.write_length.ensures ∙ content-whole t a.d.now c.requires.0
-

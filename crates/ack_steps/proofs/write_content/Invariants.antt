@@ -1,8 +1,5 @@
 -- `ack_steps::write_content` meets its contract. The loop's invariant: the records so far are written behind the length. Assumes nothing.
-use mathlib.Core.Path.{refl, sym, ap, ◌∙◌}
-use native.Mathlib.Omega.{arith}
 use Rattle.acks.specs.Acks.{pairs_of}
-use Rattle.acks.proofs.Acks.{pairs-more, content-whole, splice-none}
 use Prim.Native.Nat.{◌-◌, ◌≤◌}
 use mathlib.Core.Path.{◌≡◌}
 use lib.ListN.{length}
@@ -15,4 +12,3 @@ invariant-loop-i l = (l.i ≤ l.n) × (length l.d ≡ length l.initial.d) × (l.
 
 abbrev pub decreases-loop-i : goal.decreases-loop-i
 decreases-loop-i l = l.n - l.i
-

@@ -1,8 +1,7 @@
 -- `flight_calls::begin_flight` meets its contract. Assumes nothing.
-use borrow.Author.Rules.{rules}
-use mathlib.Core.Path.{◌≡◌, refl, sym, ap, ◌∙◌}
-use Rattle.base.specs.Choose.{if_true, if_false, both_true, both_false}
-use borrow.Author.Tests.{eq-eqb, ne_eqb, lt-leb, le-leb, lt-ltb, le-ltb}
+use mathlib.Core.Path.{refl, sym, ◌∙◌}
+use Rattle.base.specs.Choose.{if_false}
+use borrow.Author.Tests.{lt-leb, le-leb}
 use Rattle.flight_calls.specs.Calls.{begins-to, begins_not}
 use Rattle.flight_calls.proofs.begin_flight.Goals as goal
 

@@ -2,12 +2,6 @@
 use mathlib.Core.Path.{refl, sym, ◌∙◌}
 use Rattle.base.specs.Choose.{if_true, if_false, both_true, both_false}
 use Rattle.flight_calls.specs.Calls.{saves}
-use borrow.Author.Rules.{rules}
-use Rattle.flight_calls.proofs.create_handshake.Reads as reads
-use Rattle.flight_calls.proofs.create_handshake.Lts as lts
-use Rattle.flight_words.proofs.is_flat.Reads as is-flat-reads
-use Rattle.message_steps.proofs.create_handshake.Reads as create-handshake-reads
-use Rattle.send_words.proofs.is_flat.Reads as is-flat-reads'
 use Rattle.flight_calls.proofs.create_handshake.Goals as goal
 
 -- src/lib.rt:64:13

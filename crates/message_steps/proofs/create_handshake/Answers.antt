@@ -6,13 +6,6 @@ use Rattle.messages.specs.Message.{message_safe}
 use Rattle.send_words.specs.Words.{state_of}
 use Rattle.flight_words.specs.Words.{saved-at}
 use Rattle.message_steps.specs.Create.{creates_all, creates_nothing}
-use borrow.Author.Rules.{rules}
-use Rattle.message_steps.proofs.create_handshake.Reads as reads
-use Rattle.message_steps.proofs.create_handshake.Lts as lts
-use Rattle.message_steps.proofs.message_answer.Reads as message-answer-reads
-use Rattle.message_steps.proofs.put_message.Reads as put-message-reads
-use Rattle.message_steps.proofs.send_all.Reads as send-all-reads
-use Rattle.send_keys.proofs.is_done.Reads as is-done-reads
 use Rattle.message_steps.proofs.create_handshake.Goals as goal
 
 -- src/lib.rt:150:9

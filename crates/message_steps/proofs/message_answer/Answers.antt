@@ -1,21 +1,11 @@
 -- `message_steps::message_answer` meets its contract: 12, 12, 14, 17, 21, then what the dry run found. Assumes nothing.
-use borrow.Author.Tests.{lt-ltb, le-ltb, le-leb, lt-leb, not-true, not-false}
+use borrow.Author.Tests.{lt-ltb, le-ltb, le-leb, lt-leb}
 use mathlib.Core.Path.{sym, ◌∙◌}
 use Rattle.base.specs.Choose.{if_true, if_false}
 use Rattle.flight.specs.Flight.{counted}
 use Rattle.messages.specs.Message.{message_answer, kept-few}
 use Rattle.queue.specs.Queue.{ready}
 use Rattle.send_words.specs.Words.{state_of}
-use borrow.Author.Rules.{rules}
-use Rattle.message_steps.proofs.message_answer.Reads as reads
-use Rattle.message_steps.proofs.message_answer.Lts as lts
-use Rattle.flight.proofs.has_room.Reads as has-room-reads
-use Rattle.message_steps.proofs.plan_of.Reads as plan-of-reads
-use Rattle.messages.proofs.epoch_of.Reads as epoch-of-reads
-use Rattle.messages.proofs.plan_answer.Reads as plan-answer-reads
-use Rattle.send_steps.proofs.is_keyed.Reads as is-keyed-reads
-use Rattle.send_steps.proofs.is_ready.Reads as is-ready-reads
-use Rattle.send_steps.proofs.next_of.Reads as next-of-reads
 use Rattle.message_steps.proofs.message_answer.Goals as goal
 
 -- src/lib.rt:47:9

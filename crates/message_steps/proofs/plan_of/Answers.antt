@@ -6,12 +6,6 @@ use Rattle.queue.specs.Laid.{len_small}
 use Rattle.queue.specs.Queue.{tail_of}
 use Rattle.queue.specs.declared.Tail.{Tail}
 use Rattle.send_words.specs.Words.{state_of}
-use borrow.Author.Rules.{rules}
-use Rattle.message_steps.proofs.plan_of.Reads as reads
-use Rattle.message_steps.proofs.plan_of.Lts as lts
-use Rattle.messages.proofs.survey.Reads as survey-reads
-use Rattle.queue.proofs.record_len.Reads as record-len-reads
-use Rattle.send_steps.proofs.tail_of.Reads as tail-of-reads
 use Rattle.message_steps.proofs.plan_of.Goals as goal
 
 -- src/lib.rt:31:5

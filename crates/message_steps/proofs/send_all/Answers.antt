@@ -1,18 +1,15 @@
 -- `message_steps::send_all` meets its contract. The loop's invariant is `Going`, whatever the table of numbers: what is left gives the whole.
 -- Assumes nothing.
-use Prim.Native.Nat.{ℕ, ◌+◌, ◌-◌, ◌≤◌}
-use borrow.Author.Rules.{rules}
+use Prim.Native.Nat.{◌+◌, ◌-◌, ◌≤◌}
 use lib.ListN.{length}
-use mathlib.Core.Bool.{true}
-use mathlib.Core.List.{List, []}
-use mathlib.Core.Path.{◌≡◌, refl, sym, ap, ◌∙◌}
+use mathlib.Core.List.{[]}
+use mathlib.Core.Path.{refl, ◌∙◌}
 use native.Mathlib.Omega.{arith}
 use Rattle.messages.specs.Cut.{size-rest}
-use Rattle.messages.specs.Message.{Laid, Going, going_end, going_last, going_more}
+use Rattle.messages.specs.Message.{going_end, going_last, going_more}
 use Rattle.queue.specs.Laid.{len_small}
-use Rattle.send_words.specs.Words.{state_of, is_flat}
-use Rattle.flight_words.specs.Words.{flat_to}
-use Rattle.message_steps.specs.Create.{laid_as, piece_is}
+use Rattle.send_words.specs.Words.{state_of}
+use Rattle.message_steps.specs.Create.{piece_is}
 use Rattle.message_steps.proofs.send_all.Goals as goal
 
 -- src/lib.rt:113:5

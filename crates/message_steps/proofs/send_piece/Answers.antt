@@ -15,14 +15,6 @@ use Rattle.send_words.specs.Words.{state_of}
 use Rattle.flight_words.specs.Words.{saved-at}
 use Rattle.save_steps.specs.Save.{saves-laid, saves-nothing}
 use borrow.Author.Rules.{rules}
-use Rattle.message_steps.proofs.send_piece.Reads as reads
-use Rattle.message_steps.proofs.send_piece.Lts as lts
-use Rattle.messages.proofs.epoch_of.Reads as epoch-of-reads
-use Rattle.messages.proofs.write_content.Reads as write-content-reads
-use Rattle.send_keys.proofs.is_done.Reads as is-done-reads
-use Rattle.save_steps.proofs.lay_saved.Reads as lay-saved-reads
-use Rattle.save_steps.proofs.save_answer.Reads as save-answer-reads
-use Rattle.words.proofs.low.Reads as low_reads
 use Rattle.message_steps.proofs.send_piece.Goals as goal
 
 -- what was put in a slot is found there

@@ -1,14 +1,11 @@
 -- `resend_steps::all_passed` meets its contract. Assumes nothing.
-use Rattle.resend_steps.specs.Answer.{passed-more}
 use Rattle.flight_words.specs.Words.{flight_of}
 use Rattle.send_words.specs.Words.{mtu-at, state_of}
-use Rattle.resend.specs.Tests.{all_pass, passed_with, passed_after}
+use Rattle.resend.specs.Tests.{passed_after}
 use lib.ListN.{get_or}
 use Prim.Native.Nat.{ℕ, ◌-◌, ◌≤◌}
 use mathlib.Core.List.{List}
-use mathlib.Core.Path.{◌≡◌, refl, sym, ap, subst, ◌∙◌}
-use native.Mathlib.Omega.{arith}
-use borrow.Author.Rules.{rules}
+use mathlib.Core.Path.{◌≡◌}
 use Rattle.resend_steps.proofs.all_passed.Given as goal
 
 abbrev pub invariant-loop-i : goal.invariant-loop-i

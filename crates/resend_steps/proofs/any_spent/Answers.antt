@@ -1,7 +1,6 @@
 -- `resend_steps::any_spent` meets its contract. Assumes nothing.
 use Rattle.base.specs.Choose.{if_true, if_false}
 use mathlib.Core.Path.{sym, ◌∙◌}
-use borrow.Author.Rules.{rules}
 use Rattle.resend_steps.proofs.any_spent.Goals as goal
 
 pub returns-then-is_over : goal.returns-then-is_over

@@ -6,7 +6,6 @@ use Rattle.queue.specs.declared.Tail.{Tail}
 use native.Mathlib.Omega.{arith}
 use mathlib.Core.Path.{sym, ap, ◌∙◌}
 use mathlib.Core.Bool.{false, false≢true}
-use borrow.Author.Rules.{rules}
 use Rattle.resend_steps.proofs.closed_tail.Goals as goal
 
 pub returns : goal.returns

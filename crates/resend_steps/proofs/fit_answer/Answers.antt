@@ -2,8 +2,6 @@
 use Rattle.resend_steps.specs.Answer.{fit_full, fit-spent, fit-done}
 use Rattle.flight_words.specs.Words.{flight_of}
 use Rattle.send_words.specs.Words.{state_of}
-use mathlib.Core.Path.{sym, ◌∙◌}
-use borrow.Author.Rules.{rules}
 use Rattle.resend_steps.proofs.fit_answer.Goals as goal
 
 pub returns-then-w-t : goal.returns-then-w-t

@@ -3,7 +3,6 @@ use Rattle.flight.specs.Flight.{is_kept}
 use borrow.Author.Tests.{le-leb, lt-leb}
 use Rattle.base.specs.Choose.{both_true, both_false}
 use mathlib.Core.Path.{sym}
-use borrow.Author.Rules.{rules}
 use Rattle.resend_steps.proofs.is_kept.Goals as goal
 
 pub returns-then-f-le12 : goal.returns-then-f-le12

@@ -1,6 +1,5 @@
 -- `resend_steps::passed_with` meets its contract. Assumes nothing.
 use Rattle.resend_steps.specs.Answer.{passed-marked, passed-unmarked}
-use borrow.Author.Rules.{rules}
 use Rattle.resend_steps.proofs.passed_with.Goals as goal
 
 pub returns-then-e : goal.returns-then-e

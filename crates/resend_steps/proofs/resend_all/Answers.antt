@@ -1,13 +1,8 @@
 -- `resend_steps::resend_all` meets its contract. Assumes nothing.
-use Rattle.resend_steps.specs.Again.{Relaid, relaid_more, relaid_range}
-use Rattle.send_words.specs.Words.{queue_of}
+use Rattle.resend_steps.specs.Again.{relaid_more, relaid_range}
 use Rattle.resend.specs.Resend.{again_after}
-use Rattle.queue.specs.Queue.{InRange}
-use lib.ListN.{length}
-use Prim.Native.Nat.{◌-◌, ◌≤◌}
 use native.Mathlib.Omega.{arith}
-use mathlib.Core.Path.{◌≡◌, refl, sym, ap, subst, ◌∙◌}
-use borrow.Author.Rules.{rules}
+use mathlib.Core.Path.{refl, ap, ◌∙◌}
 use Rattle.resend_steps.proofs.resend_all.Goals as goal
 
 pub loop-i-init : goal.loop-i-init

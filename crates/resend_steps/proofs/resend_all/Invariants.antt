@@ -1,13 +1,11 @@
 -- `resend_steps::resend_all` meets its contract. Assumes nothing.
-use Rattle.resend_steps.specs.Again.{Relaid, relaid_more, relaid_range}
+use Rattle.resend_steps.specs.Again.{Relaid}
 use Rattle.send_words.specs.Words.{queue_of}
 use Rattle.resend.specs.Resend.{again_after}
 use Rattle.queue.specs.Queue.{InRange}
 use lib.ListN.{length}
 use Prim.Native.Nat.{◌-◌, ◌≤◌}
-use native.Mathlib.Omega.{arith}
-use mathlib.Core.Path.{◌≡◌, refl, sym, ap, subst, ◌∙◌}
-use borrow.Author.Rules.{rules}
+use mathlib.Core.Path.{◌≡◌}
 use Rattle.resend_steps.proofs.resend_all.Given as goal
 
 abbrev pub invariant-loop-i : goal.invariant-loop-i

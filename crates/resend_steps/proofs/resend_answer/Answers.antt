@@ -6,10 +6,8 @@ use Rattle.resend.specs.declared.Passed.{Passed}
 use Rattle.flight_words.specs.Words.{flight_of}
 use Rattle.send_words.specs.Words.{state_of}
 use Rattle.queue.specs.Queue.{ready}
-use borrow.Author.Tests.{not-true, not-false}
 use mathlib.Core.Path.{sym, ap, ◌∙◌}
 use mathlib.Core.List.{[]}
-use borrow.Author.Rules.{rules}
 use Rattle.resend_steps.proofs.resend_answer.Goals as goal
 
 pub returns-then-not-is_ready : goal.returns-then-not-is_ready

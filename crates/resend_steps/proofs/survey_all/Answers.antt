@@ -1,16 +1,12 @@
 -- `resend_steps::survey_all` meets its contract. Assumes nothing.
 use Rattle.resend_steps.specs.Answer.{surveyed_more}
 use Rattle.flight_words.specs.Entries.{entry-at}
-use Rattle.flight_words.specs.Words.{flight_of}
 use Rattle.resend.specs.Tests.{tail_after, count_after, surveyed_with, surveyed_after, joined-tail, Joins}
 use Rattle.resend.specs.declared.Survey.{Survey}
-use Rattle.flight.specs.declared.Entry.{Entry}
-use Rattle.queue.specs.Queue.{Tailed}
-use Prim.Native.Nat.{ℕ, ◌+◌, ◌-◌, ◌≤◌, ◌<◌}
-use mathlib.Core.List.{List, []}
-use mathlib.Core.Path.{◌≡◌, refl, sym, ap, subst, ◌∙◌}
+use Prim.Native.Nat.{◌≤◌, ◌<◌}
+use mathlib.Core.List.{[]}
+use mathlib.Core.Path.{refl, sym, ap, subst, ◌∙◌}
 use native.Mathlib.Omega.{arith}
-use borrow.Author.Rules.{rules}
 use Rattle.resend_steps.proofs.survey_all.Goals as goal
 
 pub loop-i-init : goal.loop-i-init

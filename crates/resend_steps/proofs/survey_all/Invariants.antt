@@ -1,16 +1,10 @@
 -- `resend_steps::survey_all` meets its contract. Assumes nothing.
-use Rattle.resend_steps.specs.Answer.{surveyed_more}
-use Rattle.flight_words.specs.Entries.{entry-at}
 use Rattle.flight_words.specs.Words.{flight_of}
-use Rattle.resend.specs.Tests.{tail_after, count_after, surveyed_with, surveyed_after, joined-tail, Joins}
-use Rattle.resend.specs.declared.Survey.{Survey}
-use Rattle.flight.specs.declared.Entry.{Entry}
+use Rattle.resend.specs.Tests.{surveyed_after}
 use Rattle.queue.specs.Queue.{Tailed}
-use Prim.Native.Nat.{ℕ, ◌+◌, ◌-◌, ◌≤◌, ◌<◌}
-use mathlib.Core.List.{List, []}
-use mathlib.Core.Path.{◌≡◌, refl, sym, ap, subst, ◌∙◌}
-use native.Mathlib.Omega.{arith}
-use borrow.Author.Rules.{rules}
+use Prim.Native.Nat.{ℕ, ◌+◌, ◌-◌, ◌≤◌}
+use mathlib.Core.List.{List}
+use mathlib.Core.Path.{◌≡◌}
 use Rattle.resend_steps.proofs.survey_all.Given as goal
 
 abbrev pub invariant-loop-i : goal.invariant-loop-i

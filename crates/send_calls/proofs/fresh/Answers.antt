@@ -1,5 +1,4 @@
 -- `send_calls::fresh` meets its contract. Assumes nothing.
-use borrow.Author.Rules.{rules}
 use mathlib.Core.Path.{sym, ◌∙◌}
 use Rattle.send_calls.specs.Calls.{starts-done, starts-refused}
 use Rattle.send_calls.proofs.fresh.Goals as goal

@@ -1,5 +1,4 @@
 -- `send_calls::sealed` meets its contract. Assumes nothing.
-use borrow.Author.Rules.{rules}
 use mathlib.Core.Path.{refl, sym, ap, ◌∙◌}
 use Rattle.base.specs.Choose.{if_true, if_false}
 use Rattle.sealing.specs.Sealing.{refusal, sealed_state}

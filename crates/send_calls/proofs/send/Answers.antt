@@ -1,7 +1,6 @@
 -- `send_calls::send` meets its contract. Assumes nothing.
-use borrow.Author.Rules.{rules}
 use lib.ListN.{length}
-use mathlib.Core.Path.{refl, sym, ap, ◌∙◌}
+use mathlib.Core.Path.{refl, sym, ◌∙◌}
 use Rattle.base.specs.Choose.{if_false}
 use Rattle.outgoing.proofs.Send.{send_clear}
 use Rattle.send_words.specs.Words.{state_of}

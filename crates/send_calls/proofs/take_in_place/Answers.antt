@@ -1,5 +1,4 @@
 -- `send_calls::take_in_place` meets its contract. Assumes nothing.
-use borrow.Author.Rules.{rules}
 use Prim.Native.Nat.{◌*◌}
 use mathlib.Core.Path.{refl, sym, ap, ◌∙◌}
 use Rattle.base.specs.Choose.{if_true, if_false}

@@ -3,7 +3,6 @@ use mathlib.Core.Path.{sym, ◌∙◌}
 use borrow.Author.Tests.{lt-leb}
 use Rattle.base.specs.Choose.{if_false, both_true, both_false}
 use Rattle.status_calls.specs.Calls.{saved-told}
-use borrow.Author.Rules.{rules}
 use Rattle.status_calls.proofs.flight_status.Goals as goal
 
 pub returns-then-saved-le12 : goal.returns-then-saved-le12
@@ -14,4 +13,3 @@ returns-then-is_flat c n = c.no_saved.ensures ∙ sym (if_false _ _ (both_true (
 
 pub returns : goal.returns
 returns c n = c.no_saved-2.ensures ∙ sym (if_false _ _ (both_false _ (sym c.is_flat.ensures ∙ c.if-is_flat.false)))
-

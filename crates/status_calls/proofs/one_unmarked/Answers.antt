@@ -9,4 +9,3 @@ returns-then-e c = (sym (if_true _ _ c.if-e.true), omega arith)
 
 pub returns : goal.returns
 returns c = (sym (if_false _ _ c.if-e.false), omega arith)
-

@@ -5,7 +5,6 @@ use Rattle.base.specs.Choose.{if_false, both_true, both_false}
 use Rattle.queue.specs.Queue.{in-range}
 use Rattle.send_words.specs.Words.{queue_of}
 use Rattle.status_calls.specs.Calls.{queued-told}
-use borrow.Author.Rules.{rules}
 use Rattle.status_calls.proofs.sending_status.Goals as goal
 
 pub overflow_cast-result : goal.overflow_cast-result
@@ -19,4 +18,3 @@ returns-then-is_flat c = c.no_queued.ensures ∙ sym (if_false _ _ (both_true (s
 
 pub returns : goal.returns
 returns c = c.no_queued-2.ensures ∙ sym (if_false _ _ (both_false _ (sym c.is_flat.ensures ∙ c.if-is_flat.false)))
-

@@ -1,5 +1,4 @@
 -- `take_steps::front_waits` meets its contract. Assumes nothing.
-use borrow.Author.Rules.{rules}
 use borrow.Author.Tests.{eq-eqb, ne_eqb}
 use mathlib.Core.Path.{sym}
 use Rattle.base.specs.Choose.{both_true, both_false}

@@ -1,12 +1,8 @@
 -- `take_steps::take` meets its contract. Assumes nothing.
-use borrow.Author.Rules.{rules}
-use Prim.Native.Nat.{ℕ}
 use lib.ListN.{length}
-use mathlib.Core.List.{List}
-use mathlib.Core.Path.{◌≡◌, refl, sym, ap, ◌∙◌}
+use mathlib.Core.Path.{sym, ◌∙◌}
 use native.Mathlib.Omega.{arith}
 use Rattle.base.specs.Choose.{if_true, if_false}
-use Rattle.base.specs.Parts.{splice, part}
 use Rattle.send_words.specs.Words.{state_of}
 use Rattle.taking.specs.Take.{take_buffer, takes, front_fits}
 use Rattle.take_steps.proofs.take.Goals as goal

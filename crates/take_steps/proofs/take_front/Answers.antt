@@ -1,5 +1,4 @@
 -- `take_steps::take_front` meets its contract: only the front is written, and only where a datagram is taken. Assumes nothing.
-use borrow.Author.Rules.{rules}
 use mathlib.Core.Path.{refl, sym, ◌∙◌}
 use native.Mathlib.Omega.{arith}
 use Rattle.base.specs.Choose.{if_true, if_false}
