@@ -13,7 +13,8 @@ use Rattle.resend.specs.Tests.{resend_answer}
 use Rattle.resend.specs.Resend.{Laying, all_again, resend_state, resend_queue}
 use Rattle.process_ack.specs.Ack.{acked}
 use Rattle.process_ack.specs.declared.Acked.{Acked}
-use Rattle.process_ack.specs.Status.{newly_marked, newly_behind, fewer-behind, saved-behind}
+use Rattle.process_ack.specs.Status.{newly_marked}
+use Rattle.process_ack.proofs.Status.{newly_behind, fewer-behind, saved-behind}
 use Rattle.flight.specs.declared.Flight.{Flight}
 use Rattle.flight.specs.Status.{unmarked_after, unacknowledged, unmarked-few}
 use Rattle.acks.specs.declared.NoteAnswer.{NoteAnswer}
@@ -22,6 +23,7 @@ use Rattle.acks.specs.declared.Notes as noted
 use Rattle.acks.specs.declared.Noting.{Noting}
 use Rattle.acks.specs.declared.AckSent.{AckSent}
 use Rattle.acks.specs.Acks as noting
+use Rattle.acks.proofs.Acks as noting-laws
 use Rattle.send_words.specs.Words.{state_of, is_flat}
 use Rattle.send_words.specs.Laws as sent
 use Rattle.flight_words.specs.Words.{flight_of, flat_to}
@@ -186,7 +188,7 @@ acts-none r f n c q l z =
 
 pub acknowledges : (r : HuskTold) (x : SendAnswer) (v w : List ℕ) (b a : noted.Notes) (p q : List ℕ) → is_flat w ≡ true → r ≡ sent_told x a.count → SendsAck x v w b a p q → SendAckCall r v w b a p q
 acknowledges r x v w b a p q f e s = (
-  (e ∙ ap (λ (y : SendAnswer). sent_told y a.count) s.answer ∙ ap (λ (b : Bool). tells (refusal (noting.sent_ack (state_of w) a (length q)).answer) (choose b 1 0)) (sym (noting.sent_exactly (state_of w) a (length q))) ∙ sym (if_true _ _ f), s.state ∙ sym (if_true _ _ f), s.flat f ∙ sym f, s.notes ∙ sym (if_true _ _ f)),
+  (e ∙ ap (λ (y : SendAnswer). sent_told y a.count) s.answer ∙ ap (λ (b : Bool). tells (refusal (noting.sent_ack (state_of w) a (length q)).answer) (choose b 1 0)) (sym (noting-laws.sent_exactly (state_of w) a (length q))) ∙ sym (if_true _ _ f), s.state ∙ sym (if_true _ _ f), s.flat f ∙ sym f, s.notes ∙ sym (if_true _ _ f)),
   s.memory ∙ sym (if_true _ _ f),
 )
 

@@ -1,6 +1,7 @@
 // Resends and ACKs as a host calls them. The words of the sending side and of the flight are those of send_calls and flight_calls.
 // What is noted for the outgoing ACK is a count and two tables of 32 words.
 #![tactic(auto)]
+
 ghost use Rattle.std.specs.Prelude.{List, ◌≡◌, ℕ, ◌≤◌, get_or};
 ghost use Rattle.flight_words.specs.Words.{saved-at, flight_of};
 ghost use Rattle.ack_steps.specs.Steps.{notes_of};

@@ -13,12 +13,14 @@ use Rattle.flight.specs.declared.Flight.{Flight}
 use Rattle.flight.specs.Flight.{entry_at}
 use Rattle.process_ack.specs.declared.Acked.{Acked}
 use Rattle.process_ack.specs.declared.Tally.{Tally}
-use Rattle.process_ack.specs.Ack.{is_acked, with_mark, mark_at, marks_after, tally_with, tally_after, is_formed, pairs_in, emptied, acked, marks-next, later_same, tally-next, marks-saved}
+use Rattle.process_ack.specs.Ack.{is_acked, with_mark, mark_at, marks_after, tally_with, tally_after, is_formed, pairs_in, emptied, acked}
+use Rattle.process_ack.proofs.Ack.{marks-next, later_same, tally-next, marks-saved}
 use Rattle.acks.specs.declared.Notes.{Notes}
 use Rattle.acks.specs.declared.NoteAnswer.{NoteAnswer}
 use Rattle.acks.specs.declared.Noting.{Noting}
 use Rattle.acks.specs.declared.AckSent.{AckSent}
-use Rattle.acks.specs.Acks.{forgotten, ack_epoch, ack_content, ack_answer, ack_sent, nothing_sent, notice_state, notice_memory, sent_ack, ack_memory, length-content}
+use Rattle.acks.specs.Acks.{forgotten, ack_epoch, ack_content, ack_answer, ack_sent, nothing_sent, notice_state, notice_memory, sent_ack, ack_memory}
+use Rattle.acks.proofs.Acks.{length-content}
 use Rattle.send_words.specs.Words.{state_of, is_flat}
 use Rattle.send_steps.specs.Sends.{Sends}
 use Rattle.flight_words.specs.Words.{words, saved-at, entry_at as row_at, flight_of, flat_to}

@@ -1,5 +1,6 @@
 // Notes for the outgoing ACK, the ACK sent, and an ACK acted on, over the words that a host keeps: a call reads and writes only those it needs.
 #![tactic(auto)]
+
 ghost use Rattle.std.specs.Prelude.{true, List, ◌≡◌, ℕ, ◌+◌, ◌*◌, ◌≤◌, ◌<◌, length, get_or};
 ghost use Rattle.flight.specs.Flight.{entry_at};
 ghost use Rattle.process_ack.specs.Ack.{is_acked, mark_at, marks_after, tally_after, emptied, acked};

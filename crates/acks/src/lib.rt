@@ -1,5 +1,6 @@
 // The records noted for the outgoing ACK, and sending it, after `send_ack` of engine.rs.
 #![tactic(auto)]
+
 ghost use Rattle.std.specs.Prelude.{◌≡◌, ◌+◌, ◌≤◌, length};
 ghost use Rattle.base.specs.Bytes.{be};
 ghost use Rattle.base.specs.Parts.{splice};

@@ -1,5 +1,6 @@
 // What a call tells beside its refusal, so that a host needs no word of its state for it.
 #![tactic(auto)]
+
 ghost use Rattle.std.specs.Prelude.{◌≡◌};
 ghost use Rattle.answers.specs.Told.{tells};
 

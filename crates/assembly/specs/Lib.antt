@@ -1,5 +1,2 @@
 pub mod Spans
 pub mod Assembly
-pub mod Covering
-pub mod Words
-pub mod Rows

@@ -1,5 +1,6 @@
 // What a call says of the next piece of a handshake record.
 #![tactic(auto)]
+
 #[derive(Clone, Copy)]
 pub enum Piece {
     // The buffer is shorter than a message may be (16), a word is out of its range (12), the content is not as long as the record begun

@@ -1,6 +1,7 @@
 // Whole handshake messages as a host calls for them. The state is words that the host keeps and lends with the buffer; a call changes both in
 // place. Whatever stands in them, a call ends with an answer.
 #![tactic(auto)]
+
 ghost use Rattle.std.specs.Prelude.{◌≡◌};
 ghost use Rattle.assembly.specs.Assembly.{outcome, taken};
 ghost use Rattle.assembly_calls.specs.Calls.{told, flat_piece, FreshCall, BeginCall, TakeCall};

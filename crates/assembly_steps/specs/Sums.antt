@@ -4,7 +4,7 @@ use Rattle.std.proofs.Common.{arith}
 use Rattle.base.specs.Choose.{choose, either, if_true, if_false, test_cases, both_left, both_right}
 use Rattle.base.specs.Every.{every}
 use Rattle.assembly.specs.Spans.{start_of, span_of, within, covered, all_covered}
-use Rattle.assembly.specs.Covering.{within_from, within_to}
+use Rattle.assembly.proofs.Covering.{within_from, within_to}
 
 -- the lengths of the first n pieces held, each at most t, added up
 unfoldable pub lengths_of : List ℕ → ℕ → ℕ → ℕ

@@ -1,5 +1,6 @@
 // The next handshake message, put together from its pieces, in the host's words and buffer: the parts of a call.
 #![tactic(auto)]
+
 ghost use Rattle.std.specs.Prelude.{true, false, ◌≡◌, ℕ, ◌+◌, ◌≤◌, ◌<◌, ◌%◌, length, List, eqb};
 ghost use Rattle.base.specs.Choose.{both};
 ghost use Rattle.base.specs.Parts.{splice};

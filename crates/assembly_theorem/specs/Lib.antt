@@ -1,10 +1,2 @@
 pub mod Account
-pub mod Agreement
 pub mod Claim
-pub mod Laws
-pub mod Reads
-pub mod Story
-pub mod Proof
-pub mod Rules
-pub mod Answers
-pub mod Example

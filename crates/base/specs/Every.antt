@@ -8,7 +8,7 @@ use Prim.Native.Nat.{ℕ, zero, suc, ◌+◌, ◌<◌}
 use Rattle.std.proofs.Math.Numerals.{add-one}
 use native.Mathlib.Omega.{arith}
 use borrow.Author.Tests.{eqb-true, eq-eqb}
-use Rattle.base.specs.Choose.{both, both_left, both_right, both_true, both_false, test_cases, eq-or_ne}
+use Rattle.base.specs.Choose.{both, both_left, both_right, both_true, test_cases, eq-or_ne}
 
 unfoldable pub every : (ℕ → Bool) → ℕ → Bool
 every p zero = true

@@ -1,6 +1,7 @@
 // The mask of a record number under the ChaCha20 suites (RFC 9147, section 4.2.3), by the block function of RFC 8439, whose sections stand
 // beside the functions.
 #![tactic(auto)]
+
 ghost use Rattle.std.specs.Prelude.{◌≡◌, ◌+◌, ◌^◌, ◌<◌, ◌≤◌, length, slice_index};
 ghost use Rattle.base.specs.Parts.{part};
 ghost use Rattle.chacha.specs.Chacha as spec;

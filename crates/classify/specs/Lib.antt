@@ -1,3 +1,2 @@
 pub mod Classify
 pub mod Laws
-pub mod Rows

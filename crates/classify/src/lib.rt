@@ -1,5 +1,6 @@
 // Where a reading goes, after `classify_record` of engine.rs, without its ticket and resend cases. specs/Classify.antt says which goes where.
 #![tactic(auto)]
+
 #[derive(Clone, Copy)]
 pub enum Class {
     // A field out of range (12), a datagram of another length than the one begun (15): nothing has changed.

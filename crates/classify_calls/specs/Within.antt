@@ -13,7 +13,7 @@ use Rattle.ack_calls.specs.declared.HuskAcked.{HuskAcked}
 use Rattle.classify.specs.declared.Class.{Class}
 use Rattle.classify.specs.declared.Class.TheVariants as class
 use Rattle.classify.specs.Classify.{start_of, length_of, class_of, content_of, classified}
-use Rattle.classify.specs.Laws.{waits-inside}
+use Rattle.classify.proofs.Laws.{waits-inside}
 use Rattle.classify_calls.specs.Calls.{in_range, heeded, class_in, flat_class, ClassifyCall}
 use Rattle.classify_calls.specs.declared.HuskClass.{HuskClass}
 

@@ -2,6 +2,7 @@
 // with, and the remembered close. The calls that read note the reading there; `classify` deals with it, once. Whatever stands in the words, a call ends
 // with an answer.
 #![tactic(auto)]
+
 ghost use Rattle.std.specs.Prelude.{List, ◌≡◌, true, ℕ, leb};
 ghost use Rattle.base.specs.Choose.{both};
 ghost use Rattle.recv_words.specs.Words.{is_flat};

@@ -1,9 +1,2 @@
 pub mod Account
 pub mod Claim
-pub mod Words
-pub mod Answers
-pub mod Story
-pub mod Dealing
-pub mod Hearing
-pub mod Proof
-pub mod Rules

@@ -1,5 +1,6 @@
 // The begun datagram, after incoming.rs: the cursor, the readings made, the question that waits, and where a record leads.
 #![tactic(auto)]
+
 ghost use Rattle.std.specs.Prelude.{◌≡◌};
 ghost use Rattle.datagram.specs.Datagram.{ask_sound, told, moved, ended, passed, counted};
 

@@ -1,5 +1,6 @@
 // A number written in decimal: how many digits it has, and the digits.
 #![tactic(auto)]
+
 ghost use Rattle.std.specs.Prelude.{◌≡◌, ◌+◌, ◌<◌, ◌≤◌, length};
 ghost use Rattle.base.specs.Parts.{splice};
 ghost use Rattle.decimal.specs.Decimal.{digits, places_of, decimal};

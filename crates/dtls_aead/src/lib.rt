@@ -1,5 +1,6 @@
 // The nonce of a record, after `Nonce::xor` of dtls_aead.rs.
 #![tactic(auto)]
+
 ghost use Rattle.std.specs.Prelude.{◌≡◌};
 ghost use Rattle.dtls_aead.specs.Nonce.{nonce_of};
 

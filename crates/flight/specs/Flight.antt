@@ -1,5 +1,5 @@
 -- A flight's saved records (01, "Flights acknowledged or sent again"; refusals 12, 18). Assumes nothing.
-use Rattle.std.specs.Prelude.{Bool, false, List, [], ℕ, ◌+◌, ◌*◌, ◌<◌, ◌≤◌, leb, length, get_or, set, replicate}
+use Rattle.std.specs.Prelude.{Bool, false, List, [], ℕ, ◌+◌, ◌*◌, ◌<◌, ◌≤◌, leb, get_or, set, replicate}
 use Rattle.base.specs.Choose.{choose, both}
 use Rattle.base.specs.Parts.{splice}
 use Rattle.send_keys.specs.declared.SendAnswer.TheVariants.{Done, OutOfRange}

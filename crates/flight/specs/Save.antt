@@ -10,7 +10,8 @@ use Rattle.outgoing.specs.declared.Sending.{Sending}
 use Rattle.send_keys.specs.declared.SendAnswer.{SendAnswer}
 use Rattle.send_keys.specs.declared.SendAnswer.TheVariants.{Done, OutOfRange, BadEpoch, BadRecord, KeysAbsent, FlightFull, QueueFull, NumbersSpent}
 use Rattle.outgoing.specs.State.{is_allowed}
-use Rattle.outgoing.specs.Send.{spot_of, is_full, is_spent, laid_state, laid_memory, Clear, allowed-fits, clear-fits}
+use Rattle.outgoing.specs.Send.{spot_of, is_full, is_spent, laid_state, laid_memory, Clear}
+use Rattle.outgoing.proofs.Send.{allowed-fits, clear-fits}
 use Rattle.send_keys.specs.Answer.{is_done}
 use Rattle.flight.specs.declared.Flight.{Flight}
 use Rattle.flight.specs.declared.Saved.{Saved}

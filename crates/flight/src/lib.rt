@@ -1,5 +1,6 @@
 // The records of a flight, saved until they are acknowledged, after `flight_saved_records` of engine.rs.
 #![tactic(auto)]
+
 ghost use Rattle.std.specs.Prelude.{◌≡◌, ◌*◌, ◌≤◌, ◌<◌, length};
 ghost use Rattle.flight.specs.Flight.{counted, is_kept};
 

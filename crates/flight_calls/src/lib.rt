@@ -1,6 +1,7 @@
 // The calls that save records in the flight, as a host makes them. Beside the words of the sending side the host keeps the words of the
 // flight, its table of 384 numbers, and a buffer for the saved contents.
 #![tactic(auto)]
+
 ghost use Rattle.flight_calls.specs.Calls.{FreshCall, BeginFlightCall, SendSavedCall, CreateHandshakeCall};
 
 use flight_words::SAVED;

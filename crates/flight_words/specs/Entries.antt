@@ -4,10 +4,10 @@ use Rattle.std.proofs.Math.Bool.{true}
 use Rattle.std.proofs.lemmas.Bool.{false≢true}
 use Rattle.std.proofs.Common.{⊎_elim, sym, ◌∙◌, arith, get_or-set_other, get_or-set_same}
 use Rattle.std.proofs.Math.Path.{refl, ap}
-use Prim.Native.Nat.{ℕ, zero, suc, ◌+◌, ◌*◌, ◌≤◌, ◌<◌}
+use Prim.Native.Nat.{ℕ, zero, suc, ◌≤◌, ◌<◌}
 use borrow.Author.Tests.{le-ltb}
 use Rattle.std.proofs.Math.Dec.{ltb}
-use Rattle.base.specs.Choose.{choose, if_false, by_test, eq-or_ne}
+use Rattle.base.specs.Choose.{if_false, by_test, eq-or_ne}
 use Rattle.flight.specs.declared.Entry.{Entry}
 use Rattle.flight.specs.Flight.{no_entry, with_saved}
 use Rattle.words.specs.Fields.{first_of, by-words, bit_of, bit-back}

@@ -1,5 +1,6 @@
 // The flight in words that the host keeps (specs/Words.antt says what they stand for), read and written.
 #![tactic(auto)]
+
 ghost use Rattle.std.specs.Prelude.{◌≡◌, ◌≤◌, ◌<◌, length};
 ghost use Rattle.flight_words.specs.Words.{words, entry_at, flat_to, put_entry, LowEntry};
 ghost use Rattle.flight_words.specs.Entries.{Entered, with_marked, with_numbers};

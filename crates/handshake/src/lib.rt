@@ -1,5 +1,6 @@
 // The header of a handshake message's piece, after `Header` of handshake.rs.
 #![tactic(auto)]
+
 ghost use Rattle.std.specs.Prelude.{◌≡◌};
 ghost use Rattle.handshake.specs.Header.{header_bytes, parse_header};
 

@@ -1,5 +1,6 @@
 // Record headers written, after `Dtls13Record::serialize` of record.rs.
 #![tactic(auto)]
+
 ghost use Rattle.std.specs.Prelude.{◌≡◌};
 ghost use Rattle.record.specs.Record.{plaintext_header, unified_header};
 

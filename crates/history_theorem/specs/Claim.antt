@@ -4,7 +4,6 @@ use Rattle.std.specs.Prelude.{ℕ, ◌+◌, ◌-◌, ◌*◌, ◌/◌, ◌%◌, 
 use Rattle.std.specs.Int.Bits.{bit_xor}
 use mathlib.Core.List.{List, [], ◌∷◌, ◌++◌, Memᴰ as Mem}
 use Rattle.std.proofs.Math.Option.{Option, none, some}
-use Rattle.std.proofs.Common.{arith}
 use Rattle.base.specs.Bytes.{be_at}
 use Rattle.base.specs.Choose.{choose}
 use Rattle.base.specs.Parts.{part}
@@ -13,52 +12,11 @@ use Rattle.datagram.specs.declared.Reading.{Reading}
 use Rattle.datagram.specs.declared.Reason.TheVariants as reason
 use Rattle.opening_reply.specs.declared.Opening.TheVariants as reply
 use Rattle.opening_reply.specs.declared.Opening.{Opening}
-use Rattle.sequence.specs.Laws.{Nearest}
+use Rattle.sequence.proofs.Laws.{Nearest}
 use Rattle.window.specs.Used.{above}
 use Rattle.window.specs.declared.Verdict.TheVariants.{Seen}
 use Rattle.history_theorem.specs.Account.{plain_head, tag_size, Shown, nothing, a_mask, an_opening, head_size, said_size, record_size}
-use Rattle.history_theorem.specs.Receiver.{
-  Sealed,
-  Handed,
-  Trial,
-  Tried,
-  Deed,
-  a_read,
-  a_mask_reply,
-  an_open_reply,
-  Spoken,
-  Lost,
-  Receiver,
-  rest_of,
-  Fate,
-  turnedDown,
-  underway,
-  settled,
-  fate_of,
-  Use,
-  unused,
-  uses,
-  accepts,
-  verdict_of,
-  Move,
-  Stray,
-  Told,
-  Inbound,
-  Call,
-  key·,
-  remove·,
-  encrypt·,
-  release·,
-  begin·,
-  read·,
-  mask·,
-  write·,
-  open·,
-  read_over·,
-  mask_over·,
-  open_over·,
-  finish·,
-}
+use Rattle.history_theorem.specs.Receiver.{Sealed, Handed, Trial, Tried, Deed, a_read, a_mask_reply, an_open_reply, Spoken, Lost, Receiver, rest_of, turnedDown, settled, fate_of, Use, unused, uses, accepts, verdict_of, Move, Stray, Told, Inbound, Call, key·, remove·, encrypt·, release·, begin·, read·, mask·, write·, open·, read_over·, mask_over·, open_over·, finish·}
 
 -- ---- what is asked of the host
 
@@ -137,13 +95,6 @@ window_marks = 64
 -- 65,536" (02, 1), and so it is until that highest plus one is 32,768
 abbrev pub reach_of : List ℕ → ℕ
 reach_of used = max 65536 (above used + 32768)
-
--- so it is never less than before 02, 1, and with none used it is every number under 65,536
-pub reach-grows : (used : List ℕ) → above used + 32768 ≤ reach_of used
-reach-grows used = omega arith
-
-pub reach-first : (used : List ℕ) → 65536 ≤ reach_of used
-reach-first used = omega arith
 
 -- the record r may not be left out in epoch e, by the moment at which the cut came to it
 pub record Due (t : Trial) (e : ℕ) (r : Sealed) : Type 0 where

@@ -2,17 +2,3 @@ pub mod Account
 pub mod Receiver
 pub mod Claim
 pub mod Half
-pub mod Lists
-pub mod Table
-pub mod Cut
-pub mod Sound
-pub mod Reads
-pub mod Judging
-pub mod Opening
-pub mod Reading
-pub mod Calls
-pub mod Undamaged
-pub mod Direction
-pub mod Verdicts
-pub mod Proof
-pub mod Example

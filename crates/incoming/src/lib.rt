@@ -1,5 +1,6 @@
 // Reading an opened record, after incoming.rs.
 #![tactic(auto)]
+
 ghost use Rattle.std.specs.Prelude.{◌≡◌, ◌≤◌, length};
 ghost use Rattle.incoming.specs.Inner.{inner_of};
 ghost use Rattle.incoming.specs.Padding.{left_of};

@@ -1,6 +1,7 @@
 // The calls that mask keys change, as a host makes them (02, 6). Beside the words of each side the host lends slots for mask keys: an epoch may be
 // keyed with one, and then its masks are made here. The host is asked for none, and a sealing reply brings none.
 #![tactic(auto)]
+
 ghost use Rattle.std.specs.Prelude.{true, List, ◌≡◌, ℕ, ◌<◌, length};
 ghost use Rattle.base.specs.Choose.{choose};
 ghost use Rattle.recv_keys.specs.Keys.{most_epochs};

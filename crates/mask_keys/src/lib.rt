@@ -1,5 +1,6 @@
 // Mask keys by epoch, in slots of bytes that the host keeps, and the mask made of one (02, 6; RFC 9147, section 4.2.3).
 #![tactic(auto)]
+
 ghost use Rattle.std.specs.Prelude.{◌≡◌, ℕ, ◌+◌, ◌*◌, ◌≤◌, length, get_or, replicate, ◌∷◌};
 ghost use Rattle.base.specs.Parts.{part, splice};
 ghost use Rattle.mask_keys.specs.Keys.{key_size, slot_size, sample_size, slot_at, has_key, key_at, moved_up, mask_at};

@@ -1,5 +1,6 @@
 // The number of a record whose mask is known, after `Record::parse_buffer` of incoming.rs: unmasked and rebuilt.
 #![tactic(auto)]
+
 ghost use Rattle.std.specs.Prelude.{◌≡◌, ◌+◌, ◌≤◌, ◌<◌, length, drop};
 ghost use Rattle.record.specs.Record.{partial_of};
 ghost use Rattle.mask_reply.specs.Mask.{unmasked, rebuilt};

@@ -1,12 +1,2 @@
 pub mod Hosts
 pub mod Claim
-pub mod Slots
-pub mod Quiet
-pub mod Keys
-pub mod Reads
-pub mod Looks
-pub mod Steps
-pub mod Goes
-pub mod Sealing
-pub mod Proof
-pub mod Example

@@ -1,6 +1,7 @@
 // A handshake message sent and saved, over the words that hold the sending side's state and the flight: each piece reads and writes only
 // the words it needs.
 #![tactic(auto)]
+
 ghost use Rattle.std.specs.Prelude.{◌≡◌, ◌+◌, ◌≤◌, ◌<◌, length};
 ghost use Rattle.queue.specs.Queue.{InRange};
 ghost use Rattle.flight.specs.Flight.{counted};

@@ -1,5 +1,6 @@
 // A handshake message cut into pieces, each sent as a record of its own and saved, after `create_handshake` of engine.rs.
 #![tactic(auto)]
+
 ghost use Rattle.std.specs.Prelude.{true, ◌≡◌, length};
 ghost use Prim.Native.Nat.{◌+◌, ◌-◌, ◌≤◌, ◌<◌};
 ghost use Rattle.std.proofs.Math.Dec as tests;

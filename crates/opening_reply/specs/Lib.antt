@@ -1,4 +1,1 @@
 pub mod Opening
-pub mod Leads
-pub mod Keeps
-pub mod Undamaged

@@ -1,5 +1,6 @@
 // What a reply to an opening question may say; what removing an epoch does to its question.
 #![tactic(auto)]
+
 ghost use Rattle.std.specs.Prelude.{◌≡◌, ◌+◌, ◌≤◌};
 ghost use Rattle.opening_reply.specs.Opening.{cancelled_ask};
 

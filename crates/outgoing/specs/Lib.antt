@@ -1,4 +1,3 @@
 pub mod State
 pub mod Send
-pub mod Laws
 pub mod Status

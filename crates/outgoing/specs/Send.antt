@@ -1,13 +1,11 @@
 -- Sending one record (01, "Datagrams to send"; refusals 12, 13, 14, 17, 19, 20). Assumes nothing.
-use Rattle.std.specs.Prelude.{Bool, true, List, ◌≡◌, ℕ, ◌+◌, ◌<◌, ◌≤◌, leb, eqb, length}
-use Rattle.std.proofs.lemmas.Bool.{false≢true}
-use Rattle.std.proofs.Common.{arith, leb-true, leb-false}
-use Rattle.base.specs.Choose.{choose, either, by_test, both_right}
+use Rattle.std.specs.Prelude.{Bool, true, List, ℕ, ◌+◌, ◌<◌, ◌≤◌, leb, eqb, length}
+use Rattle.base.specs.Choose.{choose, either}
 use Rattle.base.specs.Parts.{splice}
 use Rattle.queue.specs.declared.Place.{Place}
 use Rattle.queue.specs.declared.Queue.{Queue}
-use Rattle.queue.specs.Queue.{is_ready, slot_of, tail_of, place_of, laid, start_of, Ready, Fits, ready, placed}
-use Rattle.queue.specs.Laid.{record_len, record_bytes, len_over}
+use Rattle.queue.specs.Queue.{is_ready, slot_of, tail_of, place_of, laid, start_of, Ready}
+use Rattle.queue.specs.Laid.{record_len, record_bytes}
 use Rattle.send_keys.specs.Keys.{is_usable, is_keyed, next_of, used}
 use Rattle.send_keys.specs.Answer.{is_done}
 use Rattle.record.specs.Record.{sealed_tail}
@@ -81,52 +79,9 @@ pub record Open (q : Queue) (room e n : ℕ) : Type 0 where
   pub fits : record_len e n ≤ q.mtu
   pub datagram : (place_of q.mtu (tail_of q) (record_len e n)).datagram < q.limit
 
-module _ {q : Queue} {room e n : ℕ} (o : Open q room e n) where
-  pub open_short : n ≤ 1500
-  open_short = omega (arith, len_over e n, o.fits, o.ready.range.high)
-
-  -- the record then lies in a slot
-  pub open_fits : Fits q (place_of q.mtu (tail_of q) (record_len e n)) (record_len e n)
-  open_fits = record { datagram = o.datagram; inside = (placed q.mtu (tail_of q) (record_len e n) o.fits).0 }
-
 -- a record can be laid
 pub record Clear (s : Sending) (room e n : ℕ) : Type 0 where
   pub ready : Ready s.queue room
   pub fits : record_len e n ≤ s.queue.mtu
   pub datagram : (spot_of s e n).datagram < s.queue.limit
   pub number : next_of s.keys e < 281474976710655
-
-pub allowed-fits : (mtu e t n : ℕ) → is_allowed mtu e t n ≡ true → record_len e n ≤ mtu
-unfolding is_allowed
-allowed-fits mtu e t n h = leb-true (record_len e n) mtu (both_right (leb n 16384) _ (both_right _ _ h))
-
-pub send_clear : (s : Sending) (room e t n : ℕ) → is_done (send_answer s room e t n) ≡ true → Clear s room e n
-unfolding send_answer
-send_clear s room e t n =
-    by_test (λ (a : SendAnswer). is_done a ≡ true → Clear s room e n)
-    (λ r. by_test (λ (a : SendAnswer). is_done a ≡ true → Clear s room e n)
-    (λ u. by_test (λ (a : SendAnswer). is_done a ≡ true → Clear s room e n)
-    (λ l. by_test (λ (a : SendAnswer). is_done a ≡ true → Clear s room e n)
-    (λ k. by_test (λ (a : SendAnswer). is_done a ≡ true → Clear s room e n)
-    (λ f z. absurd (false≢true z))
-    (λ f. by_test (λ (a : SendAnswer). is_done a ≡ true → Clear s room e n)
-    (λ p z. absurd (false≢true z))
-    (λ p z. record {
-      ready = ready r;
-      fits = allowed-fits s.queue.mtu e t n l;
-      datagram = leb-false s.queue.limit (spot_of s e n).datagram f;
-      number = leb-false 281474976710655 (next_of s.keys e) p;
-    })))
-    (λ k z. absurd (false≢true z)))
-    (λ l z. absurd (false≢true z)))
-    (λ u z. absurd (false≢true z)))
-    (λ r z. absurd (false≢true z))
-
-pub clear_open : {s : Sending} {room e n : ℕ} → Clear s room e n → Open s.queue room e n
-clear_open c = record { ready = c.ready; fits = c.fits; datagram = c.datagram }
-
-pub clear-short : {s : Sending} {room e n : ℕ} → Clear s room e n → n ≤ 1500
-clear-short c = open_short (clear_open c)
-
-pub clear-fits : {s : Sending} {room e n : ℕ} → Clear s room e n → Fits s.queue (spot_of s e n) (record_len e n)
-clear-fits c = open_fits (clear_open c)

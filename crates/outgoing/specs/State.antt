@@ -7,7 +7,6 @@ use Rattle.record.specs.Record.{is_type}
 use Rattle.queue.specs.Queue.{is_setting, is_sound}
 use Rattle.queue.specs.Laid.{record_len}
 use Rattle.send_keys.specs.declared.SendKeys.{SendKeys}
-use Rattle.send_keys.specs.declared.SendAnswer.TheVariants as key
 use Rattle.send_keys.specs.Answer.{is_done}
 use Rattle.send_keys.specs.Keys.{no_keys, key_answer, keyed}
 use Rattle.outgoing.specs.declared.Waiting.{Waiting}

@@ -1,5 +1,6 @@
 // The sending side of an endpoint, after engine.rs: numbers, queue, packing; one record sent, wholly or not at all.
 #![tactic(auto)]
+
 ghost use Rattle.std.specs.Prelude.{◌≡◌, ◌<◌, length};
 ghost use Rattle.send_keys.specs.declared.SendKeys.{SendKeys};
 ghost use Rattle.outgoing.specs.State.{no_waiting, is_content_type, is_allowed};

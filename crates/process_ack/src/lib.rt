@@ -1,5 +1,6 @@
 // Acting on an ACK, after `process_ack` of engine.rs: which saved records it acknowledges, and whether the flight is then done.
 #![tactic(auto)]
+
 ghost use Rattle.std.specs.Prelude.{◌≡◌, ◌+◌, ◌*◌, ◌≤◌, ◌<◌, length};
 ghost use Rattle.process_ack.specs.Ack.{is_formed, is_pair, is_named, is_remembered, is_acked, tally_with};
 

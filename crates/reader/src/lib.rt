@@ -1,5 +1,6 @@
 // A reader over one datagram: it keeps the slice and the offset reached. Thin over the cut of a record (crate record).
 #![tactic(auto)]
+
 ghost use Rattle.std.specs.Prelude.{◌≡◌, ◌-◌};
 ghost use Rattle.record.specs.Record.{head_of, size_of, content_of, rest_of};
 ghost use Rattle.reader.specs.Reader.{next_of, step_at};

@@ -8,12 +8,13 @@ use native.Mathlib.Omega.{arith}
 use Rattle.std.proofs.Math.ListN.{length, length-append}
 use Rattle.base.specs.Choose.{choose, by_test, if_true, if_false}
 use Rattle.base.specs.Parts.{splice, splice-here}
-use Rattle.decimal.specs.Laws.{decimal-short, splice-none}
+use Rattle.decimal.proofs.Laws.{decimal-short, splice-none}
 use Rattle.reasons.specs.declared.Reason.{Reason}
 use Rattle.reasons.specs.declared.Reason.TheVariants.{Short, Record, Epoch, Old, Seen, Cipher, Taken}
 use Rattle.reasons.specs.declared.Told.{Told}
 use Rattle.reasons.specs.Reasons.{most_records, record_at, kept_at, told_in, name_of, shown, line_of, told_to, told_at, records, lines_to, printed}
-use Rattle.reasons.specs.Laws.{tell-cases, top_at, taken-small, number_small}
+use Rattle.reasons.proofs.Laws.{top_at, taken-small, number_small}
+use Rattle.reasons.proofs.Cases.{tell-cases}
 use Rattle.reason_steps.specs.Writing.{Put, put_next, put_as}
 
 -- five digits of the index, ten of the number, a word of six letters, two spaces and the newline

@@ -14,11 +14,13 @@ use Rattle.window.specs.declared.ReplayWindow.{ReplayWindow}
 use Rattle.window.specs.declared.Verdict.{Verdict}
 use Rattle.window.specs.declared.Verdict.TheVariants as verdicts
 use Rattle.window.specs.Window.{unmarked, verdict, marking}
-use Rattle.window.specs.Used.{expected, Agrees, agrees-new, agrees-marked, tells, expects}
+use Rattle.window.specs.Used.{expected, Agrees}
+use Rattle.window.proofs.Used.{agrees-new, agrees-marked, tells, expects}
 use Rattle.reasons.specs.declared.Reason.{Reason}
 use Rattle.reasons.specs.declared.Reason.TheVariants.{Old, Seen, Cipher, Taken}
 use Rattle.reasons.specs.declared.Told.{Told}
-use Rattle.reasons.specs.Met.{most_kept, hasnt, has-mem}
+use Rattle.reasons.specs.Met.{most_kept}
+use Rattle.reasons.proofs.Meeting.{hasnt, has-mem}
 use Rattle.reasons.specs.Reasons.{epoch_of, bits_of, reply_of, partial_of, is_taken, taken_in, number_in, reason_in, told_in}
 
 -- ---- a record by the window of its epoch

@@ -12,9 +12,12 @@ use Rattle.reasons.specs.declared.Reason.{Reason}
 use Rattle.reasons.specs.declared.Reason.TheVariants.{Short, Record, Epoch}
 use Rattle.reasons.specs.declared.Told.{Told}
 use Rattle.reason_steps.specs.declared.Step.{Step}
-use Rattle.reasons.specs.Met.{most_kept, has, meet, met, has-mem, hasnt, meet-known, meet_full, meet-new}
+use Rattle.reasons.specs.Met.{most_kept, has, meet, met}
+use Rattle.reasons.proofs.Meeting.{has-mem, hasnt, meet_full}
+use Rattle.reasons.proofs.Known.{meet-known, meet-new}
 use Rattle.reasons.specs.Reasons.{record_size, most_records, record_at, epoch_of, is_whole, is_well_formed, is_formed, epoch_at, kept_at, is_taken, taken_in, only, tell, told_to, told_at}
-use Rattle.reasons.specs.Laws.{kept_next, none-taken, told-next, taken-small}
+use Rattle.reasons.proofs.Laws.{kept_next, none-taken, taken-small}
+use Rattle.reasons.proofs.Cases.{told-next}
 use Rattle.reason_steps.specs.State.{judged_by, judged-is, window_at, Holds, held, not_held, hold_passed, hold_marked, hold_new}
 
 -- what is kept before record i

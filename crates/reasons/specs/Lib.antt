@@ -1,5 +1,3 @@
 pub mod Met
 pub mod Reasons
-pub mod Laws
 pub mod Claim
-pub mod Example

@@ -12,14 +12,14 @@ use Rattle.datagram.specs.declared.Ask.{Ask}
 use Rattle.datagram.specs.declared.Datagram.{Datagram}
 use Rattle.datagram.specs.declared.Question.TheVariants as question
 use Rattle.datagram.specs.declared.Question.{Question}
-use Rattle.mask_reply.specs.Keeps.{mask-keeps, mask-rests}
-use Rattle.opening_reply.specs.Keeps.{opened-effect, opened-keeps, Marks}
-use Rattle.opening_reply.specs.Leads.{cancel_drops}
+use Rattle.mask_reply.proofs.Keeps.{mask-keeps, mask-rests}
+use Rattle.opening_reply.proofs.Keeps.{opened-effect, opened-keeps, Marks}
+use Rattle.opening_reply.proofs.Leads.{cancel_drops}
 use Rattle.opening_reply.specs.Opening.{cancelled_ask, cancelled, opened_step}
 use Rattle.opening_reply.specs.declared.Cancelled.{Cancelled}
 use Rattle.opening_reply.specs.declared.Opening.TheVariants as reply
 use Rattle.opening_reply.specs.declared.Opening.{Opening}
-use Rattle.records.specs.Keeps.{read_keeps, read_stays}
+use Rattle.records.proofs.Keeps.{read_keeps, read_stays}
 use Rattle.recv_keys.specs.Keeps.{fresh_in_range, installed_in_range, installed-keyed, left_in_range, left-keyed, found-epoch}
 use Rattle.recv_keys.specs.Keys.{find, fresh, is_full, installed, left, marked, is_keyed}
 use Rattle.recv_keys.specs.Laws.{found-keyed}

@@ -19,15 +19,15 @@ use Rattle.datagram.specs.declared.Reason.TheVariants as reason
 use Rattle.datagram.specs.declared.Reason.{Reason}
 use Rattle.datagram.specs.declared.Step.{Step}
 use Rattle.incoming.specs.Inner.{inner_of}
-use Rattle.mask_reply.specs.Keeps.{judged-goes}
+use Rattle.mask_reply.proofs.Keeps.{judged-goes}
 use Rattle.mask_reply.specs.Mask.{masked_at, masked_by, masking as answering, mask_step}
-use Rattle.opening_reply.specs.Keeps.{typed-goes}
+use Rattle.opening_reply.proofs.Keeps.{typed-goes}
 use Rattle.opening_reply.specs.Opening.{typed, opened_at, opened_by, openings, opened_step}
 use Rattle.opening_reply.specs.declared.Marked.{Marked}
 use Rattle.opening_reply.specs.declared.Opening.TheVariants as reply
 use Rattle.opening_reply.specs.declared.Opening.{Opening}
 use Rattle.record.specs.Record.{parsed}
-use Rattle.records.specs.Keeps.{step-goes}
+use Rattle.records.proofs.Keeps.{step-goes}
 use Rattle.records.specs.Records.{opening_asked, asked_again, asking, read_step}
 use Rattle.recv_keys.specs.Keys.{find, was_found, is_keyed}
 use Rattle.recv_keys.specs.declared.Found.TheVariants as found

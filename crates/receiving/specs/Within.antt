@@ -18,7 +18,7 @@ use Rattle.datagram.specs.declared.Step.{Step}
 use Rattle.incoming.specs.Inner.{inner_of, zeros, inner-holds}
 use Rattle.incoming.specs.declared.Inner.TheVariants as inner
 use Rattle.incoming.specs.declared.Inner.{Inner}
-use Rattle.mask_reply.specs.Leads.{by-judged}
+use Rattle.mask_reply.proofs.Leads.{by-judged}
 use Rattle.mask_reply.specs.Mask.{judged, masked_at, masked_by, masking, mask_step}
 use Rattle.opening_reply.specs.Opening.{typed, opened_at, opened_by, openings, opened_step}
 use Rattle.opening_reply.specs.declared.Marked.{Marked}

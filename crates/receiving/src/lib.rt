@@ -1,5 +1,6 @@
 // The receive side of a link: its state, and what its calls answer (specs/Receiving.antt says which call does what).
 #![tactic(auto)]
+
 use datagram::{Datagram, Reading};
 use recv_keys::RecvKeys;
 

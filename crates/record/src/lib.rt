@@ -1,6 +1,7 @@
 // Record headers read, after record.rs, and the cut of a datagram into records, after `Records::parse_records` of
 // incoming.rs.
 #![tactic(auto)]
+
 ghost use Rattle.std.specs.Prelude.{◌≡◌, ◌+◌, ◌-◌, ◌≤◌, ◌<◌, length};
 ghost use Rattle.record.specs.Record.{
   header_length,

@@ -1,6 +1,7 @@
 // The cut of an arriving datagram, after `Records::parse_records` of incoming.rs: the questions that the host's cipher
 // answers.
 #![tactic(auto)]
+
 ghost use Rattle.std.specs.Prelude.{◌≡◌, ◌+◌, ◌≤◌};
 ghost use Rattle.records.specs.Records.{mask_asked, opening_asked};
 

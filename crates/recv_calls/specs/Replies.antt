@@ -20,7 +20,7 @@ use Rattle.dtls_aead.specs.Nonce.{nonce_of}
 use Rattle.incoming.specs.Inner.{inner_of}
 use Rattle.incoming.specs.declared.Inner.TheVariants as inner
 use Rattle.incoming.specs.declared.Inner.{Inner}
-use Rattle.mask_reply.specs.Leads.{judged-by}
+use Rattle.mask_reply.proofs.Leads.{judged-by}
 use Rattle.mask_reply.specs.Mask.{judged, masking, mask_step}
 use Rattle.opening_reply.specs.Opening.{still, typed, opened_at, openings, opened_step}
 use Rattle.opening_reply.specs.declared.Marked.{Marked}

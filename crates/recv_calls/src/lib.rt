@@ -1,6 +1,7 @@
 // The receive side of a link as a host calls it. The state is words that the host keeps and lends; a call changes them in place and
 // copies none of them. Whatever stands in them, a call ends with an answer.
 #![tactic(auto)]
+
 ghost use Rattle.std.specs.Prelude.{◌≡◌, ◌<◌, length, true};
 ghost use Rattle.incoming.specs.declared.Inner.TheVariants as Inner;
 ghost use Rattle.mask_reply.specs.Mask.{judged, masked_at, masked_by, mask_step};

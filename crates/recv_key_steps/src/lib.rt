@@ -1,5 +1,6 @@
 // The calls of the receive side that read nothing, over the words that hold its state.
 #![tactic(auto)]
+
 ghost use Rattle.std.specs.Prelude.{◌≡◌, true, ◌<◌};
 ghost use Rattle.datagram.specs.Datagram.{is_sound};
 ghost use Rattle.opening_reply.specs.Opening.{cancelled};

@@ -12,7 +12,7 @@ use Rattle.std.proofs.Math.Dec.{leb}
 use Rattle.std.proofs.Math.ListN.{get_or}
 use Rattle.std.proofs.Math.Seq.{get_or-set_same, get_or-set_other}
 use Rattle.base.specs.Choose.{if_true, if_false, by_test, lt-or_ge, eq-or_ne, both_left, both_right, both_true}
-use Rattle.window.specs.Laws.{after}
+use Rattle.window.proofs.Laws.{after}
 use Rattle.window.specs.Window.{unmarked}
 use Rattle.recv_keys.specs.declared.RecvEpochEntry.{RecvEpochEntry}
 use Rattle.recv_keys.specs.declared.RecvKeys.{RecvKeys}

@@ -1,5 +1,6 @@
 // The epochs keyed to receive, after engine.rs: `RecvEpochEntry`; what resolving, keying and removing make of them is in specs/Keys.antt.
 #![tactic(auto)]
+
 ghost use Rattle.std.specs.Prelude.{◌≡◌, ◌≤◌};
 ghost use Rattle.window.specs.Used.{expected};
 ghost use Rattle.recv_keys.specs.Keys.{fits, or_else, app_one};

@@ -1,5 +1,6 @@
 // The cut of a datagram, over the words that hold the receive side's state.
 #![tactic(auto)]
+
 ghost use Rattle.std.specs.Prelude.{◌≡◌, ◌+◌, ◌≤◌, ◌<◌, length, true};
 ghost use Rattle.datagram.specs.Datagram.{is_sound};
 ghost use Rattle.opening_reply.specs.Opening.{cancelled};

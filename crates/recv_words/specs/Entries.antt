@@ -12,7 +12,8 @@ use Rattle.recv_keys.specs.declared.RecvKeys.{RecvKeys}
 use Rattle.recv_keys.specs.Keys.{no_entry, fresh, encrypted, released, installed, left_at, left}
 use Rattle.window.specs.Window.{unmarked}
 use Rattle.words.specs.Fields.{first_of, by-words}
-use Rattle.words.specs.Packed.{iv_of, LowIv, iv-back}
+use Rattle.words.specs.Packed.{iv_of, LowIv}
+use Rattle.words.proofs.Packed.{iv-back}
 use Rattle.recv_words.specs.Words.{words, count_at, highest-at, encrypted-at, released-at, least_at, entries_of, keys_of, question_of, datagram_of, is_flat, rest_of, put_entry}
 
 -- ---- an entry written

@@ -1,6 +1,7 @@
 // The receive side's state in words that the host keeps (specs/Words.antt says what they stand for), read and written in place: no
 // call copies the table of epochs.
 #![tactic(auto)]
+
 ghost use Rattle.std.specs.Prelude.{◌≡◌, ◌≤◌, ◌<◌, leb, length, get_or};
 ghost use Rattle.recv_keys.specs.Keys.{most_epochs, no_entry, last_fit, find, two, resolve, is_keyed, apps, windows_sound, keys_sound, installed, left_at, left};
 ghost use Rattle.datagram.specs.Datagram.{ask_keyed, question_sound, is_sound, moved, end_asked};

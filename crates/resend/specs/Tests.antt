@@ -15,7 +15,7 @@ use Rattle.send_keys.specs.Answer.{is_done}
 use Rattle.send_keys.specs.Keys.{is_usable, is_keyed, next_of}
 use Rattle.outgoing.specs.declared.Sending.{Sending}
 use Rattle.outgoing.specs.State.{is_allowed, allowed-short, with_queue}
-use Rattle.outgoing.specs.Send.{allowed-fits}
+use Rattle.outgoing.proofs.Send.{allowed-fits}
 use Rattle.flight.specs.declared.Entry.{Entry}
 use Rattle.flight.specs.declared.Flight.{Flight}
 use Rattle.flight.specs.Flight.{is_kept, entry_at}

@@ -1,5 +1,6 @@
 // A flight sent again, after `flight_resend` of engine.rs: every saved record that is not acknowledged, under a new number.
 #![tactic(auto)]
+
 ghost use Rattle.std.specs.Prelude.{true, false, ◌≡◌, ◌+◌, ◌≤◌, ◌<◌, length};
 ghost use Rattle.std.proofs.Math.Dec as tests;
 ghost use Rattle.base.specs.Choose.{choose};

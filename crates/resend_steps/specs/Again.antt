@@ -17,7 +17,8 @@ use Rattle.send_steps.specs.Sends.{Sends}
 use Rattle.flight_words.specs.Words.{records_of, flight_of, flat_to}
 use Rattle.flight_words.specs.Entries.{Entered, with_numbers}
 use Rattle.resend.specs.Tests.{closed_state}
-use Rattle.resend.specs.Resend.{Laying, can_remember, with_number, new_entry, sent_entry, sent_table, sent_again, again_at, again_after, again-next, again-range, sent-again}
+use Rattle.resend.specs.Resend.{Laying, can_remember, with_number, new_entry, sent_entry, sent_table, sent_again, again_at, again_after}
+use Rattle.resend.proofs.Resend.{again-next, again-range, sent-again}
 use Rattle.send_keys.specs.Answer.{is_done}
 
 -- state, flight and queue that the words stand for

@@ -1,5 +1,6 @@
 // A flight sent again, over the words of the sending side and of the flight: each saved record is read, and renewed, in its place.
 #![tactic(auto)]
+
 ghost use Rattle.std.specs.Prelude.{true, List, ◌≡◌, ℕ, ◌≤◌, ◌<◌, get_or};
 ghost use Rattle.base.specs.Choose.{choose};
 ghost use Rattle.queue.specs.Queue.{InRange, Tailed, tail_of};

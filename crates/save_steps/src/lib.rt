@@ -1,6 +1,7 @@
 // A record sent and saved, over the words that hold the sending side's state and the flight: a test reads, and a record saved writes, only
 // the words it needs.
 #![tactic(auto)]
+
 ghost use Rattle.std.specs.Prelude.{◌≡◌, ◌<◌, length, get_or};
 ghost use Rattle.send_keys.specs.Keys.{next_of};
 ghost use Rattle.outgoing.specs.Send.{spot_of, laid_state, laid_memory, Clear};

@@ -1,6 +1,7 @@
 // A sealing asked for and the reply to it, over the words that hold the sending side's state: of a datagram searched only its length is
 // read, and only the sealing that waits and its epoch's sealed number are written.
 #![tactic(auto)]
+
 ghost use Rattle.std.specs.Prelude.{false, ◌++◌, ◌≡◌, ◌-◌, ◌*◌, ◌≤◌, ◌<◌};
 ghost use lib.ListN.{length};
 ghost use Rattle.base.specs.Bytes.{be};

@@ -1,5 +1,6 @@
 // Sealings, asked of the host oldest first, after `create_ciphertext_record` of engine.rs.
 #![tactic(auto)]
+
 ghost use Rattle.std.specs.Prelude.{◌≡◌, ◌+◌, ◌-◌, ◌/◌, ◌≤◌, ◌<◌, length, get_or};
 ghost use Rattle.record.specs.Record.{parsed};
 ghost use Rattle.sealing.specs.Seek.{nth_of, beyond, passed, step_of};

@@ -1,6 +1,7 @@
 // The sending side of a link as a host calls it. The state is words that the host keeps and lends, and the queue a buffer of its own.
 // Whatever stands in the words, a call ends with an answer.
 #![tactic(auto)]
+
 ghost use Rattle.std.specs.Prelude.{◌≡◌};
 ghost use Rattle.send_calls.specs.Calls.{
   flat_sealing,

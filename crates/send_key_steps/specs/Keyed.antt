@@ -10,7 +10,8 @@ use Rattle.send_keys.specs.declared.SendKeys.{SendKeys}
 use Rattle.send_keys.specs.Keys.{begun, keyed, with_handshake, with_application}
 use Rattle.outgoing.specs.State.{with_keys}
 use Rattle.words.specs.Fields.{first_of, by-words, low-back}
-use Rattle.words.specs.Packed.{iv_of, LowIv, iv-back}
+use Rattle.words.specs.Packed.{iv_of, LowIv}
+use Rattle.words.proofs.Packed.{iv-back}
 use Rattle.send_words.specs.Words.{words, handshake-at, handshake-iv-at, application-at, application-iv-at, lows_from, state_of, is_flat, put_epoch}
 use Rattle.send_words.specs.Partly.{Partly}
 

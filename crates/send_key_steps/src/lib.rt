@@ -1,5 +1,6 @@
 // An epoch keyed to send, over the words that hold the sending side's state: only its own words are written.
 #![tactic(auto)]
+
 ghost use Rattle.std.specs.Prelude.{◌≡◌};
 ghost use Rattle.queue.specs.Queue.{is_sound};
 ghost use Rattle.send_keys.specs.Keys.{key_answer, keyed};

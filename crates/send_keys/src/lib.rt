@@ -1,5 +1,6 @@
 // The epochs to send in, after `Keys` of engine.rs: their IVs and the next numbers.
 #![tactic(auto)]
+
 ghost use Rattle.send_keys.specs.Answer.{is_done, refusal};
 ghost use Rattle.std.specs.Prelude.{◌≡◌};
 

@@ -14,7 +14,8 @@ use Rattle.send_keys.specs.declared.SendAnswer.{SendAnswer}
 use Rattle.outgoing.specs.declared.Sending.{Sending}
 use Rattle.outgoing.specs.declared.Waiting.{Waiting}
 use Rattle.outgoing.specs.State.{with_keys, with_queue, with_waiting}
-use Rattle.outgoing.specs.Send.{spot_of, send_answer, waits_behind, laid_state, Clear, clear-short, clear-fits}
+use Rattle.outgoing.specs.Send.{spot_of, send_answer, waits_behind, laid_state, Clear}
+use Rattle.outgoing.proofs.Send.{clear-short, clear-fits}
 use Rattle.words.specs.Fields.{first_of, by-words, low_bit, low-back}
 use Rattle.send_words.specs.Words.{words, count_at, closed_at, sealing-at, plaintext-next-at, handshake-next-at, application-next-at, length_at, lows_from, state_of, is_flat, put_waiting}
 use Rattle.send_words.specs.Partly.{Partly, low-waiting, waiting-back}

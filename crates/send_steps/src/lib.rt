@@ -1,5 +1,6 @@
 // A record sent, over the words that hold the sending side's state: a test reads, and a record laid writes, only the words it needs.
 #![tactic(auto)]
+
 ghost use Rattle.std.specs.Prelude.{◌≡◌, ◌+◌, ◌≤◌, ◌<◌, length, get_or};
 ghost use Rattle.queue.specs.Queue.{InRange, Tailed, is_sound, is_ready, last_len, tail_of};
 ghost use Rattle.send_keys.specs.Keys.{is_usable, is_keyed, next_of, used};

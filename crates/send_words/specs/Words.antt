@@ -1,5 +1,5 @@
 -- The sending side's state in words that the host keeps: which word is which, and what they stand for.
-use Rattle.std.specs.Prelude.{Bool, List, [], ◌∷◌, ℕ, zero, suc, ◌+◌, ◌%◌, leb, eqb, length, get_or, set}
+use Rattle.std.specs.Prelude.{Bool, List, [], ◌∷◌, ℕ, zero, suc, ◌+◌, ◌%◌, leb, eqb, get_or, set}
 use Rattle.base.specs.Choose.{both}
 use Rattle.queue.specs.declared.Queue.{Queue}
 use Rattle.send_keys.specs.declared.SendEpoch.{SendEpoch}

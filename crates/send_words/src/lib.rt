@@ -1,5 +1,6 @@
 // The sending side's state in words that the host keeps (specs/Words.antt says what they stand for), read and written.
 #![tactic(auto)]
+
 ghost use Rattle.std.specs.Prelude.{◌≡◌, ◌≤◌, ◌<◌, length};
 ghost use Rattle.words.specs.Packed.{LowIv};
 ghost use Rattle.send_words.specs.Words.{words, application-at, application-iv-at, waiting_of, is_flat, put_waiting, put_epoch};

@@ -1,5 +1,6 @@
 // Number rebuilding, after `reconstruct_sequence` of engine.rs.
 #![tactic(auto)]
+
 ghost use Rattle.std.specs.Prelude.{◌≡◌, ◌+◌, ◌-◌, ◌%◌, ◌^◌, ◌<◌, ◌≤◌};
 ghost use Rattle.sequence.specs.Sequence.{block_of, nearest};
 

@@ -1,6 +1,7 @@
 // What a host asks of its words without reading one: how much is saved and not acknowledged, how much is queued and waits to be sealed.
 // A call changes nothing.
 #![tactic(auto)]
+
 ghost use Rattle.std.specs.Prelude.{List, ◌≡◌, ℕ, ◌+◌, ◌-◌, ◌≤◌, min};
 ghost use Rattle.base.specs.Choose.{choose};
 ghost use Rattle.flight.specs.Status.{unmarked_after};

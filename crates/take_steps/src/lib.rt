@@ -1,5 +1,6 @@
 // Taking the front datagram, over the words that hold the sending side's state.
 #![tactic(auto)]
+
 ghost use Rattle.std.specs.Prelude.{◌≡◌, ◌+◌, ◌-◌, ◌*◌, ◌≤◌, ◌<◌, length, get_or};
 ghost use Rattle.base.specs.Parts.{splice, part};
 ghost use Rattle.send_words.specs.Words.{first-at, count_at, state_of};

@@ -1,5 +1,6 @@
 // The front datagram, taken when it is wholly sealed, after `poll_packet_tx` of engine.rs.
 #![tactic(auto)]
+
 ghost use Rattle.std.specs.Prelude.{◌≡◌, ◌≤◌};
 ghost use Rattle.taking.specs.Take.{next_slot, is_taken};
 

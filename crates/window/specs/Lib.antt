@@ -1,3 +1,2 @@
 pub mod Window
-pub mod Laws
 pub mod Used

@@ -1,5 +1,6 @@
 // The replay window, after window.rs.
 #![tactic(auto)]
+
 ghost use Rattle.std.specs.Prelude.{◌≡◌};
 ghost use Rattle.window.specs.Window.{unmarked, verdict, marking};
 

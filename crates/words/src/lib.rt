@@ -1,5 +1,6 @@
 // Bytes packed into words, the first byte highest, and read back.
 #![tactic(auto)]
+
 ghost use Rattle.std.specs.Prelude.{◌≡◌, ◌≤◌, ◌<◌, ◌%◌, length};
 ghost use Rattle.base.specs.Bytes.{Bytes};
 ghost use Rattle.words.specs.Packed.{iv_of, LowIv, put_iv};

@@ -1,11 +1,7 @@
 -- `base::from_array` meets its contract. The loop's invariant: the bytes passed are those of `b`, and the lengths are as they were. Assumes nothing.
-use Prim.Native.Nat.{ℕ, ◌-◌, ◌≤◌}
-use lib.ListN.{length, take, get_or, set, length-set}
-use lib.Seq.{take-suc-set, take-suc, take_all}
-use mathlib.Core.List.{List, [], ◌∷◌, ◌++◌}
-use mathlib.Core.Path.{◌≡◌, refl, sym, ap, ◌∙◌}
-use native.Mathlib.Numerals.{add-one}
-use native.Mathlib.Omega.{arith}
+use Prim.Native.Nat.{◌-◌, ◌≤◌}
+use lib.ListN.{length, take}
+use mathlib.Core.Path.{◌≡◌}
 use Rattle.base.specs.Parts.{most_moved}
 use Rattle.base.proofs.from_array.Given as goal
 

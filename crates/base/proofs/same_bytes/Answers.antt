@@ -2,9 +2,7 @@
 use borrow.Author.Rules.{rules}
 use mathlib.Core.Bool.{Bool, true, false, ◌&&◌}
 use mathlib.Core.Path.{◌≡◌, refl, sym, ap, ◌∙◌}
-use Prim.Native.Nat.{ℕ, ◌≤◌, ◌-◌}
 use native.Mathlib.Omega.{arith}
-use lib.ListN.{length}
 use Rattle.base.specs.Choose.{both}
 use Rattle.base.specs.Every.{same_to, same_next, same_none}
 use Rattle.base.proofs.same_bytes.Goals as goal

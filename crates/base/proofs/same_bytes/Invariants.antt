@@ -1,11 +1,8 @@
 -- `base::same_bytes` meets its contract. Invariant: the bytes passed are the same. Assumes nothing.
-use mathlib.Core.Bool.{Bool, true, false, ◌&&◌}
-use mathlib.Core.Path.{◌≡◌, refl, sym, ap, ◌∙◌}
-use Prim.Native.Nat.{ℕ, ◌≤◌, ◌-◌}
-use native.Mathlib.Omega.{arith}
+use mathlib.Core.Path.{◌≡◌}
+use Prim.Native.Nat.{◌≤◌, ◌-◌}
 use lib.ListN.{length}
-use Rattle.base.specs.Choose.{both}
-use Rattle.base.specs.Every.{same_to, same_next, same_none}
+use Rattle.base.specs.Every.{same_to}
 use Rattle.base.proofs.same_bytes.Given as goal
 
 abbrev pub invariant-loop-i : goal.invariant-loop-i

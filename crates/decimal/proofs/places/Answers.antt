@@ -5,7 +5,8 @@ use mathlib.Core.Path.{◌≡◌, refl, ap, ◌∙◌}
 use native.Mathlib.Omega.{arith}
 use Rattle.base.specs.Choose.{lt-or_ge}
 use Rattle.decimal.specs.Decimal.{places_up_to, places_of}
-use Rattle.decimal.specs.Laws.{tenth, places_last, places_next}
+use Rattle.decimal.proofs.Laws.{tenth}
+use Rattle.decimal.proofs.Cases.{places_last, places_next}
 use Rattle.decimal.proofs.places.Goals as goal
 
 -- where a digit is left over, there are not yet 20
@@ -26,4 +27,3 @@ loop-rest-preserved c = let l = c.loop-rest in
 
 pub returns : goal.returns
 returns c = let l = c.loop-rest in (omega (arith, places_last (20 - l.k) l.rest (omega arith)), omega arith, omega arith)
-

@@ -5,7 +5,8 @@ use mathlib.Core.Path.{◌≡◌, refl, ap, ◌∙◌}
 use native.Mathlib.Omega.{arith}
 use Rattle.base.specs.Choose.{lt-or_ge}
 use Rattle.decimal.specs.Decimal.{places_up_to, places_of}
-use Rattle.decimal.specs.Laws.{tenth, places_last, places_next}
+use Rattle.decimal.proofs.Laws.{tenth}
+use Rattle.decimal.proofs.Cases.{places_last, places_next}
 use Rattle.decimal.proofs.places.Given as goal
 
 abbrev pub invariant-loop-rest : goal.invariant-loop-rest
@@ -13,4 +14,3 @@ invariant-loop-rest l = (0 < l.k) × (l.k ≤ 20) × (l.rest < 10 ^ (21 - l.k)) 
 
 abbrev pub decreases-loop-rest : goal.decreases-loop-rest
 decreases-loop-rest l = l.rest
-

@@ -1,11 +1,11 @@
 -- `decimal::put_digits` meets its contract. The loop's invariant: the digits that are left, written over what is there, make all of them. Assumes nothing.
-use Prim.Native.Nat.{ℕ, suc, ◌+◌, ◌-◌, ◌/◌, ◌≤◌}
-use lib.ListN.{length, length-set}
+use Prim.Native.Nat.{ℕ, suc, ◌+◌, ◌-◌, ◌/◌}
+use lib.ListN.{length-set}
 use mathlib.Core.Path.{◌≡◌, refl, sym, ap, ◌∙◌}
 use native.Mathlib.Omega.{arith}
 use Rattle.base.specs.Parts.{splice, stored}
 use Rattle.decimal.specs.Decimal.{digit, digits}
-use Rattle.decimal.specs.Laws.{digits-none, digits-next}
+use Rattle.decimal.proofs.Laws.{digits-none, digits-next}
 use Rattle.decimal.proofs.put_digits.Goals as goal
 
 pub loop-i-init : goal.loop-i-init
@@ -30,4 +30,3 @@ returns c = let l = c.loop-i in
     let a = c.args.at in
     let e : l.i ≡ 0 = omega arith in
     sym (digits-none a l.rest l.out) ∙ sym (ap (λ (m : ℕ). splice a (digits m l.rest) l.out) e) ∙ l.invariant.2
-

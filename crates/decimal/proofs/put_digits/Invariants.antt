@@ -5,7 +5,7 @@ use mathlib.Core.Path.{◌≡◌, refl, sym, ap, ◌∙◌}
 use native.Mathlib.Omega.{arith}
 use Rattle.base.specs.Parts.{splice, stored}
 use Rattle.decimal.specs.Decimal.{digit, digits}
-use Rattle.decimal.specs.Laws.{digits-none, digits-next}
+use Rattle.decimal.proofs.Laws.{digits-none, digits-next}
 use Rattle.decimal.proofs.put_digits.Given as goal
 
 abbrev pub invariant-loop-i : goal.invariant-loop-i
@@ -13,4 +13,3 @@ invariant-loop-i l = (l.i ≤ l.k) × (length l.out ≡ length l.initial.out) ×
 
 abbrev pub decreases-loop-i : goal.decreases-loop-i
 decreases-loop-i l = l.i
-

@@ -1,5 +1,5 @@
 -- `incoming::recover_inner_content_type` meets its contract. Invariant: what is cut off are zeros. Assumes nothing.
-use mathlib.Core.Path.{◌≡◌, ap, ◌∙◌}
+use mathlib.Core.Path.{ap, ◌∙◌}
 use native.Mathlib.Omega.{arith}
 use Prim.Native.Nat.{ℕ, ◌-◌, ◌≤◌}
 use lib.ListN.{length, take}
@@ -33,4 +33,3 @@ loop-n-preserved c = let n = c.loop-n.n in
 
 pub returns : goal.returns
 returns c = cut-none _ c.loop-n.n c.loop-n.invariant.1 (omega arith)
-

@@ -1,10 +1,9 @@
 -- `incoming::without_zero_words` meets its contract. Invariant: as many are left of those as of the first n. Assumes nothing.
 use mathlib.Core.Path.{◌≡◌, refl, sym, ◌∙◌}
 use native.Mathlib.Omega.{arith}
-use Prim.Native.Nat.{◌-◌, ◌≤◌}
-use lib.ListN.{length}
+use Prim.Native.Nat.{◌-◌}
 use Rattle.base.specs.Bytes.{be_at}
-use Rattle.incoming.specs.Padding.{word_len, left_of, word_off, word-stays, no_word}
+use Rattle.incoming.specs.Padding.{word_len, word_off, word-stays, no_word}
 use Rattle.incoming.proofs.without_zero_words.Goals as goal
 
 pub loop-left-init : goal.loop-left-init
@@ -23,4 +22,3 @@ loop-left-preserved c = let left = c.loop-left.left in
 
 pub returns : goal.returns
 returns c = sym (no_word _ c.loop-left.left (omega arith)) ∙ c.loop-left.invariant.1
-

@@ -1,10 +1,8 @@
 -- `incoming::without_zero_words` meets its contract. Invariant: as many are left of those as of the first n. Assumes nothing.
-use mathlib.Core.Path.{◌≡◌, refl, sym, ◌∙◌}
-use native.Mathlib.Omega.{arith}
+use mathlib.Core.Path.{◌≡◌}
 use Prim.Native.Nat.{◌-◌, ◌≤◌}
 use lib.ListN.{length}
-use Rattle.base.specs.Bytes.{be_at}
-use Rattle.incoming.specs.Padding.{word_len, left_of, word_off, word-stays, no_word}
+use Rattle.incoming.specs.Padding.{left_of}
 use Rattle.incoming.proofs.without_zero_words.Given as goal
 
 abbrev pub invariant-loop-left : goal.invariant-loop-left
@@ -12,4 +10,3 @@ invariant-loop-left l = (l.left ≤ length l.d) × (left_of l.d l.left ≡ left_
 
 abbrev pub decreases-loop-left : goal.decreases-loop-left
 decreases-loop-left l = l.left
-

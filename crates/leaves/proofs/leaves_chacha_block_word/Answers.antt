@@ -3,7 +3,7 @@ use mathlib.Core.Path.{sym}
 use native.Mathlib.Omega.{arith}
 use Rattle.base.specs.Parts.{part}
 use Rattle.chacha.specs.Chacha.{word}
-use Rattle.chacha.specs.Laws.{block-beyond}
+use Rattle.chacha.proofs.Laws.{block-beyond}
 use Rattle.leaves.proofs.leaves_chacha_block_word.Goals as goal
 
 pub returns-then-k-ge-BLOCK_WORDS : goal.returns-then-k-ge-BLOCK_WORDS

@@ -1,6 +1,6 @@
 -- `mask_calls::empty_entry` meets its contract. Assumes nothing.
 use mathlib.Core.Path.{◌∙◌}
-use Rattle.mask_keys.specs.Laws.{emptied-at, emptied-out}
+use Rattle.mask_keys.proofs.Laws.{emptied-at, emptied-out}
 use borrow.Author.Rules.{rules}
 use Rattle.mask_calls.proofs.empty_entry.Statement.{statement}
 use Rattle.mask_calls.proofs.empty_entry.Tie as tie

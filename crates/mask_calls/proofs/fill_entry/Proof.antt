@@ -1,6 +1,6 @@
 -- `mask_calls::fill_entry` meets its contract. Assumes nothing.
 use mathlib.Core.Path.{◌∙◌}
-use Rattle.mask_keys.specs.Laws.{filled_at, filled-out}
+use Rattle.mask_keys.proofs.Laws.{filled_at, filled-out}
 use borrow.Author.Rules.{rules}
 use Rattle.mask_calls.proofs.fill_entry.Statement.{statement}
 use Rattle.mask_calls.proofs.fill_entry.Tie as tie

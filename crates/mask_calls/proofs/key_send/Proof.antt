@@ -4,7 +4,7 @@ use Prim.Native.Nat.{ℕ}
 use borrow.Author.Tests.{eq-eqb, ne_eqb}
 use Rattle.base.specs.Choose.{if_true, if_false}
 use Rattle.mask_keys.specs.Keys.{send_slots, emptied}
-use Rattle.mask_keys.specs.Laws.{emptied-at}
+use Rattle.mask_keys.proofs.Laws.{emptied-at}
 use borrow.Author.Rules.{rules}
 use Rattle.mask_calls.proofs.key_send.Statement.{statement}
 use Rattle.mask_calls.proofs.key_send.Tie as tie

@@ -5,7 +5,7 @@ use borrow.Author.Tests.{eq-eqb, ne_eqb}
 use Rattle.base.specs.Choose.{choose, if_true, if_false}
 use Rattle.send_words.specs.Words.{is_flat}
 use Rattle.mask_keys.specs.Keys.{send_slots, filled}
-use Rattle.mask_keys.specs.Laws.{filled_at}
+use Rattle.mask_keys.proofs.Laws.{filled_at}
 use Rattle.mask_calls.specs.Laws.{other_length, never_done}
 use borrow.Author.Rules.{rules}
 use Rattle.mask_calls.proofs.key_send_masked.Statement.{statement}

@@ -5,7 +5,7 @@ use lib.Seq.{take_all}
 use mathlib.Core.Path.{◌≡◌, refl, sym, ap, ◌∙◌}
 use native.Mathlib.Omega.{arith}
 use Rattle.base.specs.Parts.{splice}
-use Rattle.decimal.specs.Laws.{splice-none}
+use Rattle.decimal.proofs.Laws.{splice-none}
 use Rattle.reason_steps.specs.Writing.{word_next}
 use Rattle.reason_steps.proofs.put_word.Goals as goal
 

@@ -1,5 +1,4 @@
 -- `record::fragment_len` meets its contract: the length field, or what is left. Assumes nothing.
-use borrow.Author.Rules.{rules}
 use borrow.Author.Tests.{eq-eqb, ne_eqb}
 use mathlib.Core.Path.{sym, ◌∙◌}
 use Rattle.base.specs.Choose.{if_true, if_false}
@@ -13,4 +12,3 @@ returns-then-flags-eq1 c = rw c.requires.0 at c.be16.ensures.0 ∙ sym (if_true 
 pub returns : goal.returns
 unfolding fragment_len
 returns c = rw c.requires.0 (sym (if_false _ _ (ne_eqb _ _ c.if-flags-eq1.false)))
-

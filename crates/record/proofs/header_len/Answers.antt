@@ -1,5 +1,4 @@
 -- `record::header_len` meets its contract. Assumes nothing.
-use borrow.Author.Rules.{rules}
 use native.Mathlib.Omega.{arith}
 use Rattle.record.specs.Record.{header_length}
 use Rattle.record.proofs.header_len.Goals as goal
@@ -7,4 +6,3 @@ use Rattle.record.proofs.header_len.Goals as goal
 pub returns : goal.returns
 unfolding header_length
 returns c = omega arith
-

@@ -1,5 +1,4 @@
 -- `record::is_plaintext` meets its contract: type, version, epoch, in that order. Assumes nothing.
-use borrow.Author.Rules.{rules}
 use mathlib.Core.Path.{sym, ◌∙◌}
 use Rattle.base.specs.Choose.{both_true, both_false}
 use Rattle.record.specs.Record.{is_plaintext}
@@ -16,4 +15,3 @@ returns-else-is_version c = sym (both_true (sym c.is_type.ensures ∙ c.if-is_ty
 pub returns-else-is_type : goal.returns-else-is_type
 unfolding is_plaintext
 returns-else-is_type c = sym (both_false _ (sym c.is_type.ensures ∙ c.if-is_type.false))
-

@@ -16,4 +16,3 @@ returns-then-t-eq-HANDSHAKE c = sym (either-false (ne_eqb _ _ c.if-t-eq-ALERT.fa
 pub returns : goal.returns
 unfolding is_type
 returns c = sym (either-false (ne_eqb _ _ c.if-t-eq-ALERT.false) ∙ either-false (ne_eqb _ _ c.if-t-eq-HANDSHAKE.false))
-

@@ -1,5 +1,4 @@
 -- `record::is_version` meets its contract. Assumes nothing.
-use borrow.Author.Rules.{rules}
 use borrow.Author.Tests.{eq-eqb, ne_eqb}
 use mathlib.Core.Path.{sym, ◌∙◌}
 use Rattle.base.specs.Choose.{either_true, either-false, both_true, both_false}
@@ -17,4 +16,3 @@ returns-then-a c = sym (both_true (eq-eqb _ _ c.if-a.true) ∙ either-false (ne_
 pub returns : goal.returns
 unfolding is_version
 returns c = sym (both_false _ (ne_eqb _ _ c.if-a.false))
-

@@ -1,5 +1,4 @@
 -- `record::parse` meets its contract: the first byte tells which header begins there. Assumes nothing.
-use borrow.Author.Rules.{rules}
 use borrow.Author.Tests.{eq-eqb, ne_eqb}
 use mathlib.Core.Path.{sym, ◌∙◌}
 use Rattle.base.specs.Choose.{if_true, if_false}
@@ -21,4 +20,3 @@ returns-then-flags-eq1 c = c.parse_ciphertext.ensures ∙ sym (if_false _ _ (ne_
 pub returns : goal.returns
 unfolding parsed
 returns c = c.parse_plaintext.ensures ∙ sym (if_false _ _ (ne_eqb _ _ c.if-d-eq0.false) ∙ if_false _ _ (ne_eqb _ _ c.if-flags-eq1.false))
-

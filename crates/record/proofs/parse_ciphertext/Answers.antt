@@ -1,5 +1,4 @@
 -- `record::parse_ciphertext` meets its contract. Assumes nothing.
-use borrow.Author.Rules.{rules}
 use borrow.Author.Tests.{lt-ltb, le-ltb}
 use mathlib.Core.Path.{sym, ◌∙◌}
 use Rattle.base.specs.Choose.{if_true, if_false}
@@ -17,4 +16,3 @@ returns-then-n-head-2 c = sym (if_false _ _ (rw c.header_len-head.ensures.0 at (
 pub returns : goal.returns
 unfolding parse_ciphertext
 returns c = rw (c.partial.ensures, c.fragment_len-length.ensures, c.header_len-head.ensures.0) (sym (if_false _ _ (rw c.header_len-head.ensures.0 at (le-ltb _ _ c.if-n-head.false)) ∙ if_false _ _ (rw (c.header_len-head.ensures.0, c.fragment_len-length.ensures) at (le-ltb _ _ c.if-n-head-2.false))))
-

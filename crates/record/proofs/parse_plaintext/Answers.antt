@@ -1,5 +1,4 @@
 -- `record::parse_plaintext` meets its contract. Assumes nothing.
-use borrow.Author.Rules.{rules}
 use borrow.Author.Tests.{lt-ltb, le-ltb}
 use mathlib.Core.Path.{sym, ◌∙◌}
 use Rattle.base.specs.Choose.{if_true, if_false}
@@ -21,4 +20,3 @@ returns-then-is_plaintext c = rw (c.number.ensures, c.be16-length.ensures.0) (sy
 pub returns : goal.returns
 unfolding parse_plaintext
 returns c = rw c.be16-length.ensures.0 (sym (if_false _ _ (le-ltb _ _ c.if-n-lt-PLAINTEXT_HEADER_LEN.false) ∙ if_false _ _ (rw c.be16-length.ensures.0 at (le-ltb _ _ c.if-n-length.false)) ∙ if_false _ _ (sym c.is_plaintext.ensures ∙ c.if-is_plaintext.false)))
-

@@ -1,5 +1,4 @@
 -- `record::partial` meets its contract. Assumes nothing.
-use borrow.Author.Rules.{rules}
 use mathlib.Core.Path.{sym, ◌∙◌}
 use native.Mathlib.Omega.{arith}
 use Rattle.base.specs.Choose.{if_true, if_false}
@@ -13,4 +12,3 @@ returns-then-s_flag c = rw (c.byte_or_zero.ensures.0, c.byte_or_zero-then-s_flag
 pub returns : goal.returns
 unfolding partial_of
 returns c = c.byte_or_zero-2.ensures.0 ∙ sym (if_false _ _ c.if-s_flag.false)
-

@@ -13,4 +13,3 @@ returns-then-epoch-ge3 c = (sym (if_true _ _ (le-leb _ _ c.if-epoch-ge3.true)), 
 pub returns : goal.returns
 unfolding app_one
 returns c = (sym (if_false _ _ (lt-leb _ _ c.if-epoch-ge3.false)), omega arith)
-

@@ -1,5 +1,4 @@
 -- `recv_keys::expected_recv_seq` meets its contract. Assumes nothing.
-use borrow.Author.Rules.{rules}
 use borrow.Author.Tests.{eq-eqb, ne_eqb}
 use mathlib.Core.Path.{sym}
 use Rattle.base.specs.Choose.{if_false, if_true}
@@ -13,4 +12,3 @@ returns-then-w-eq1 c = sym (if_true _ _ (eq-eqb _ _ c.if-w-eq1.true))
 pub returns : goal.returns
 unfolding expected
 returns c = sym (if_false _ _ (ne_eqb _ _ c.if-w-eq1.false))
-

@@ -12,4 +12,3 @@ returns-then-epoch-ge3 c = sym (if_true _ _ (le-leb _ _ c.if-epoch-ge3.true))
 pub returns : goal.returns
 unfolding fits
 returns c = sym (if_false _ _ (lt-leb _ _ c.if-epoch-ge3.false))
-

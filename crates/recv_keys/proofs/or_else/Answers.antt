@@ -1,5 +1,4 @@
 -- `recv_keys::or_else` meets its contract. Assumes nothing.
-use borrow.Author.Rules.{rules}
 use Rattle.recv_keys.specs.Keys.{or_else}
 use Rattle.recv_keys.proofs.or_else.Goals as goal
 
@@ -10,4 +9,3 @@ returns-in-At c = rw c.in-At.is
 pub returns-in-Nothing : goal.returns-in-Nothing
 unfolding or_else
 returns-in-Nothing c = rw c.in-Nothing.is
-

@@ -3,7 +3,8 @@ use Prim.Native.Nat.{◌+◌}
 use lib.ListN.{get_or}
 use mathlib.Core.Path.{◌≡◌, ap, ◌∙◌}
 use native.Mathlib.Omega.{arith}
-use Rattle.run_lines.specs.Lines.{wrote_none, wrote-next, wrote_as, wrote-all, digit_of, bytes_next, bytes-end}
+use Rattle.run_lines.specs.Lines.{digit_of}
+use Rattle.run_lines.proofs.Lines.{wrote_none, wrote-next, wrote_as, wrote-all, bytes_next, bytes-end}
 use Rattle.run_lines.proofs.decode.Goals as goal
 
 pub loop-i-init : goal.loop-i-init

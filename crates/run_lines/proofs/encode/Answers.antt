@@ -4,7 +4,8 @@ use lib.ListN.{drop_of_length-le}
 use mathlib.Core.List.{List, [], ◌∷◌, ◌++◌}
 use mathlib.Core.Path.{refl, ap}
 use native.Mathlib.Omega.{arith}
-use Rattle.run_lines.specs.Lines.{wrote_none, wrote-next, wrote_as, wrote_then, wrote-all, hex_of, line_of, hex_next}
+use Rattle.run_lines.specs.Lines.{hex_of, line_of}
+use Rattle.run_lines.proofs.Lines.{wrote_none, wrote-next, wrote_as, wrote_then, wrote-all, hex_next}
 use Rattle.run_lines.proofs.encode.Goals as goal
 
 pub loop-i-init : goal.loop-i-init

@@ -1,6 +1,6 @@
 -- `run_lines::line_len` meets its contract: no newline was passed. Assumes nothing.
 use native.Mathlib.Omega.{arith}
-use Rattle.run_lines.specs.Lines.{line-here, line_on, line-end}
+use Rattle.run_lines.proofs.Lines.{line-here, line_on, line-end}
 use Rattle.run_lines.proofs.line_len.Goals as goal
 
 pub loop-i-init : goal.loop-i-init

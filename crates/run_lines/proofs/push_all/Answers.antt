@@ -2,7 +2,7 @@
 use lib.ListN.{drop_of_length-le}
 use mathlib.Core.Path.{refl}
 use native.Mathlib.Omega.{arith}
-use Rattle.run_lines.specs.Lines.{wrote_none, wrote-next, wrote_as, wrote-all, drop-next}
+use Rattle.run_lines.proofs.Lines.{wrote_none, wrote-next, wrote_as, wrote-all, drop-next}
 use Rattle.run_lines.proofs.push_all.Goals as goal
 
 pub loop-i-init : goal.loop-i-init

@@ -4,7 +4,7 @@ use borrow.Author.Rules.{rules}
 use native.Mathlib.Nat.{mod-le, mod-lt}
 use native.Mathlib.Omega.{arith}
 use Rattle.sequence.specs.Sequence.{own}
-use Rattle.sequence.specs.Laws.{is-nearest}
+use Rattle.sequence.proofs.Cases.{is-nearest}
 use Rattle.sequence.proofs.in_block.Goals as goal
 
 pub overflow_sub-own : goal.overflow_sub-own
@@ -36,4 +36,3 @@ returns-else-own-block-2 c = is-nearest _ _ _ (λ s z. omega arith) (λ s z. ome
 pub returns-else-half-expected : goal.returns-else-half-expected
 unfolding own
 returns-else-half-expected c = is-nearest _ _ _ (λ s z. omega arith) (λ s z. omega arith) (λ s t v. omega arith) (λ s t v. omega arith) (λ s t. omega arith)
-

@@ -1,5 +1,4 @@
 -- `words::iv_of` meets its contract. Assumes nothing.
-use borrow.Author.Rules.{rules}
 use native.Mathlib.Nat.{div-one}
 use Rattle.words.specs.Packed.{iv_of}
 use Rattle.words.proofs.iv_of.Goals as goal
@@ -7,4 +6,3 @@ use Rattle.words.proofs.iv_of.Goals as goal
 pub returns : goal.returns
 unfolding iv_of
 returns c = simp div-one
-

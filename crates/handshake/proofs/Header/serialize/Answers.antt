@@ -1,5 +1,4 @@
 -- `Header::serialize` meets its contract: the bytes are those of the definition. Assumes nothing.
-use borrow.Author.Rules.{rules}
 use native.Mathlib.Nat.{div-one}
 use Rattle.handshake.specs.Header.{header_bytes}
 use Rattle.handshake.proofs.Header.serialize.Goals as goal
@@ -7,4 +6,3 @@ use Rattle.handshake.proofs.Header.serialize.Goals as goal
 pub returns : goal.returns
 unfolding header_bytes
 returns c = simp div-one
-

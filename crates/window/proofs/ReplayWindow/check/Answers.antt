@@ -1,10 +1,9 @@
 -- `ReplayWindow::check` meets its contract: what each verdict says holds where it is returned. Assumes nothing.
-use borrow.Author.Rules.{rules}
 use mathlib.Core.Path.{sym}
 use native.Mathlib.Omega.{arith}
 use Rattle.base.specs.Bits.{bit}
 use Rattle.window.specs.declared.Verdict.TheVariants.{Fresh, Seen}
-use Rattle.window.specs.Laws.{verdict-is}
+use Rattle.window.proofs.Laws.{verdict-is}
 use Rattle.window.proofs.ReplayWindow.check.Goals as goal
 
 -- above the highest
@@ -29,4 +28,3 @@ returns c = let low = c.if-top-seqno.false in
     let near = c.if-offset-ge-WIDTH.false in
     let set = c.if-self-offset-eq0.false in
     sym ((verdict-is _ _ Seen).1 (omega arith, omega arith, omega arith))
-

@@ -1,5 +1,4 @@
 -- `ReplayWindow::update` meets its contract: each return is the case of the definition that its tests choose. Assumes nothing.
-use borrow.Author.Rules.{rules}
 use borrow.Author.Tests.{lt-ltb, le-ltb}
 use mathlib.Core.Path.{sym, ◌∙◌}
 use Rattle.base.specs.Choose.{if_true, if_false}
@@ -21,4 +20,3 @@ returns-then-offset-lt-WIDTH c = sym (if_false _ _ (le-ltb _ _ c.if-top-seqno.fa
 pub returns : goal.returns
 unfolding marking
 returns c = sym (if_false _ _ (le-ltb _ _ c.if-top-seqno.false) ∙ if_false _ _ (le-ltb _ _ c.if-offset-lt-WIDTH.false))
-

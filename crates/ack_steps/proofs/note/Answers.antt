@@ -1,0 +1,20 @@
+-- `ack_steps::note` meets its contract. Assumes nothing.
+use mathlib.Core.Path.{sym, ◌∙◌}
+use Rattle.base.specs.Choose.{if_true, if_false}
+use borrow.Author.Tests.{lt-ltb, le-ltb}
+use Rattle.acks.specs.Acks.{noted}
+use borrow.Author.Rules.{rules}
+use Rattle.ack_steps.proofs.note.Goals as goal
+
+pub returns-then-n-gt32 : goal.returns-then-n-gt32
+unfolding noted
+returns-then-n-gt32 c = sym (if_true _ _ (lt-ltb _ _ c.if-n-gt32.true))
+
+pub returns-then-n-lt32 : goal.returns-then-n-lt32
+unfolding noted
+returns-then-n-lt32 c = sym (if_false _ _ (le-ltb _ _ c.if-n-gt32.false) ∙ if_true _ _ (lt-ltb _ _ c.if-n-lt32.true))
+
+pub returns : goal.returns
+unfolding noted
+returns c = sym (if_false _ _ (le-ltb _ _ c.if-n-gt32.false) ∙ if_false _ _ (le-ltb _ _ c.if-n-lt32.false))
+

@@ -1,0 +1,4 @@
+pub mod Assembly
+pub mod Covering
+pub mod Rows
+pub mod Words

@@ -1,0 +1,7 @@
+pub mod Answers
+pub mod Dealing
+pub mod Hearing
+pub mod Theorem
+pub mod Rules
+pub mod Story
+pub mod Words

@@ -1,0 +1,16 @@
+pub mod Calls
+pub mod Cut
+pub mod Direction
+pub mod Example
+pub mod Judging
+pub mod Lists
+pub mod Opening
+pub mod Theorem
+pub mod Reading
+pub mod Reads
+pub mod Sound
+pub mod Table
+pub mod Undamaged
+pub mod Verdicts
+pub mod Claim
+pub mod Ends

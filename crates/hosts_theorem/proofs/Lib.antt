@@ -1,0 +1,10 @@
+pub mod Answers
+pub mod Dealings
+pub mod Example
+pub mod In
+pub mod Noted
+pub mod Out
+pub mod Owed
+pub mod Pieces
+pub mod Theorem
+pub mod Starts

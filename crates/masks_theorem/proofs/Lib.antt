@@ -1,0 +1,10 @@
+pub mod Example
+pub mod Goes
+pub mod Keys
+pub mod Looks
+pub mod Theorem
+pub mod Quiet
+pub mod Reads
+pub mod Sealing
+pub mod Slots
+pub mod Steps

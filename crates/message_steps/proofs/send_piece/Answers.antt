@@ -1,0 +1,81 @@
+-- `message_steps::send_piece` meets its contract: the content is put in its slot and the record laid, or nothing is done. Assumes nothing.
+use Prim.Native.Nat.{ℕ, ◌+◌, ◌-◌, ◌*◌, ◌≤◌, ◌<◌}
+use borrow.Rule.Slice.PartMut.{put_mid}
+use lib.ListN.{length, get_or, take, drop}
+use mathlib.Core.List.{List}
+use mathlib.Core.Path.{◌≡◌, sym, ap, subst, ◌∙◌}
+use native.Mathlib.Omega.{arith}
+use Rattle.base.specs.Parts.{part, splice, splice-here, lent}
+use Rattle.outgoing.specs.Send.{Clear, spot_of}
+use Rattle.flight.specs.Flight.{counted}
+use Rattle.flight.specs.Save.{save_safe, kept-fits}
+use Rattle.messages.specs.Cut.{epoch_of}
+use Rattle.messages.specs.Message.{content_of, length-content}
+use Rattle.send_words.specs.Words.{state_of}
+use Rattle.flight_words.specs.Words.{saved-at}
+use Rattle.save_steps.specs.Save.{saves-laid, saves-nothing}
+use borrow.Author.Rules.{rules}
+use Rattle.message_steps.proofs.send_piece.Reads as reads
+use Rattle.message_steps.proofs.send_piece.Lts as lts
+use Rattle.messages.proofs.epoch_of.Reads as epoch-of-reads
+use Rattle.messages.proofs.write_content.Reads as write-content-reads
+use Rattle.send_keys.proofs.is_done.Reads as is-done-reads
+use Rattle.save_steps.proofs.lay_saved.Reads as lay-saved-reads
+use Rattle.save_steps.proofs.save_answer.Reads as save-answer-reads
+use Rattle.words.proofs.low.Reads as low_reads
+use Rattle.message_steps.proofs.send_piece.Goals as goal
+
+-- what was put in a slot is found there
+slot-put : (g n : ℕ) (w z x : List ℕ) → x ≡ w → length w ≡ n → g + n ≤ length z → take (g + n - g) (drop g (put_mid g (g + n - g) z x)) ≡ w
+slot-put g n w z x ex h l =
+    let e : g + n - g ≡ length w = omega arith in
+    rw ex (ap (λ (d : List ℕ). take (g + n - g) (drop g d)) (lent g (g + n) z w (omega arith))
+    ∙ ap (λ (k : ℕ). part g k (splice g w z)) e ∙ splice-here g w z (omega arith))
+
+-- src/lib.rt:88:20
+pub overflow_mul-from : goal.overflow_mul-from
+overflow_mul-from c = let a = c.args in let f = kept-fits (save_safe (state_of a.w.now) (counted (get_or a.f.now saved-at 0)) (length a.memory.now) (length a.kept.now) c.epoch_of-epoch.result 22 (12 + a.size) (rw c.save_answer-v.ensures.answer at (sym c.is_done.ensures ∙ c.if-is_done.true))).keeps in omega arith
+
+-- src/lib.rt:89:19
+pub overflow_add-end : goal.overflow_add-end
+overflow_add-end c = let a = c.args in let f = kept-fits (save_safe (state_of a.w.now) (counted (get_or a.f.now saved-at 0)) (length a.memory.now) (length a.kept.now) c.epoch_of-epoch.result 22 (12 + a.size) (rw c.save_answer-v.ensures.answer at (sym c.is_done.ensures ∙ c.if-is_done.true))).keeps in omega arith
+
+-- src/lib.rt:90:33
+pub slice_bounds-write_content-end : goal.slice_bounds-write_content-end
+slice_bounds-write_content-end c = let a = c.args in let f = kept-fits (save_safe (state_of a.w.now) (counted (get_or a.f.now saved-at 0)) (length a.memory.now) (length a.kept.now) c.epoch_of-epoch.result 22 (12 + a.size) (rw c.save_answer-v.ensures.answer at (sym c.is_done.ensures ∙ c.if-is_done.true))).keeps in omega arith
+
+-- src/lib.rt:91:51
+pub slice_bounds-lay_saved-end : goal.slice_bounds-lay_saved-end
+slice_bounds-lay_saved-end c = let a = c.args in let f = kept-fits (save_safe (state_of a.w.now) (counted (get_or a.f.now saved-at 0)) (length a.memory.now) (length a.kept.now) c.epoch_of-epoch.result 22 (12 + a.size) (rw c.save_answer-v.ensures.answer at (sym c.is_done.ensures ∙ c.if-is_done.true))).keeps in search rules
+
+-- src/lib.rt:91:9
+pub lay_saved-requires : goal.lay_saved-requires
+lay_saved-requires c = let a = c.args in
+    let x = content_of a.kind (state_of a.w.now).message_seq a.body.now a.at a.size in
+    let w = length-content a.kind (state_of a.w.now).message_seq a.body.now a.at a.size c.requires.0 in
+    let k = save_safe (state_of a.w.now) (counted (get_or a.f.now saved-at 0)) (length a.memory.now) (length a.kept.now) c.epoch_of-epoch.result 22 (12 + a.size) (rw c.save_answer-v.ensures.answer at (sym c.is_done.ensures ∙ c.if-is_done.true)) in
+    let i = get_or a.f.now saved-at 0 * (state_of a.w.now).queue.mtu in
+    let z = rw c.low-seq.ensures at c.write_content.ensures in
+    let y = slot-put i (12 + a.size) x a.kept.now _ z w (kept-fits k.keeps).0 in
+    subst (λ (n : ℕ). Clear (state_of a.w.now) (length a.memory.now) c.epoch_of-epoch.result n × (c.save_answer-v.result.place ≡ spot_of (state_of a.w.now) c.epoch_of-epoch.result n) × (get_or a.f.now saved-at 0 < 12))
+    (sym (ap length y ∙ w)) (k.clear, c.save_answer-v.ensures.place (sym c.is_done.ensures ∙ c.if-is_done.true), k.keeps.saved)
+
+-- src/lib.rt:92:9
+pub returns-then-is_done : goal.returns-then-is_done
+returns-then-is_done c = let a = c.args in
+    let x = content_of a.kind (state_of a.w.now).message_seq a.body.now a.at a.size in
+    let w = length-content a.kind (state_of a.w.now).message_seq a.body.now a.at a.size c.requires.0 in
+    let k = save_safe (state_of a.w.now) (counted (get_or a.f.now saved-at 0)) (length a.memory.now) (length a.kept.now) c.epoch_of-epoch.result 22 (12 + a.size) (rw c.save_answer-v.ensures.answer at (sym c.is_done.ensures ∙ c.if-is_done.true)) in
+    let i = get_or a.f.now saved-at 0 * (state_of a.w.now).queue.mtu in
+    let z = rw c.low-seq.ensures at c.write_content.ensures in
+    let y = slot-put i (12 + a.size) x a.kept.now _ z w (kept-fits k.keeps).0 in
+    let r = rw (y, c.epoch_of-epoch.ensures) at c.lay_saved.ensures in
+    saves-laid (epoch_of a.kind) 22 x a.w.now a.f.now a.memory.now a.kept.now (rw w (rw c.epoch_of-epoch.ensures at c.save_answer-v.ensures.answer)) _ _ _ _ (sym c.is_done.ensures ∙ c.if-is_done.true) r.0 r.1 r.2
+    (ap (put_mid i (i + (12 + a.size) - i) a.kept.now) z ∙ lent i (i + (12 + a.size)) a.kept.now x (omega (arith, w)))
+
+-- src/lib.rt:67:1
+pub returns : goal.returns
+returns c = let a = c.args in
+    let x = content_of a.kind (state_of a.w.now).message_seq a.body.now a.at a.size in
+    let w = length-content a.kind (state_of a.w.now).message_seq a.body.now a.at a.size c.requires.0 in
+    saves-nothing (epoch_of a.kind) 22 x a.w.now a.f.now a.memory.now a.kept.now (rw w (rw c.epoch_of-epoch.ensures at c.save_answer-v.ensures.answer)) (sym c.is_done.ensures ∙ c.if-is_done.false)

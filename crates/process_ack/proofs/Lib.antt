@@ -1,0 +1,2 @@
+pub mod Ack
+pub mod Status

@@ -1,0 +1,27 @@
+-- `recv_steps::locked_step` meets its contract, by what the epoch bits resolve to. Assumes nothing.
+use mathlib.Core.Path.{sym, ◌∙◌}
+use Rattle.base.specs.Choose.{if_true, if_false}
+use borrow.Author.Tests.{lt-ltb, le-ltb}
+use native.Mathlib.Omega.{arith}
+use Rattle.recv_keys.specs.Laws.{resolve-keyed}
+use Rattle.records.specs.Records.{locked_step}
+use Rattle.recv_steps.proofs.locked_step.Goals as goal
+
+pub returns-then-length-lt16 : goal.returns-then-length-lt16
+unfolding locked_step
+returns-then-length-lt16 c = rw (sym c.resolve_epoch-f.ensures ∙ c.in-At.is) (c.pass-then-length-lt16.ensures ∙ sym (if_true _ _ (lt-ltb _ _ c.if-length-lt16.true)))
+
+pub returns-then-length-w : goal.returns-then-length-w
+unfolding locked_step
+returns-then-length-w c = rw (sym c.resolve_epoch-f.ensures ∙ c.in-At.is) (c.pass-then-length-w.ensures ∙ sym (if_false _ _ (le-ltb _ _ c.if-length-lt16.false) ∙ if_true _ _ (lt-ltb _ _ c.if-length-w.true)))
+
+pub epoch_at-requires : goal.epoch_at-requires
+epoch_at-requires c = omega (arith, resolve-keyed _ _ _ (sym c.resolve_epoch-f.ensures ∙ c.in-At.is), c.requires.0)
+
+pub returns-in-Nothing : goal.returns-in-Nothing
+unfolding locked_step
+returns-in-Nothing c = rw (sym c.resolve_epoch-f.ensures ∙ c.in-Nothing.is) c.pass.ensures
+
+pub returns-else-length-w : goal.returns-else-length-w
+unfolding locked_step
+returns-else-length-w c = rw (sym c.resolve_epoch-f.ensures ∙ c.in-At.is) (rw c.epoch_at.ensures at c.ask_mask.ensures ∙ sym (if_false _ _ (le-ltb _ _ c.if-length-lt16.false) ∙ if_false _ _ (le-ltb _ _ c.if-length-w.false)))

@@ -1,0 +1,7 @@
+-- `save_steps::put_saved` meets its contract. Assumes nothing.
+use Rattle.save_steps.specs.Save.{adds}
+use Rattle.save_steps.proofs.put_saved.Goals as goal
+
+-- src/lib.rt:64:1
+pub returns : goal.returns
+returns c = adds _ _ _ _ _ _ c.sized.ensures c.requires c.put_entry.ensures.0 c.put_entry.ensures.1

@@ -1,0 +1,4 @@
+pub mod Leaves
+pub mod Queued
+pub mod Whole
+pub mod Lay
