@@ -4,7 +4,7 @@
     crates/run_pieces/expected.py [FOLDER]
 
 `Reassembly` is written from the wording of 02, 2 and 7 and keeps whole pieces; no Rattle takes part, and rt is not needed. The files are always the
-same. `rt check run_pieces` runs the program on stdin and compares what it writes with stdout.
+same. `rt ci run_pieces` runs the program on stdin and compares what it writes with stdout.
 
 A line is a letter, a space and bytes in lowercase hexadecimal; integers are big-endian.
 
