@@ -3,7 +3,6 @@ use Rattle.std.specs.Prelude.{true, List, [], ◌∷◌, ◌++◌, ◌≡◌, re
 use Rattle.std.proofs.lemmas.Bool.{false≢true}
 use Rattle.std.proofs.Common.{sym, ap, subst, ◌∙◌, arith, length-append}
 use Rattle.base.specs.Choose.{test_cases, if_true, if_false}
-use Rattle.base.specs.Parts.{part}
 use Rattle.queue.specs.declared.Queue.{Queue}
 use Rattle.queue.specs.Queue.{slot_of, InRange}
 use Rattle.queue.specs.Laid.{record_bytes}

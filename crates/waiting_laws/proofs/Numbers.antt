@@ -13,7 +13,7 @@ use Rattle.queue.specs.Laid.{trailer_of}
 use Rattle.send_keys.specs.declared.SendKeys.{SendKeys}
 use Rattle.send_keys.specs.Keys.{is_usable, is_keyed, next_of, used, sealed_up_to, next-handshake, next-application}
 use Rattle.outgoing.specs.declared.Waiting.{Waiting}
-use Rattle.waiting_laws.specs.Queued.{Queued, plain, waits, sealed, laid_as, numbers_of, waits_in, oldest_in, Runs, Agrees}
+use Rattle.waiting_laws.specs.Queued.{Queued, plain, waits, laid_as, numbers_of, waits_in, oldest_in, Runs, Agrees}
 use Rattle.waiting_laws.proofs.First.{seal_with, put_with, first_in, under-sealed, numbers-sealed, under_first, under-put, numbers-put}
 use Rattle.waiting_laws.proofs.Lists.{numbers-append, under-append, runs_snoc, runs-length}
 
