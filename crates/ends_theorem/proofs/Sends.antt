@@ -491,9 +491,9 @@ sends_keep masks x (take· buffer) i h = take-keeps masks x i buffer
 
 -- what was sealed stays so
 sealed-more : (a : SealAnswer) (o : Option Lent) (before behind : List ℕ) (f : ℕ → List Sealed) (e : ℕ) (r : Sealed) → Mem r (f e) → Mem r (sealed_by a o before behind f e)
-sealed-more a none before behind f e r m = m
-sealed-more a (some l) before behind f e r m =
-    by_test (λ (g : ℕ → List Sealed). Mem r (g e)) (λ d. upd-grows f l.epoch (sealed_as l before behind) e r m) (λ d. m)
+sealed-more a none u v f e r m = m
+sealed-more a (some l) u v f e r m =
+    by_test (λ (g : ℕ → List Sealed). Mem r (g e)) (λ d. upd-grows f l.epoch (sealed_as l u v) e r m) (λ d. m)
 
 pub sealed-grows : (x : Sender) (c : SendCall) (e : ℕ) (r : Sealed) → Mem r (x.sealed e) → Mem r ((sends_by x c).sealed e)
 sealed-grows x (key_send· k iv) e r m = m

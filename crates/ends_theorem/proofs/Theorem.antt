@@ -386,7 +386,7 @@ module _ (masks : Side → Masks) where
   own-counts : (s : Side) (f e : End) (d : Deed) → FairStep s f e d → ((c : Count) → Mem c e.counts → SameNumbers c) → (c : Count) → Mem c (acts f e d).counts → SameNumbers c
   own-counts s f e (sending c) z h = h
   own-counts s f e (over c q k) z h = h
-  own-counts s f e (receiving c) z h = counts_keep e _ c h
+  own-counts s f e (receiving c) z h = counts_keep e (does f.out.sealed e.into c) c h
   own-counts s f e (piecing c) z h = h
   own-counts s f e dealing z h =
       follow_by (λ (x : End). (c : Count) → Mem c x.counts → SameNumbers c) s f e (class_of e) (content_in e) h (λ a. h) (counts_keep e (does f.out.sealed e.into finish·) finish· h) z

@@ -344,17 +344,17 @@ down_refused (says.Opened k n t s l) e = settled≢down e
 
 -- what says opened is settled
 says-settled : (shown : List ℕ) (e : ℕ) (h : Handed) (r : Reading) → SaysOpened r shown e h → fate_of r ≡ settled
-says-settled shown e h says.Setting z = absurd z
-says-settled shown e h says.Reply z = absurd z
-says-settled shown e h says.End z = absurd z
-says-settled shown e h says.Incomplete z = absurd z
-says-settled shown e h says.TooMany z = absurd z
-says-settled shown e h (says.Dropped r) z = absurd z
-says-settled shown e h (says.Plaintext t n s l) z = absurd z
-says-settled shown e h (says.Unopened b n s l) z = absurd z
-says-settled shown e h (says.Mask k s) z = absurd z
-says-settled shown e h (says.Opening k n s x l) z = absurd z
-says-settled shown e h (says.Opened k n t s l) z = refl
+says-settled w e h says.Setting z = absurd z
+says-settled w e h says.Reply z = absurd z
+says-settled w e h says.End z = absurd z
+says-settled w e h says.Incomplete z = absurd z
+says-settled w e h says.TooMany z = absurd z
+says-settled w e h (says.Dropped r) z = absurd z
+says-settled w e h (says.Plaintext t n s l) z = absurd z
+says-settled w e h (says.Unopened b n s l) z = absurd z
+says-settled w e h (says.Mask k s) z = absurd z
+says-settled w e h (says.Opening k n s x l) z = absurd z
+says-settled w e h (says.Opened k n t s l) z = refl
 
 down≢ : {A : Type 0} → turnedDown ≡ underway → A
 down≢ e = underway≢down (sym e)
