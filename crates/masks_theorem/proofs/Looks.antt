@@ -8,7 +8,7 @@ use Rattle.ends_theorem.proofs.Theorem.{Good, run-keeps}
 use Rattle.ends_theorem.proofs.Sends.{Sends}
 use Rattle.ends_theorem.specs.World.{Side, post, gateway, far, World, run}
 use Rattle.hosts_theorem.specs.Log.{Host, Act, Made, behind}
-use Rattle.hosts_theorem.specs.Claim.{Hosts, CCall, put, runs, AllMade, Stands, deeds_of, events_of, Owed, FairDeeds, AllFair, sight_of}
+use Rattle.hosts_theorem.specs.Claim.{Hosts, CCall, put, after, runs, AllMade, Stands, deeds_of, events_of, Owed, FairDeeds, AllFair, sight_of}
 use Rattle.hosts_theorem.proofs.Theorem.{Seen, all_seen}
 use Rattle.masks_theorem.specs.Hosts.{at}
 
@@ -44,25 +44,25 @@ MadeAll f h (a ∷ rest) = Made h a × MadeAll f (behind f h a) rest
 
 pub made_at : (s : Side) (hs : Hosts) (acts : List Act) → MadeAll (hs (far s)) (hs s) acts → AllMade hs (at s acts)
 made_at post hs [] m = tt
-made_at post hs (a ∷ rest) m = (m.0, made_at post _ rest m.1)
+made_at post hs (a ∷ rest) m = (m.0, made_at post (after hs (record { side = post; act = a })) rest m.1)
 made_at gateway hs [] m = tt
-made_at gateway hs (a ∷ rest) m = (m.0, made_at gateway _ rest m.1)
+made_at gateway hs (a ∷ rest) m = (m.0, made_at gateway (after hs (record { side = gateway; act = a })) rest m.1)
 
 pub runs_own : (s : Side) (hs : Hosts) (acts : List Act) → runs hs (at s acts) s ≡ behind_all (hs (far s)) (hs s) acts
 runs_own post hs [] = refl
-runs_own post hs (a ∷ rest) = runs_own post _ rest
+runs_own post hs (a ∷ rest) = runs_own post (after hs (record { side = post; act = a })) rest
 runs_own gateway hs [] = refl
-runs_own gateway hs (a ∷ rest) = runs_own gateway _ rest
+runs_own gateway hs (a ∷ rest) = runs_own gateway (after hs (record { side = gateway; act = a })) rest
 
 pub runs-far : (s : Side) (hs : Hosts) (acts : List Act) → runs hs (at s acts) (far s) ≡ hs (far s)
 runs-far post hs [] = refl
-runs-far post hs (a ∷ rest) = runs-far post _ rest
+runs-far post hs (a ∷ rest) = runs-far post (after hs (record { side = post; act = a })) rest
 runs-far gateway hs [] = refl
-runs-far gateway hs (a ∷ rest) = runs-far gateway _ rest
+runs-far gateway hs (a ∷ rest) = runs-far gateway (after hs (record { side = gateway; act = a })) rest
 
 pub made-both : (hs : Hosts) (us vs : List CCall) → AllMade hs us → AllMade (runs hs us) vs → AllMade hs (us ++ vs)
 made-both hs [] vs m n = n
-made-both hs (u ∷ us) vs m n = (m.0, made-both _ us vs m.1 n)
+made-both hs (u ∷ us) vs m n = (m.0, made-both (after hs u) us vs m.1 n)
 
 module _ (masks : Side → Masks) where
   abbrev pub FairAll : Side → Host → Host → List Act → Type 0
@@ -71,13 +71,13 @@ module _ (masks : Side → Masks) where
 
   pub fair-at : (s : Side) (hs : Hosts) (acts : List Act) → FairAll s (hs (far s)) (hs s) acts → AllFair masks hs (at s acts)
   fair-at post hs [] m = tt
-  fair-at post hs (a ∷ rest) m = (m.0, fair-at post _ rest m.1)
+  fair-at post hs (a ∷ rest) m = (m.0, fair-at post (after hs (record { side = post; act = a })) rest m.1)
   fair-at gateway hs [] m = tt
-  fair-at gateway hs (a ∷ rest) m = (m.0, fair-at gateway _ rest m.1)
+  fair-at gateway hs (a ∷ rest) m = (m.0, fair-at gateway (after hs (record { side = gateway; act = a })) rest m.1)
 
   pub fair-both : (hs : Hosts) (us vs : List CCall) → AllFair masks hs us → AllFair masks (runs hs us) vs → AllFair masks hs (us ++ vs)
   fair-both hs [] vs m n = n
-  fair-both hs (u ∷ us) vs m n = (m.0, fair-both _ us vs m.1 n)
+  fair-both hs (u ∷ us) vs m n = (m.0, fair-both (after hs u) us vs m.1 n)
 
   -- ---- what holds of both hosts
 
