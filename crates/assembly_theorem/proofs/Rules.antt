@@ -3,7 +3,6 @@
 use Rattle.std.specs.Prelude.{Bool, true, false, ◌↔◌, ◌≡◌, ℕ, zero, suc, ◌≤◌, ◌<◌, leb, ltb, eqb, length, take, drop, replicate}
 use Rattle.std.proofs.Math.Bool.{false≢true}
 use mathlib.Core.List.Memᴰ.{head as here}
-use mathlib.Core.List.Memᴰ.{tail as there}
 use mathlib.Core.List.{List, [], ◌∷◌, Memᴰ as Mem}
 use Rattle.std.proofs.Common.{⊎_elim, sym, ◌∙◌, length-take}
 use Rattle.std.proofs.Math.Option.{Option, none, some}
@@ -11,11 +10,11 @@ use Rattle.std.proofs.Math.Path.{refl, ap, subst}
 use native.Mathlib.Omega.{arith}
 use borrow.Author.Tests.{ltb-true, ltb-false, leb-true, leb-false, eqb-true, eqb-false, lt-ltb, le-ltb, eq-eqb, ne_eqb}
 use Rattle.std.proofs.lemmas.List.{length-replicate}
-use Rattle.base.specs.Choose.{choose, both, by_test, by_less, if_true, if_false, test_cases, eq-or_ne, lt-or_ge, both_true, both_left, both_right, either_true, either-false}
+use Rattle.base.specs.Choose.{choose, both, by_test, by_less, if_true, if_false, test_cases, lt-or_ge, both_true, both_left, both_right}
 use Rattle.base.specs.Every.{every-each, each-every, one-fails}
 use Rattle.history_theorem.proofs.Lists.{mem-by}
 use Rattle.assembly_theorem.specs.Account.{most_taken, longest_body, last_number, Fragment, fragment_in, end_of, has, byte_in, covers, covers_all, oldest, is_among, shares_all, Account, Verdict, begun, turned, ended, over, other, same, held, whole, is_fit, is_agreed, taken_as, judged, read_as, owed, ends, settled, or_none, reads_from, after}
-use Rattle.assembly_theorem.proofs.Agreement.{Same, same-one, one_same, Among, among, is-among, Shares, shares_each, one_differs, oldest-in}
+use Rattle.assembly_theorem.proofs.Agreement.{same-one, Among, among, is-among, Shares, shares_each, one_differs, oldest-in}
 use Rattle.assembly_theorem.specs.Claim.{PieceCall, begin·, take·, Out, Piecing, new_piecing, logged, does, FairPiece, Log, none as no-message, more, ran, AllFair}
 use Rattle.assembly_theorem.proofs.Laws.{length-stays}
 use Rattle.assembly_theorem.proofs.ReadLaws.{kept-count}

@@ -2,9 +2,8 @@
 use Rattle.std.specs.Prelude.{Bool, ◌≡◌, leb, ltb, eqb, set, take, drop}
 use Rattle.std.proofs.Math.Bool.{true, false}
 use Rattle.std.proofs.lemmas.Bool.{false≢true}
-use mathlib.Core.List.Memᴰ.{head as here}
 use mathlib.Core.List.{List, [], ◌∷◌, Memᴰ as Mem}
-use Rattle.std.proofs.Common.{⊎_elim, ◌∙◌, mod-eq_of_lt, get_or-set_same, get_or-set_other, get_or-take, length-take-le}
+use Rattle.std.proofs.Common.{◌∙◌, mod-eq_of_lt, get_or-set_same, get_or-set_other, get_or-take, length-take-le}
 use Rattle.std.proofs.Math.Option.{Option, none, some}
 use Rattle.std.proofs.Math.Path.{refl, sym, ap, subst}
 use Prim.Native.Nat.{ℕ, suc, ◌+◌, ◌-◌, ◌%◌, ◌≤◌, ◌<◌}
@@ -19,14 +18,14 @@ use Rattle.handshake.specs.declared.ParsedHeader.{ParsedHeader}
 use Rattle.handshake.specs.declared.ParsedHeader.TheVariants as parsed
 use Rattle.assembly.specs.declared.Piece.TheVariants as piece
 use Rattle.assembly.specs.Spans.{most_bytes, most-pieces, last-number, words, expected-at, count_at, type_at, total-at, size-at, place_at, offset_at, length_at, expected_of, count_of, type_of, total_of, size_of, place_of, within, covered, is_whole, is_same, all_shared}
-use Rattle.assembly.specs.Assembly.{Outcome, outcome, begun, moved, ended, held, handed, piece_at, body_at, next_at, is_fit, is_alike, is_agreed, finished, offered, read_at, taken}
+use Rattle.assembly.specs.Assembly.{Outcome, outcome, begun, moved, ended, handed, piece_at, body_at, next_at, is_fit, is_alike, is_agreed, finished, offered, read_at, taken}
 use Rattle.assembly.proofs.Assembly.{fit-number, fit-end}
 use Rattle.assembly.proofs.Words.{held-expected, held-size, held_place, length-held, held-count, held_start, held-span, last-start, last-span, first-type, first-total, later-type, later-total}
 use Rattle.history_theorem.proofs.Lists.{by_both, mem-by}
 use Rattle.assembly_theorem.specs.Account as account
 use Rattle.assembly_theorem.specs.Account.{head_bytes, Fragment, fragment_in, end_of, has, byte_in, covers, covers_all, byte_of, oldest, is_among, shares_all, Account, Verdict, turned, over, other, same, whole, taken_as, judged, read_as, owed, passes, ends, holds, hands, settled, or_none, reads_from}
-use Rattle.assembly_theorem.proofs.Agreement.{alike, same-is, Same, is-same, among, is-among, has_from, has_to, is-has, covers_one, one_covers, byte-first, Shares, shares_each, each_shares}
-use Rattle.assembly_theorem.specs.Claim.{verdict_of, logged, is_taken, WroteOnly, Out, Agrees, Right, Log, more}
+use Rattle.assembly_theorem.proofs.Agreement.{alike, Same, among, is-among, has_from, has_to, is-has, covers_one, one_covers, byte-first, shares_each, each_shares}
+use Rattle.assembly_theorem.specs.Claim.{verdict_of, logged, is_taken, WroteOnly, Out, Right, Log, more}
 use Rattle.assembly_theorem.proofs.Laws.{Sound, is-sound, held-total, words_held, bytes_held, piece_inside, shared_each, each_shared, length-put, put-here, put-beside, put-covered, whole_each}
 use Rattle.assembly_theorem.proofs.ReadLaws.{fragment_of, as_fragment, reads_same, within_has, Kept, empty, next, kept-covers, kept-all, kept-count, kept-found, kept-has, kept-still}
 

@@ -9,11 +9,10 @@ use Rattle.std.proofs.Math.Option.{Option, none, some}
 use Rattle.std.proofs.Math.Path.{sym}
 use Rattle.base.specs.Choose.{by_test, if_true, if_false, lt-or_ge, both_false}
 use Rattle.history_theorem.proofs.Lists.{mem-by}
-use Rattle.assembly.specs.Spans.{words}
 use Rattle.assembly.specs.Assembly as assembly
 use Rattle.assembly.specs.Assembly.{Outcome, outcome}
 use Rattle.assembly.specs.declared.Piece.TheVariants as piece
-use Rattle.assembly_theorem.specs.Account.{longest_body, Fragment, fragment_in, covers, Account, Verdict, begun, turned, ended, over, other, same, held, whole, read_as, owed, begins, settled, or_none, reads_from, after}
+use Rattle.assembly_theorem.specs.Account.{longest_body, Fragment, fragment_in, Account, Verdict, begun, turned, ended, over, other, same, held, whole, read_as, owed, begins, settled, or_none, reads_from, after}
 use Rattle.assembly_theorem.proofs.Agreement.{one_covers}
 use Rattle.assembly_theorem.specs.Claim.{PieceCall, begin·, take·, Told, Given, Wrote, Out, Piecing, new_piecing, verdict_of, logged, takes, does, FairPiece, is_taken, WroteOnly, Log, none as no-message, Came, Assembled, ran, AllFair, EveryRun}
 use Rattle.assembly_theorem.proofs.Laws.{is-sound}

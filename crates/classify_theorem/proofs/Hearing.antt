@@ -10,7 +10,6 @@ use Rattle.std.proofs.Math.Path.{refl, ap, subst}
 use Rattle.std.proofs.Common.{sym, ◌∙◌, arith}
 use Rattle.std.proofs.Math.Dec.{eqb}
 use Rattle.base.specs.Choose.{choose, by_test, if_true, if_false}
-use Rattle.datagram.specs.Datagram.{told}
 use Rattle.datagram.specs.Keeps.{refused}
 use Rattle.datagram.specs.declared.Datagram.{Datagram}
 use Rattle.datagram.specs.declared.Question.TheVariants as question
@@ -22,7 +21,6 @@ use Rattle.datagram.specs.declared.Step.{Step}
 use Rattle.mask_reply.proofs.Leads.{by-judged}
 use Rattle.mask_reply.specs.Mask.{judged, masked_at, masked_by, masking, mask_step}
 use Rattle.opening_reply.specs.Opening.{shown_by}
-use Rattle.opening_reply.specs.declared.Opening.TheVariants as reply
 use Rattle.opening_reply.specs.declared.Opening.{Opening}
 use Rattle.receiving.specs.Laws.{mask-writes_not}
 use Rattle.receiving.specs.Receiving.{answer_number, key_of, begin_of, mask_of}
@@ -39,60 +37,7 @@ use Rattle.history_theorem.proofs.Calls.{begin_told}
 use Rattle.history_theorem.specs.Claim.{Masks, Proper, FairCall}
 use Rattle.history_theorem.proofs.Lists.{mem-by}
 use Rattle.history_theorem.proofs.Reading.{read-sound, mask-sound, open_sound}
-use Rattle.history_theorem.specs.Receiver.{
-  Sealed,
-  Trial,
-  Tried,
-  Deed,
-  a_read,
-  a_mask_reply,
-  an_open_reply,
-  Receiver,
-  Out,
-  Use,
-  unused,
-  use_in,
-  fate_of,
-  next_account,
-  with_state,
-  removed_from,
-  removed,
-  begun,
-  begin_owed,
-  leaves_rest,
-  finishes,
-  written_in,
-  wrote,
-  after,
-  after_read,
-  after_mask,
-  after_open,
-  comes_to,
-  reached,
-  read_out,
-  mask_out,
-  open_out,
-  readings_by,
-  question_in,
-  settled_as,
-  settled_at,
-  Inbound,
-  Call,
-  key·,
-  remove·,
-  encrypt·,
-  release·,
-  begin·,
-  read·,
-  mask·,
-  write·,
-  open·,
-  read_over·,
-  mask_over·,
-  open_over·,
-  finish·,
-  does,
-}
+use Rattle.history_theorem.specs.Receiver.{Sealed, Trial, Tried, Deed, a_read, a_mask_reply, an_open_reply, Receiver, Out, Use, unused, use_in, fate_of, next_account, with_state, removed_from, removed, begun, begin_owed, leaves_rest, finishes, written_in, wrote, after, after_read, after_mask, after_open, comes_to, reached, read_out, open_out, readings_by, question_in, settled_as, settled_at, Inbound, Call, key·, remove·, encrypt·, release·, begin·, read·, mask·, write·, open·, read_over·, mask_over·, open_over·, finish·, does}
 use Rattle.history_theorem.proofs.Sound.{UnderWay, Sound}
 use Rattle.history_theorem.proofs.Verdicts.{read-turned, open_turned}
 use Rattle.classify_theorem.specs.Account.{Pending, forgets, begins}

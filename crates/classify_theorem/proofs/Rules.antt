@@ -13,7 +13,7 @@ use Rattle.base.specs.Choose.{choose, by_test, if_true, if_false, test_cases, bo
 use Rattle.datagram.specs.declared.Reading.TheVariants as says
 use Rattle.datagram.specs.declared.Reading.{Reading}
 use Rattle.history_theorem.specs.Claim.{Due, SaysOpened, as_handed, Received}
-use Rattle.history_theorem.proofs.Lists.{some_inj, some≢none}
+use Rattle.history_theorem.proofs.Lists.{some≢none}
 use Rattle.history_theorem.specs.Receiver.{Sealed, Handed, Tried, Inbound}
 use Rattle.classify_theorem.specs.Account.{alert_type, ack_type, close_notify, user_canceled, Pending, Place, Verdict, turned, noneWaits, beyond, unprotected, ignored, marks, closes, tells, handshake, application_data, other, unopened, is_past, first_only, alert_owed, type_owed, sealed_owed, is_dropped, plain_owed, place_of, kind_owed, reading_owed, Reply}
 use Rattle.classify_theorem.specs.Claim.{Dealt, Dealings, is_reading, Is, Kept, was-dealt, was-missed, still-waits, Classified}

@@ -1,5 +1,5 @@
 -- What a number in decimal is: how long, which characters, no leading zero, and read back it is the number. Assumes nothing.
-use Rattle.std.specs.Prelude.{◌≡◌, refl, ℕ, zero, suc, ◌-◌, ◌/◌, ◌<◌, ◌≤◌}
+use Rattle.std.specs.Prelude.{◌≡◌, refl, ℕ, zero, suc, ◌/◌, ◌<◌, ◌≤◌}
 use Rattle.std.proofs.Common.{⊎_elim, ◌∙◌, arith, lt-ltb, le-ltb}
 use Rattle.base.specs.Choose.{if_true, if_false, lt-or_ge}
 use Rattle.decimal.specs.Decimal.{places_up_to}

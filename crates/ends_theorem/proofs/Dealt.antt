@@ -5,7 +5,6 @@ use Rattle.std.proofs.Common.{sym, ap, subst, ◌∙◌}
 use Rattle.base.specs.Choose.{choose}
 use Rattle.process_ack.specs.Ack.{acked}
 use Rattle.waiting_laws.specs.Calls.{Stores, ack·}
-use Rattle.history_theorem.specs.Account as history
 use Rattle.history_theorem.specs.Account.{Shown, nothing}
 use Rattle.history_theorem.specs.Receiver.{leaves_rest}
 use Rattle.history_theorem.proofs.Sound.{Sound}

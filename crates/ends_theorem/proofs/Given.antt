@@ -1,6 +1,6 @@
 -- What the host wrote into the part lent for a sealing lies there until its reply, and a take changes the host's buffer by the datagram alone. Assumes
 -- nothing.
-use Rattle.std.specs.Prelude.{ℕ, ◌+◌, ◌*◌, length, drop, true, false, ◌≡◌, refl}
+use Rattle.std.specs.Prelude.{ℕ, ◌*◌, length, drop, true, ◌≡◌, refl}
 use Rattle.std.proofs.Math.Dec.{eqb}
 use Rattle.std.proofs.Common.{length-take, length-drop, sym, subst, ◌∙◌, arith}
 use Rattle.std.proofs.lemmas.Bool.{false≢true}

@@ -28,7 +28,7 @@ use Rattle.receiving.specs.declared.Answer.{Answer}
 use Rattle.receiving.specs.declared.Kept.{Kept}
 use Rattle.receiving.specs.declared.Receiving.{Receiving}
 use Rattle.recv_keys.specs.Keeps.{found-epoch, installed-other, installed-last, left-keyed}
-use Rattle.recv_keys.specs.Keys.{no_entry, entry_at, find, was_found, is_keyed, fresh, released, is_full, installed, left}
+use Rattle.recv_keys.specs.Keys.{no_entry, entry_at, find, was_found, is_keyed, fresh, is_full, installed, left}
 use Rattle.recv_keys.specs.Laws.{found-keyed}
 use Rattle.recv_keys.specs.declared.Found.TheVariants as found
 use Rattle.recv_keys.specs.declared.Found.{Found}

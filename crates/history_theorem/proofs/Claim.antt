@@ -1,6 +1,6 @@
 -- Demand 3 at a receiving end: what is asked of the host, and what then holds, against the records that the far end sealed.
 -- Quotations are the demand's, or from 01's paragraph e.
-use Rattle.std.specs.Prelude.{ℕ, ◌+◌, ◌-◌, ◌≤◌}
+use Rattle.std.specs.Prelude.{ℕ, ◌+◌, ◌≤◌}
 use mathlib.Core.List.{List}
 use Rattle.std.proofs.Common.{arith}
 use Rattle.window.specs.Used.{above}

@@ -1,6 +1,6 @@
 -- The claim's own length of the record at the front of a rest is the cut's; so is whether it is a plaintext record in order. What the cut finds
 -- is read from the rest, and the claim's own nonce is the cipher's. Assumes nothing.
-use Rattle.std.specs.Prelude.{ℕ, ◌+◌, ◌-◌, ◌*◌, ◌/◌, ◌%◌, ◌<◌, ◌≤◌, ltb, eqb, Bool, true, false, List, [], ◌∷◌, ◌⊎◌, ◌≡◌}
+use Rattle.std.specs.Prelude.{ℕ, ◌+◌, ◌-◌, ◌/◌, ◌%◌, ◌<◌, ◌≤◌, ltb, eqb, true, false, List, [], ◌∷◌, ◌≡◌}
 use borrow.Author.Tests.{ltb-true, ltb-false, lt-ltb, le-ltb, eqb-true, eqb-false, eq-eqb, ne_eqb}
 use Rattle.std.proofs.Math.ListN.{length, get_or}
 use Rattle.std.proofs.Math.Logic.{inl, inr, ⊎_elim}
@@ -8,9 +8,9 @@ use Rattle.std.proofs.Math.Path.{refl, ap, subst}
 use Rattle.std.proofs.Common.{sym, ◌∙◌}
 use native.Mathlib.Omega.{arith}
 use Rattle.base.specs.Bytes.{be_at}
-use Rattle.base.specs.Choose.{choose, both, either, if_true, if_false, by_test, test_cases}
+use Rattle.base.specs.Choose.{choose, if_true, if_false, by_test, test_cases}
 use Rattle.dtls_aead.specs.Nonce.{nonce_of}
-use Rattle.record.specs.Record.{c_flag_of, l_flag_of, header_length, fragment_len, ciphertext_of, parse_ciphertext, is_type, is_version, is_plaintext, plaintext_of, parse_plaintext, parsed}
+use Rattle.record.specs.Record.{c_flag_of, header_length, fragment_len, ciphertext_of, parse_ciphertext, is_type, is_version, is_plaintext, plaintext_of, parse_plaintext, parsed}
 use Rattle.record.specs.declared.Parsed.TheVariants as parse
 use Rattle.record.specs.declared.Parsed.{Parsed}
 use Rattle.history_theorem.specs.Account.{plain_head, head_size, said_size, sealed_size, plain_size, record_size, good_plain}

@@ -1,11 +1,10 @@
 -- One direction: what an end hands over against what the far end sealed, and a record that is due through its questions. Assumes nothing.
-use Rattle.std.specs.Prelude.{ℕ, zero, suc, ◌+◌, ◌-◌, ◌/◌, ◌%◌, ◌≤◌, ◌<◌, eqb, leb, take, drop, get_or, Bool, false, ◌↔◌, ◌⊎◌, ◌≡◌}
+use Rattle.std.specs.Prelude.{ℕ, ◌+◌, ◌-◌, ◌/◌, ◌%◌, ◌≤◌, ◌<◌, eqb, take, get_or, ◌⊎◌, ◌≡◌}
 use borrow.Author.Tests.{eqb-true, eqb-false, eq-eqb, ne_eqb, lt-leb, le-leb}
 use Rattle.std.proofs.Math.ListN.{length}
-use Rattle.std.proofs.Common.{length-append, length-take, true≢false, inl, inr, ◌∙◌, arith}
+use Rattle.std.proofs.Common.{length-append, length-take, inl, inr, ◌∙◌, arith}
 use Rattle.std.proofs.Math.Seq.{take-append_seam}
 use Rattle.std.proofs.Math.Bool.{true}
-use Rattle.std.proofs.lemmas.Bool.{false≢true}
 use mathlib.Core.List.Memᴰ.{head as here}
 use mathlib.Core.List.Memᴰ.{tail as there}
 use mathlib.Core.List.{List, [], ◌∷◌, ◌++◌, Memᴰ as Mem}
@@ -14,8 +13,8 @@ use Rattle.std.proofs.Math.Option.{Option, none, some}
 use Rattle.std.proofs.Math.Path.{refl, sym, ap, subst}
 use Rattle.base.specs.Choose.{if_true, if_false, by_test, test_cases, lt-or_ge}
 use Rattle.base.specs.Parts.{part, part-first}
-use Rattle.datagram.specs.Datagram.{is_sound, told, questioned, moved, counted, end_asked}
-use Rattle.datagram.specs.Sound.{Held, held-mask, held_open}
+use Rattle.datagram.specs.Datagram.{is_sound, told, questioned, counted}
+use Rattle.datagram.specs.Sound.{held-mask, held_open}
 use Rattle.datagram.specs.declared.Ask.{Ask}
 use Rattle.datagram.specs.declared.Datagram.{Datagram}
 use Rattle.datagram.specs.declared.Question.TheVariants as question
@@ -29,17 +28,15 @@ use Rattle.incoming.specs.Inner.{inner_of, inner_type}
 use Rattle.incoming.specs.declared.Inner.TheVariants as inner
 use Rattle.incoming.specs.declared.Inner.{Inner}
 use Rattle.mask_reply.specs.Mask.{unmasked, ruled}
-use Rattle.opening_reply.specs.Opening.{still, typed, opened_at, openings, opened_step, shown_by}
-use Rattle.opening_reply.proofs.Undamaged.{yes_hands, content-shown}
+use Rattle.opening_reply.specs.Opening.{still, typed, opened_at, opened_step, shown_by}
 use Rattle.opening_reply.specs.declared.Marked.{Marked}
 use Rattle.opening_reply.specs.declared.Opening.TheVariants as reply
 use Rattle.opening_reply.specs.declared.Opening.{Opening}
 use Rattle.datagram.specs.Keeps.{refused}
 use Rattle.receiving.specs.Calls.Call.{masking as answering, opening}
 use Rattle.receiving.specs.Laws.{made-sound, refused-stays}
-use Rattle.receiving.specs.declared.Receiving.{Receiving}
 use Rattle.record.specs.Record.{sealed_head, tag_size, unified_header}
-use Rattle.records.specs.Records.{opening_asked, read_step}
+use Rattle.records.specs.Records.{opening_asked}
 use Rattle.recv_keys.specs.Keeps.{found-epoch}
 use Rattle.recv_keys.specs.Keys.{entry_at, find, marked}
 use Rattle.recv_keys.specs.Laws.{found-keyed}
@@ -52,56 +49,15 @@ use Rattle.window.specs.declared.Verdict.TheVariants as number
 use Rattle.window.specs.declared.Verdict.{Verdict}
 use Rattle.history_theorem.specs.Account.{upd, Shown, nothing, a_mask, an_opening}
 use Rattle.history_theorem.proofs.Calls.{Leaves, as_was, no_more}
-use Rattle.history_theorem.specs.Claim.{Masks, FairMask, Opens, FairOpen, as_handed, window_marks, Due, Known, IsSeen, IsOld, Tells, SaysOpened}
+use Rattle.history_theorem.specs.Claim.{Masks, FairMask, FairOpen, as_handed, window_marks, Due, Known, IsSeen, IsOld, Tells, SaysOpened}
 use Rattle.history_theorem.specs.Half.{Shape}
 use Rattle.history_theorem.proofs.Lists.{upd_same, upd-by, some≢none, some_inj, option_cases, mem-by}
-use Rattle.history_theorem.proofs.Reading.{refusal, same_again, is_found, mask-opening, mask-refused, open_idle, open_masked, masks-again, again-is, rest-masked, idle-quiet, masked-quiet, opened-is, use_down}
+use Rattle.history_theorem.proofs.Reading.{same_again, is_found, mask-opening, mask-refused, open_idle, open_masked, masks-again, again-is, rest-masked, idle-quiet, opened-is, use_down}
 use Rattle.history_theorem.proofs.Reached.{rest-idle, reached_to}
 use Rattle.history_theorem.proofs.ReadLaws.{out_by, reads_out, masked_out}
-use Rattle.history_theorem.specs.Receiver.{
-  Sealed,
-  Handed,
-  Trial,
-  Tried,
-  Deed,
-  a_read,
-  a_mask_reply,
-  an_open_reply,
-  Receiver,
-  with_state,
-  written_in,
-  wrote,
-  Out,
-  Fate,
-  turnedDown,
-  underway,
-  settled,
-  fate_of,
-  handed_by,
-  question_in,
-  Use,
-  unused,
-  use_of,
-  spent,
-  next_trial,
-  next_tried,
-  next_account,
-  spoken_by,
-  after,
-  rest_of,
-  reached,
-  read_by,
-  read_out,
-  after_read,
-  mask_by,
-  mask_out,
-  after_mask,
-  open_by,
-  open_out,
-  after_open,
-}
+use Rattle.history_theorem.specs.Receiver.{Sealed, Handed, Trial, Tried, Deed, a_read, a_mask_reply, an_open_reply, Receiver, written_in, wrote, Out, Fate, turnedDown, underway, settled, fate_of, handed_by, question_in, Use, unused, use_of, spent, next_trial, next_tried, next_account, spoken_by, after, rest_of, reached, read_by, read_out, after_read, mask_out, after_mask, open_out, after_open}
 use Rattle.history_theorem.proofs.Sound.{UnderWay, Sound, moves-on, settled≢down, underway≢down, underway≢settled}
-use Rattle.history_theorem.proofs.Undamaged.{ask_for, wire-long, flag-set, read_is, sample-is, header_is, cipher-is, mask_is}
+use Rattle.history_theorem.proofs.Undamaged.{ask_for, flag-set, read_is, sample-is, header_is, cipher-is, mask_is}
 
 abbrev pub Shaped : Masks → (ℕ → List Sealed) → Type 0
 Shaped masks sealed = (e : ℕ) (r : Sealed) → Mem r (sealed e) → Shape masks e r

@@ -1,6 +1,6 @@
 -- Keying, removing, the flags, beginning, leaving the rest of a datagram, the host's writing and calls over other bytes keep what holds between
 -- state, account and history, and are told the numbers that the account owes them; a fresh end has it. Assumes nothing.
-use Rattle.std.specs.Prelude.{◌-◌, ◌≤◌, length, ◌≡◌}
+use Rattle.std.specs.Prelude.{◌≤◌, length, ◌≡◌}
 use Rattle.std.proofs.Math.Option.{none}
 use Rattle.std.proofs.Math.Path.{refl, sym, subst}
 use Rattle.std.proofs.Common.{◌∙◌}
@@ -9,11 +9,9 @@ use Rattle.datagram.specs.declared.Datagram.{Datagram}
 use Rattle.datagram.specs.declared.Question.TheVariants as question
 use Rattle.datagram.specs.declared.Question.{Question}
 use Rattle.receiving.specs.Laws.{Made}
-use Rattle.receiving.specs.Receiving.{made}
 use Rattle.receiving.specs.declared.Receiving.{Receiving}
-use Rattle.recv_keys.specs.Keys.{released}
 use Rattle.recv_keys.specs.declared.RecvKeys.{RecvKeys}
-use Rattle.history_theorem.specs.Account.{Account, keys}
+use Rattle.history_theorem.specs.Account.{Account}
 use Rattle.history_theorem.proofs.Lists.{some≢none, drops_on}
 use Rattle.history_theorem.specs.Receiver.{Receiver, with_state, goes_to}
 use Rattle.history_theorem.proofs.Sound.{intact_from, Sound}

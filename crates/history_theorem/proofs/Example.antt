@@ -9,7 +9,7 @@ use mathlib.Core.List.{List, [], ◌∷◌, ◌++◌, Memᴰ as Mem}
 use Rattle.std.proofs.Math.Option.{none, some}
 use Rattle.std.proofs.Common.{sym, ap, subst, ◌∙◌, arith}
 use Rattle.base.specs.Choose.{choose, both, either, both_left, both_right, by_test}
-use Rattle.base.specs.Parts.{part, splice}
+use Rattle.base.specs.Parts.{splice}
 use Rattle.base.specs.Bits.{bit}
 use Rattle.datagram.specs.Datagram.{ask_sound, ask_keyed, opening_sound, question_sound, is_sound, counted}
 use Rattle.datagram.specs.declared.Reading.TheVariants as says
@@ -30,34 +30,9 @@ use Rattle.window.specs.Used.{expected, above as aboveUsed}
 use Rattle.window.specs.Window.{verdict, marking}
 use Rattle.history_theorem.specs.Account.{tag_size, upd, key_owed, keys, resolves_to, sealed_size, plain_size, record_size, good_plain}
 use Rattle.history_theorem.specs.Claim.{Masks, Opens, window_marks, reach_of, Due, Known, PlainDue, UnopenedDue}
-use Rattle.history_theorem.specs.Half.{Shape, Event, here·, far·, Half, fresh_half, run, Honest}
+use Rattle.history_theorem.specs.Half.{Shape, Event, here·, far·, fresh_half, run, Honest}
 use Rattle.history_theorem.proofs.Lists.{some_inj, mem-by, some≢none}
-use Rattle.history_theorem.specs.Receiver.{
-  Sealed,
-  Handed,
-  Trial,
-  Tried,
-  Lost,
-  Told,
-  removed_from,
-  removed,
-  remove_owed,
-  begun,
-  begin_owed,
-  after_read,
-  after_mask,
-  after_open,
-  Call,
-  key·,
-  remove·,
-  encrypt·,
-  begin·,
-  read·,
-  mask·,
-  write·,
-  open·,
-  finish·,
-}
+use Rattle.history_theorem.specs.Receiver.{Sealed, Trial, Tried, Lost, Told, removed_from, removed, remove_owed, begun, begin_owed, after_read, after_mask, after_open, key·, remove·, encrypt·, begin·, read·, mask·, write·, open·, finish·}
 
 -- a record of one byte of application data, under a cipher that appends sixteen sevens, and one mask for all
 sealed_as : ℕ → ℕ → ℕ → Sealed

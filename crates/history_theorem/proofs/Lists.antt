@@ -1,5 +1,5 @@
 -- Small laws that the proofs share: updates, options, lists, two choices by one test. Assumes nothing.
-use Rattle.std.specs.Prelude.{ℕ, ◌+◌, ◌-◌, ◌<◌, ◌≤◌, eqb, length, drop, get_or, Bool, true, false, ◌≡◌, refl}
+use Rattle.std.specs.Prelude.{ℕ, ◌+◌, ◌-◌, ◌<◌, ◌≤◌, length, drop, get_or, Bool, true, false, ◌≡◌, refl}
 use Rattle.std.proofs.Common.{eqb-true, eq-eqb, ne_eqb, length-drop, drop-drop, take_all, true≢false, ⊎_elim, sym, ap, ◌∙◌, subst, arith}
 use Rattle.std.proofs.lemmas.Bool.{eqb-false, false≢true}
 use mathlib.Core.List.Memᴰ.{cases_cons as mem-cases}

@@ -1,12 +1,12 @@
 -- An opening reply: a yes of the right length marks exactly the number of the question, settles the record, and hands over what it shows.
 -- Assumes nothing.
-use Rattle.std.specs.Prelude.{ℕ, suc, ◌+◌, ◌-◌, ◌<◌, ◌≤◌, leb, length, Bool, false, ◌≡◌}
+use Rattle.std.specs.Prelude.{ℕ, ◌<◌, ◌≤◌, length, Bool, ◌≡◌}
 use borrow.Author.Tests.{leb-true, leb-false}
-use mathlib.Core.List.{List, [], ◌∷◌, Memᴰ as Mem}
-use Rattle.std.proofs.Math.Option.{Option, none, some}
+use mathlib.Core.List.{List, ◌∷◌, Memᴰ as Mem}
+use Rattle.std.proofs.Math.Option.{Option}
 use Rattle.std.proofs.Math.Path.{refl, sym}
-use Rattle.std.proofs.Common.{ap, subst, ◌∙◌, arith}
-use Rattle.base.specs.Choose.{if_true, if_false, by_test}
+use Rattle.std.proofs.Common.{subst, ◌∙◌, arith}
+use Rattle.base.specs.Choose.{if_true, by_test}
 use Rattle.datagram.specs.Datagram.{counted, end_asked}
 use Rattle.datagram.specs.declared.Ask.{Ask}
 use Rattle.datagram.specs.declared.Datagram.{Datagram}
@@ -27,7 +27,7 @@ use Rattle.history_theorem.specs.Claim.{Real, Shows, There, Ends, RightNonce}
 use Rattle.history_theorem.proofs.ReadLaws.{out_by}
 use Rattle.history_theorem.specs.Receiver.{Handed, Out, settled, fate_of, handed_by}
 use Rattle.history_theorem.proofs.Sound.{FreshAsked, Hands, spend_hands, hand_hands, Moves, SameKeys}
-use Rattle.history_theorem.proofs.Table.{keyed_in, Table, keyed-marked, marked-table}
+use Rattle.history_theorem.proofs.Table.{Table, keyed-marked, marked-table}
 
 -- ---- what is said of an opened record
 

@@ -1,5 +1,5 @@
 -- A read, a mask reply and an opening reply keep what holds between state, account and history. Assumes nothing.
-use Rattle.std.specs.Prelude.{ℕ, ◌-◌, ◌%◌, get_or, drop, ◌≡◌}
+use Rattle.std.specs.Prelude.{ℕ, ◌%◌, get_or, drop, ◌≡◌}
 use Rattle.std.proofs.Math.Bool.{true}
 use Rattle.std.proofs.Common.{sym, ◌∙◌}
 use mathlib.Core.List.{List}

@@ -1,22 +1,20 @@
 -- A read and a mask reply: where the record leads is what the claim's account says, no window moves, nothing is handed over, and a read says
 -- plaintext and unopened where that is due. Assumes nothing.
-use Rattle.std.specs.Prelude.{ℕ, suc, ◌+◌, ◌-◌, ◌/◌, ◌%◌, ◌<◌, ◌≤◌, leb, ltb, eqb, get_or, drop, Bool, true, false, ◌≡◌}
-use borrow.Author.Tests.{leb-true, leb-false, ltb-false, le-ltb, lt-leb, eqb-true, eqb-false}
+use Rattle.std.specs.Prelude.{ℕ, ◌+◌, ◌-◌, ◌/◌, ◌%◌, ◌<◌, ◌≤◌, eqb, get_or, drop, Bool, true, false, ◌≡◌}
+use borrow.Author.Tests.{leb-true, leb-false, le-ltb, lt-leb, eqb-true, eqb-false}
 use Rattle.std.proofs.Math.ListN.{length, length-drop}
-use Rattle.std.proofs.Common.{true≢false, ◌∙◌, arith}
+use Rattle.std.proofs.Common.{◌∙◌, arith}
 use Rattle.std.proofs.lemmas.Bool.{false≢true}
-use mathlib.Core.List.{List, [], ◌∷◌}
-use Rattle.std.proofs.Math.Option.{Option, none, some}
+use mathlib.Core.List.{List}
+use Rattle.std.proofs.Math.Option.{Option, some}
 use Rattle.std.proofs.Math.Path.{refl, sym, ap, subst}
 use Rattle.base.specs.Bytes.{be_at, xors, length-xors}
 use Rattle.base.specs.Choose.{if_true, if_false, by_test}
-use Rattle.base.specs.Parts.{part, length_part, part-behind, splice, length-splice}
-use Rattle.datagram.specs.Datagram.{question_sound, told, moved, questioned, ended, passed, counted, end_asked}
+use Rattle.base.specs.Parts.{part, length_part, part-behind, length-splice}
+use Rattle.datagram.specs.Datagram.{told, moved, ended, passed, counted, end_asked}
 use Rattle.datagram.specs.Sound.{Held, Ready}
 use Rattle.datagram.specs.declared.Ask.{Ask}
 use Rattle.datagram.specs.declared.Datagram.{Datagram}
-use Rattle.datagram.specs.declared.Question.TheVariants as question
-use Rattle.datagram.specs.declared.Question.{Question}
 use Rattle.datagram.specs.declared.Reading.TheVariants as says
 use Rattle.datagram.specs.declared.Reading.{Reading}
 use Rattle.datagram.specs.declared.Reason.{Reason}
@@ -38,12 +36,12 @@ use Rattle.recv_keys.specs.Laws.{found-keyed}
 use Rattle.recv_keys.specs.declared.Found.TheVariants as found
 use Rattle.recv_keys.specs.declared.Found.{Found}
 use Rattle.recv_keys.specs.declared.RecvKeys.{RecvKeys}
-use Rattle.history_theorem.specs.Account.{plain_head, Shown, nothing, a_mask, an_opening, Account, head_size, said_size, record_size, good_plain}
+use Rattle.history_theorem.specs.Account.{plain_head, head_size, said_size, record_size, good_plain}
 use Rattle.history_theorem.specs.Claim.{Real, SaysPlaintext, SaysUnopened, Shows, There, Ends, RightNonce}
 use Rattle.history_theorem.proofs.Cut.{Cuts, Finds, head-same, plain-parsed, sealed-parsed, nonce-own}
 use Rattle.history_theorem.proofs.Lists.{splice-behind, splice-other}
-use Rattle.history_theorem.specs.Receiver.{Handed, Out, out_of, read_to, masked_to, turnedDown, fate_of, handed_by, question_in}
-use Rattle.history_theorem.proofs.Sound.{Asked, FreshAsked, FlagAsked, Goes, Moves}
+use Rattle.history_theorem.specs.Receiver.{Handed, Out, out_of, read_to, masked_to, handed_by}
+use Rattle.history_theorem.proofs.Sound.{FreshAsked, FlagAsked, Moves}
 use Rattle.history_theorem.proofs.Table.{epoch_at, Table}
 
 -- a step under these keys, over these bytes

@@ -28,7 +28,7 @@ use Rattle.opening_reply.specs.Opening.{still, typed, opened_at, opened_by, open
 use Rattle.opening_reply.specs.declared.Marked.{Marked}
 use Rattle.opening_reply.specs.declared.Opening.TheVariants as reply
 use Rattle.opening_reply.specs.declared.Opening.{Opening}
-use Rattle.receiving.specs.Calls.Call.{reading, masking as answering, opening}
+use Rattle.receiving.specs.Calls.Call.{masking as answering, opening}
 use Rattle.receiving.specs.Laws.{Made, after-made}
 use Rattle.record.specs.Record.{tag_size, parsed}
 use Rattle.records.proofs.Leads.{read-asks}

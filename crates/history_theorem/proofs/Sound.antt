@@ -1,9 +1,9 @@
 -- What holds between the real state, the claim's account and the history at a receiving end; a reading call that is not refused keeps it.
 -- Assumes nothing.
-use Rattle.std.specs.Prelude.{ℕ, suc, ◌+◌, ◌-◌, ◌/◌, ◌%◌, ◌<◌, ◌≤◌, eqb, leb, length, get_or, drop, Bool, false, ◌≡◌, refl}
+use Rattle.std.specs.Prelude.{ℕ, ◌+◌, ◌/◌, ◌%◌, ◌≤◌, eqb, length, get_or, drop, ◌≡◌, refl}
 use mathlib.Core.List.Memᴰ.{head as here}
 use mathlib.Core.List.Memᴰ.{tail as there}
-use mathlib.Core.List.{List, [], ◌∷◌, Memᴰ as Mem}
+use mathlib.Core.List.{List, ◌∷◌, Memᴰ as Mem}
 use Rattle.std.proofs.Math.Option.{Option, none, some}
 use Rattle.std.proofs.Common.{sym, ap, subst, ◌∙◌, arith}
 use Rattle.base.specs.Choose.{by_test}
@@ -24,33 +24,7 @@ use Rattle.window.specs.declared.Verdict.TheVariants.{Fresh}
 use Rattle.history_theorem.specs.Account.{upd, Shown, nothing, a_mask, an_opening, Account}
 use Rattle.history_theorem.specs.Claim.{Once, Real, PlainDue, UnopenedDue, SaysPlaintext, SaysUnopened, Shows, There, Ends, Proper, RightNonce, Spares, Judged}
 use Rattle.history_theorem.proofs.Lists.{upd_same, upd_other, upd-by, some_inj, some≢none, mem-by, drops_on}
-use Rattle.history_theorem.specs.Receiver.{
-  Sealed,
-  Handed,
-  Trial,
-  Tried,
-  Deed,
-  Spoken,
-  Lost,
-  Receiver,
-  Out,
-  Fate,
-  turnedDown,
-  underway,
-  settled,
-  fate_of,
-  handed_by,
-  question_in,
-  readings_by,
-  place_by,
-  Use,
-  spent,
-  next_trial,
-  next_tried,
-  next_account,
-  spoken_by,
-  after,
-}
+use Rattle.history_theorem.specs.Receiver.{Handed, Trial, Tried, Deed, Spoken, Lost, Receiver, Out, Fate, turnedDown, underway, settled, fate_of, handed_by, question_in, readings_by, place_by, Use, spent, next_trial, next_tried, next_account, spoken_by, after}
 use Rattle.history_theorem.proofs.Table.{keyed_in, Table}
 
 -- ---- the account against the state

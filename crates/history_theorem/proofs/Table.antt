@@ -1,11 +1,10 @@
 -- The table of receive epochs, as the claim's account and the numbers used know it: its epochs as a list, the last keyed first, its windows
 -- against the numbers used, its IVs; what keying, removing and marking do to it. Assumes nothing.
 use Prim.Native.Nat.{ℕ, zero, suc, ◌+◌, ◌-◌, ◌%◌, ◌<◌, ◌≤◌}
-use borrow.Author.Tests.{eqb-true, eqb-false, eq-eqb, ne_eqb, leb-true, leb-false, le-leb, ltb-true, ltb-false}
+use borrow.Author.Tests.{eq-eqb, ne_eqb, leb-true, le-leb, ltb-true, ltb-false}
 use Rattle.std.specs.Prelude.{ltb, leb, eqb, length, get_or, Bool}
 use Rattle.std.proofs.Math.Bool.{true, false, not}
-use Rattle.std.proofs.Common.{true≢false, ◌∙◌, add-one}
-use Rattle.std.proofs.lemmas.Bool.{false≢true}
+use Rattle.std.proofs.Common.{◌∙◌, add-one}
 use mathlib.Core.List.{List, [], ◌∷◌, Memᴰ as Mem}
 use Rattle.std.proofs.Math.Logic.{⊎_elim}
 use Rattle.std.proofs.Math.Option.{Option, none, some}
@@ -22,8 +21,7 @@ use Rattle.recv_keys.specs.Keeps.{
   marked_other,
   marked-epoch,
 }
-use Rattle.recv_keys.specs.Keys.{no_entry, entry_at, fits, last_fit, find, or_else, two, resolve, was_found, is_keyed, marked_entry, marked, app_one, apps, is_full, installed, left}
-use Rattle.recv_keys.specs.Laws.{found-keyed}
+use Rattle.recv_keys.specs.Keys.{no_entry, entry_at, fits, last_fit, find, or_else, two, resolve, was_found, marked_entry, marked, app_one, apps, is_full, installed, left}
 use Rattle.recv_keys.specs.declared.Found.TheVariants.{At, Nothing}
 use Rattle.recv_keys.specs.declared.Found.{Found}
 use Rattle.recv_keys.specs.declared.RecvEpochEntry.{RecvEpochEntry}
@@ -32,7 +30,7 @@ use Rattle.window.specs.Used.{Agrees}
 use Rattle.window.proofs.Used.{agrees-new, agrees-marked}
 use Rattle.window.specs.Window.{unmarked}
 use Rattle.history_theorem.specs.Account.{upd, Account, is_in, without, applications, fifth, last_with, or_two, resolves_to}
-use Rattle.history_theorem.proofs.Lists.{upd_same, upd_other, upd-by, empty_list, mem-by}
+use Rattle.history_theorem.proofs.Lists.{upd_same, upd_other, upd-by, empty_list}
 
 -- ---- the epochs as a list
 

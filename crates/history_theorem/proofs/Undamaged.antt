@@ -1,14 +1,14 @@
 -- A record that lies undamaged at the cursor: what a read of it asks, what the sender's mask then brings, what an opening hands over.
 -- Assumes nothing.
-use Rattle.std.specs.Prelude.{ℕ, zero, suc, ◌+◌, ◌-◌, ◌*◌, ◌/◌, ◌%◌, ◌^◌, ◌≤◌, ◌<◌, length, take, drop, get_or, Bool, false, List, [], ◌∷◌, ◌++◌, ◌≡◌, refl}
-use Rattle.std.proofs.Common.{eq-eqb, take-append-drop, length-append, length-take, length-drop, take-add, drop-drop, drop_at, length-take-le, get_or-drop, take-take, sym, subst, ◌∙◌, div-one, arith}
+use Rattle.std.specs.Prelude.{ℕ, ◌+◌, ◌/◌, ◌%◌, ◌^◌, ◌≤◌, ◌<◌, length, take, drop, get_or, List, ◌∷◌, ◌++◌, ◌≡◌, refl}
+use Rattle.std.proofs.Common.{take-append-drop, length-append, length-take, length-drop, take-add, drop-drop, drop_at, length-take-le, sym, subst, ◌∙◌, div-one, arith}
 use Rattle.std.specs.Int.Bits.{bit_xor}
 use Rattle.std.proofs.lemmas.Nat.{xor_comm}
 use Rattle.std.proofs.Math.Bool.{true}
-use Rattle.std.proofs.Math.Option.{Option, none, some}
+use Rattle.std.proofs.Math.Option.{some}
 use Rattle.std.proofs.Math.Path.{ap}
 use Rattle.base.specs.Bytes.{be, xors}
-use Rattle.base.specs.Parts.{part, part_at, part-first, length_part, splice-after}
+use Rattle.base.specs.Parts.{part, part_at, part-first, splice-after}
 use Rattle.datagram.specs.Datagram.{is_sound, told, questioned}
 use Rattle.datagram.specs.declared.Ask.{Ask}
 use Rattle.datagram.specs.declared.Datagram.{Datagram}
@@ -16,7 +16,7 @@ use Rattle.datagram.specs.declared.Question.TheVariants as question
 use Rattle.datagram.specs.declared.Reading.TheVariants as says
 use Rattle.mask_reply.specs.Mask.{mask_bytes, unmasked, ruled, mask_step}
 use Rattle.mask_reply.proofs.Undamaged.{header-unmasked, mask-rules}
-use Rattle.record.specs.Record.{sealed_head, unified_header}
+use Rattle.record.specs.Record.{sealed_head}
 use Rattle.records.specs.Records.{read_step}
 use Rattle.records.proofs.Undamaged.{sealed as laidSealed, sealed-asks}
 use Rattle.recv_keys.specs.Keys.{entry_at, find, resolve}

@@ -1,5 +1,5 @@
 -- What calls do to the window verdicts, and calls over bytes of another length. Assumes nothing.
-use Rattle.std.specs.Prelude.{ℕ, zero, suc, ◌-◌, ◌≤◌, ◌<◌, eqb, length, get_or, true, false, List, ◌≡◌}
+use Rattle.std.specs.Prelude.{ℕ, zero, suc, ◌≤◌, ◌<◌, eqb, length, get_or, false, List, ◌≡◌}
 use Rattle.std.proofs.Common.{true≢false, sym, ◌∙◌, arith}
 use Rattle.std.proofs.Math.Option.{some}
 use Rattle.std.proofs.Math.Path.{refl, ap, subst}
@@ -34,32 +34,7 @@ use Rattle.window.specs.Window.{verdict}
 use Rattle.window.specs.declared.Verdict.TheVariants.{Fresh, Seen}
 use Rattle.history_theorem.specs.Claim.{SameVerdicts, Moved, Turned, OtherLength}
 use Rattle.history_theorem.proofs.Reading.{is_found, open_idle, open_masked, opened-is, use_down, uses_it, still-fresh}
-use Rattle.history_theorem.specs.Receiver.{
-  Sealed,
-  Receiver,
-  Out,
-  Fate,
-  turnedDown,
-  fate_of,
-  Use,
-  unused,
-  uses,
-  use_of,
-  accepts,
-  verdict_by,
-  verdict_of,
-  Move,
-  Stray,
-  begun,
-  finishes,
-  read_out,
-  mask_out,
-  open_out,
-  after_read,
-  after_mask,
-  after_open,
-  use_in,
-}
+use Rattle.history_theorem.specs.Receiver.{Sealed, Receiver, Out, turnedDown, fate_of, Use, unused, uses, use_of, accepts, verdict_by, verdict_of, Move, Stray, begun, finishes, read_out, mask_out, open_out, after_read, after_mask, after_open, use_in}
 use Rattle.history_theorem.proofs.ReadLaws.{out_by, reads_out, masked_out}
 use Rattle.history_theorem.proofs.Sound.{UnderWay, Sound}
 

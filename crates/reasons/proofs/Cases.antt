@@ -2,7 +2,7 @@
 use Rattle.std.specs.Prelude.{Bool, true, false, ◌≡◌, eqb}
 use mathlib.Core.List.{List, ◌∷◌}
 use Rattle.std.proofs.Math.Path.{refl, ap}
-use Prim.Native.Nat.{ℕ, suc, ◌+◌, ◌-◌, ◌<◌, ◌≤◌}
+use Prim.Native.Nat.{ℕ, suc, ◌+◌, ◌<◌, ◌≤◌}
 use Rattle.base.specs.Choose.{choose, both, by_test, by_less}
 use Rattle.window.specs.Used.{above}
 use Rattle.reasons.specs.declared.Reason.{Reason}
