@@ -45,7 +45,8 @@ impl ReplayWindow {
         if WIDTH <= offset {
             return Verdict::TooOld;
         }
-        if (self.window >> offset) % 2 == 0 {
+        let clear = (self.window >> offset) % 2 == 0;
+        if clear {
             return Verdict::Fresh;
         }
         Verdict::Seen

@@ -15,16 +15,11 @@ pub returns-then-offset-ge-WIDTH : goal.returns-then-offset-ge-WIDTH
 returns-then-offset-ge-WIDTH c = let far = c.if-offset-ge-WIDTH.true in sym ((verdict-is _ _ _).1 (omega arith))
 
 -- the mark is clear
-pub returns-then-self-offset-eq0 : goal.returns-then-self-offset-eq0
+pub returns-then-clear : goal.returns-then-clear
 unfolding bit
-returns-then-self-offset-eq0 c = let near = c.if-offset-ge-WIDTH.false in
-    let clear = c.if-self-offset-eq0.true in
-    sym ((verdict-is _ _ Fresh).1 (omega arith, λ marked. omega (arith, marked.2)))
+returns-then-clear c = sym ((verdict-is _ _ Fresh).1 (omega arith, λ marked. omega (arith, marked.2)))
 
 -- the mark is set
 pub returns : goal.returns
 unfolding bit
-returns c = let low = c.if-top-seqno.false in
-    let near = c.if-offset-ge-WIDTH.false in
-    let set = c.if-self-offset-eq0.false in
-    sym ((verdict-is _ _ Seen).1 (omega arith, omega arith, omega arith))
+returns c = sym ((verdict-is _ _ Seen).1 (omega arith, omega arith, omega arith))
