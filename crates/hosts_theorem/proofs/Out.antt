@@ -1,5 +1,5 @@
 -- Each sending call of the C library, those of flights, resends and ACKs with it, entered in the host's log, is the claim's call. Assumes nothing.
-use Rattle.std.specs.Prelude.{ℕ, ◌+◌, ◌*◌, eqb, ltb, length, true, ◌≡◌}
+use Rattle.std.specs.Prelude.{ℕ, ◌*◌, eqb, ltb, length, true, ◌≡◌}
 use Rattle.std.proofs.Common.{arith, sym, ◌∙◌}
 use borrow.Author.Tests.{leb-true, ltb-false, eqb-false}
 use Rattle.std.proofs.lemmas.List.{length-replicate}

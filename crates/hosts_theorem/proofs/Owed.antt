@@ -1,5 +1,5 @@
 -- Each answer is the one that the host's account owes: by what holds of the log behind the call, in which the answer stands first. Assumes nothing.
-use Rattle.std.specs.Prelude.{ℕ, ◌+◌, ◌*◌, ◌≤◌, min, eqb, leb, ltb, length, true, false, ◌≡◌, refl}
+use Rattle.std.specs.Prelude.{ℕ, ◌+◌, ◌*◌, ◌≤◌, min, eqb, leb, ltb, length, true, ◌≡◌, refl}
 use Rattle.std.proofs.Common.{le-leb, le-ltb, lt-ltb, arith, sym, ap, subst, ◌∙◌}
 use Rattle.std.proofs.lemmas.Bool.{lt-leb, false≢true}
 use mathlib.Core.List.Memᴰ.{head as here}

@@ -18,7 +18,7 @@ use Rattle.history_theorem.specs.Receiver.{Call, begin·, read·, open·, open_o
 use Rattle.history_theorem.proofs.Sound.{Sound}
 use Rattle.ends_theorem.specs.Claim.{Holds, Startable}
 use Rattle.ends_theorem.proofs.Every.{every-does}
-use Rattle.ends_theorem.specs.Ledger.{application_data, last_number, owed}
+use Rattle.ends_theorem.specs.Ledger.{application_data, last_number}
 use Rattle.ends_theorem.proofs.Matches.{Matches}
 use Rattle.ends_theorem.proofs.Theorem.{Good, FairDone, fair-step, run-keeps, new-good, every_list, stop_order-sent as stop_order}
 use Rattle.ends_theorem.specs.Sender as world

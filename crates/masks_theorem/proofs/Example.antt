@@ -4,7 +4,7 @@
 use Rattle.std.specs.Prelude.{ℕ, eqb, replicate, List, [], ◌∷◌, ◌++◌, ◌≡◌}
 use native.Mathlib.Omega.{arith}
 use mathlib.Core.List.Memᴰ.{head as here}
-use Rattle.std.proofs.Math.Option.{Option, none, some}
+use Rattle.std.proofs.Math.Option.{none, some}
 use Rattle.std.proofs.Math.Path.{refl}
 use Rattle.base.specs.Choose.{choose}
 use Rattle.chacha.specs.Chacha.{plus, rotl, abd, cdb, quarter_round, put_quad, quarter_at, column_round, diagonal_round, word, initial, block_words, bytes_of, block, mask_of}

@@ -1,31 +1,28 @@
 -- A reading that goes on with the mask of a key: the two calls of crate hosts_theorem that it is, their contracts and rules, and the slots behind them.
 -- Assumes nothing.
-use Rattle.std.specs.Prelude.{ℕ, eqb, length, get_or, true, false, ◌⊎◌, ◌≡◌, refl}
+use Rattle.std.specs.Prelude.{ℕ, eqb, length, get_or, ◌⊎◌, ◌≡◌, refl}
 use borrow.Author.Tests.{eq-eqb, eqb-true}
 use mathlib.Core.List.{List, [], ◌∷◌}
 use Rattle.std.proofs.Common.{⊎_elim, subst, ◌∙◌}
 use Rattle.std.proofs.Math.Option.{Option, none, some}
 use Rattle.std.proofs.Math.Path.{sym, ap}
-use Rattle.base.specs.Choose.{choose, if_true, if_false, test_cases}
+use Rattle.base.specs.Choose.{if_true, if_false, test_cases}
 use Rattle.base.specs.Parts.{part}
-use Rattle.datagram.specs.declared.Reading.{Reading}
 use Rattle.receiving.specs.declared.Receiving.{Receiving}
-use Rattle.recv_keys.specs.declared.RecvKeys.{RecvKeys}
 use Rattle.recv_words.specs.Words.{keys_of}
-use Rattle.recv_key_steps.specs.Kept.{state_of}
 use Rattle.recv_calls.specs.Calls as receive
 use Rattle.recv_calls.specs.declared.HuskReading.{HuskReading}
 use Rattle.mask_keys.specs.Keys.{receive_key}
 use Rattle.mask_calls.specs.Calls.{GoesOn, asked_key}
-use Rattle.history_theorem.specs.Account.{Shown, a_mask, Account, is_in}
+use Rattle.history_theorem.specs.Account.{Shown, a_mask}
 use Rattle.history_theorem.specs.Claim.{Masks, FairMask, Proper, Refused}
-use Rattle.history_theorem.proofs.Lists.{some≢none, some_inj}
-use Rattle.history_theorem.specs.Receiver.{Receiver, rest_of, a_mask_reply, fate_of, question_in}
+use Rattle.history_theorem.proofs.Lists.{some≢none}
+use Rattle.history_theorem.specs.Receiver.{rest_of, a_mask_reply, fate_of, question_in}
 use Rattle.ends_theorem.specs.World.{Side, far}
 use Rattle.hosts_theorem.specs.Memory as inner
 use Rattle.hosts_theorem.specs.Log.{reading_of, Host, Act, inward, Made, behind}
 use Rattle.hosts_theorem.specs.Claim.{deeds_of, FairDeeds}
-use Rattle.masks_theorem.specs.Hosts.{Given, MaskKeys, key_asked, going_on, mask_under}
+use Rattle.masks_theorem.specs.Hosts.{Given, key_asked, going_on, mask_under}
 use Rattle.masks_theorem.specs.Claim.{Agreed, masks_of, mask_in, Stands, NotAsked}
 use Rattle.masks_theorem.proofs.Slots.{Agree}
 use Rattle.masks_theorem.proofs.Quiet.{NotMask, account_of, next-keyed, next-settles}

@@ -1,30 +1,27 @@
 -- What the state of a receiving end and its account say of the epochs with a mask key: an epoch in which a mask is asked is keyed; the slot of a keyed epoch holds
 -- the key given for it, through keying and removing. Assumes nothing.
-use Rattle.std.specs.Prelude.{ℕ, suc, ◌+◌, ◌-◌, ◌*◌, ◌<◌, ◌≤◌, eqb, leb, length, get_or, Bool, false, List, [], ◌∷◌}
-use Rattle.std.proofs.Common.{le-leb, eq-eqb, ne_eqb, eqb-true, true≢false, ◌∙◌, arith}
-use Rattle.std.proofs.lemmas.Bool.{eqb-false, false≢true}
+use Rattle.std.specs.Prelude.{ℕ, suc, ◌+◌, ◌-◌, ◌<◌, ◌≤◌, length, List}
+use Rattle.std.proofs.Common.{le-leb, ◌∙◌, arith}
+use Rattle.std.proofs.lemmas.Bool.{false≢true}
 use Rattle.std.proofs.Math.Bool.{true}
-use Rattle.std.proofs.Math.Option.{Option, none, some}
 use Rattle.std.proofs.Math.Path.{◌≡◌, refl, sym, ap, subst}
-use Rattle.base.specs.Choose.{choose, both, if_true, if_false, by_test, test_cases, both_right}
-use Rattle.datagram.specs.Datagram.{ask_sound, ask_keyed, opening_sound, question_sound}
+use Rattle.base.specs.Choose.{if_true, both_right}
+use Rattle.datagram.specs.Datagram.{ask_sound, ask_keyed, question_sound}
 use Rattle.datagram.specs.declared.Question.TheVariants as question
 use Rattle.datagram.specs.declared.Question.{Question}
 use Rattle.recv_keys.specs.Keys.{most_epochs, find, was_found, is_keyed}
 use Rattle.recv_keys.specs.Laws.{not_full}
 use Rattle.recv_keys.specs.declared.Found.TheVariants as found
 use Rattle.recv_keys.specs.declared.Found.{Found}
-use Rattle.receiving.specs.Receiving.{key_of, answer_number}
-use Rattle.receiving.specs.declared.Receiving.{Receiving}
-use Rattle.mask_keys.specs.Keys.{key_size, slot_size, receive_size, filled, emptied, moved_up, key_in, entry_of, receive_key}
+use Rattle.mask_keys.specs.Keys.{receive_size, key_in, entry_of, receive_key}
 use Rattle.mask_calls.specs.Calls.{MovesUp}
-use Rattle.history_theorem.specs.Account.{upd, nothing, a_mask, an_opening, Account, is_in, without, key_owed, keys, with_key}
+use Rattle.history_theorem.specs.Account.{nothing, a_mask, an_opening, is_in, without, key_owed}
 use Rattle.history_theorem.proofs.Calls.{key_cases}
-use Rattle.history_theorem.specs.Receiver.{Trial, Receiver, is_the, removed_from, with_state, unkeyed, loses, loses_owed, remove_owed}
+use Rattle.history_theorem.specs.Receiver.{Receiver}
 use Rattle.history_theorem.proofs.Sound.{Sound, UnderWay}
-use Rattle.history_theorem.proofs.Table.{epochs_in, keyed_in, find_in}
+use Rattle.history_theorem.proofs.Table.{keyed_in, find_in}
 use Rattle.masks_theorem.specs.Hosts.{Given}
-use Rattle.masks_theorem.proofs.Slots.{Agree, most, epochs-long, found_key, agree-filled, agree-emptied, Falls, falls, below_all, place_of, found-place, agree-moved}
+use Rattle.masks_theorem.proofs.Slots.{Agree, most, epochs-long, found_key, Falls, falls, below_all, place_of, found-place, agree-moved}
 
 module _ (y : Receiver) (i : Sound y) where
   -- as many epochs are keyed in the state as by the account

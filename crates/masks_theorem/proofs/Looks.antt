@@ -1,12 +1,12 @@
 -- Some calls at one of two hosts: what crate hosts_theorem says of each, call by call. Assumes nothing.
-use Rattle.std.specs.Prelude.{ℕ, List, [], ◌∷◌, ◌++◌, ◌≡◌, refl}
-use Rattle.std.proofs.Common.{sym, ap, subst, ◌∙◌}
+use Rattle.std.specs.Prelude.{List, [], ◌∷◌, ◌++◌, ◌≡◌, refl}
+use Rattle.std.proofs.Common.{sym, subst}
 use Rattle.history_theorem.specs.Claim.{Masks}
 use Rattle.history_theorem.proofs.Sound.{Sound}
 use Rattle.ends_theorem.proofs.Matches.{Matches}
 use Rattle.ends_theorem.proofs.Theorem.{Good, run-keeps}
 use Rattle.ends_theorem.proofs.Sends.{Sends}
-use Rattle.ends_theorem.specs.World.{Side, post, gateway, far, World, run}
+use Rattle.ends_theorem.specs.World.{Side, post, gateway, far}
 use Rattle.hosts_theorem.specs.Log.{Host, Act, Made, behind}
 use Rattle.hosts_theorem.specs.Claim.{Hosts, CCall, put, after, runs, AllMade, Stands, deeds_of, events_of, Owed, FairDeeds, AllFair, sight_of}
 use Rattle.hosts_theorem.proofs.Theorem.{Seen, all_seen}

@@ -1,6 +1,6 @@
 -- Calls that mask keys do not change leave the epochs keyed, ask no mask, and leave the application epoch to send in. Assumes nothing.
-use Rattle.std.specs.Prelude.{ℕ, zero, suc, ◌+◌, ◌≤◌, eqb, leb, length, Bool, true, false, List, [], ◌∷◌, ◌++◌, ◌≡◌, refl}
-use Rattle.std.proofs.Common.{leb-true, ⊎_elim, sym, ap, subst, ◌∙◌, arith}
+use Rattle.std.specs.Prelude.{ℕ, zero, suc, ◌+◌, length, List, [], ◌∷◌, ◌≡◌, refl}
+use Rattle.std.proofs.Common.{leb-true, ⊎_elim, sym, ap, ◌∙◌, arith}
 use Rattle.std.proofs.Math.Option.{Option, none, some}
 use Rattle.base.specs.Choose.{choose, by_test, eq-or_ne}
 use Rattle.datagram.specs.declared.Reading.TheVariants as says
@@ -11,7 +11,7 @@ use Rattle.recv_calls.specs.Flat.{opening_of}
 use Rattle.waiting_laws.specs.Calls.{SendCall, key_send·, send·, save·, message·, begin_flight·, resend·, note·, send_ack·, ack·, fill·, sealed·, take·}
 use Rattle.history_theorem.specs.Account.{tag_size, Shown, nothing, a_mask, an_opening, Account}
 use Rattle.history_theorem.specs.Claim.{Proper, Refused}
-use Rattle.history_theorem.specs.Receiver.{Trial, Receiver, Inbound, Fate, turnedDown, underway, settled, fate_of, question_in, settled_at, next_account, leaves_rest, a_mask_reply, an_open_reply}
+use Rattle.history_theorem.specs.Receiver.{Trial, Inbound, Fate, turnedDown, underway, settled, fate_of, question_in, settled_at, next_account, leaves_rest, a_mask_reply, an_open_reply}
 use Rattle.ends_theorem.specs.Ledger.{Kept, Ledger, Going, lays, saves, saves_on, pieces, posted, sends_again, passes, again, resent, closes, with_saved, acked_by, acking, leaves, after}
 use Rattle.ends_theorem.specs.World.{End}
 use Rattle.hosts_theorem.specs.Memory as inner

@@ -1,8 +1,8 @@
 -- What a reading tells of the question that waits behind it: a mask is asked exactly if the reading is a mask question. Assumes nothing.
-use Rattle.std.specs.Prelude.{ℕ, eqb, true, false, List, ◌≡◌, refl}
+use Rattle.std.specs.Prelude.{ℕ, List, ◌≡◌, refl}
 use Rattle.std.proofs.Math.Option.{Option}
-use Rattle.std.proofs.Common.{sym, ap, subst, ◌∙◌, arith, eq-eqb}
-use Rattle.base.specs.Choose.{choose, if_true, if_false}
+use Rattle.std.proofs.Common.{sym, ap, subst, ◌∙◌, arith}
+use Rattle.base.specs.Choose.{if_true, if_false}
 use Rattle.datagram.specs.declared.Reading.TheVariants as says
 use Rattle.datagram.specs.declared.Reading.{Reading}
 use Rattle.recv_calls.specs.declared.HuskReading.{HuskReading}
@@ -10,7 +10,7 @@ use Rattle.history_theorem.specs.Account.{Shown, nothing, a_mask, an_opening, Ac
 use Rattle.history_theorem.specs.Claim.{Proper}
 use Rattle.history_theorem.specs.Receiver.{Trial, a_read, fate_of, question_in, keeps_shown, next_account}
 use Rattle.hosts_theorem.specs.Log.{reading_of, told, Whole}
-use Rattle.masks_theorem.proofs.Quiet.{NotMask, Quiet, next-quiet}
+use Rattle.masks_theorem.proofs.Quiet.{NotMask, next-quiet}
 
 -- ---- kind 6
 

@@ -1,13 +1,13 @@
 -- The slots of a sending host hold the mask keys given for epoch 2 and the application epoch, and the mask of a sealing is made of the key given for the epoch that
 -- the question shows. Assumes nothing.
-use Rattle.std.specs.Prelude.{ℕ, ◌*◌, ◌≤◌, ◌<◌, eqb, length, get_or, Bool, true, false, List, [], ◌∷◌, ◌⊎◌, ◌≡◌, refl}
-use Rattle.std.proofs.Common.{eq-eqb, ne_eqb, eqb-true, ⊎_elim, sym, subst, ◌∙◌, arith}
+use Rattle.std.specs.Prelude.{ℕ, ◌*◌, ◌≤◌, ◌<◌, eqb, length, get_or, true, List, [], ◌∷◌, ◌⊎◌, ◌≡◌, refl}
+use Rattle.std.proofs.Common.{eqb-true, ⊎_elim, sym, subst, ◌∙◌, arith}
 use Rattle.std.proofs.lemmas.Bool.{eqb-false}
 use Rattle.std.proofs.Math.Option.{Option, none, some}
 use Rattle.std.proofs.Math.Path.{ap}
-use Rattle.base.specs.Choose.{choose, if_true, if_false, by_test, test_cases, eq-or_ne}
+use Rattle.base.specs.Choose.{choose, if_true, if_false, by_test, test_cases}
 use Rattle.base.specs.Parts.{part}
-use Rattle.mask_keys.specs.Keys.{key_size, slot_size, send_slots, send_size, filled, emptied, key_in, send_slot, send_key}
+use Rattle.mask_keys.specs.Keys.{key_size, slot_size, send_slots, send_size, filled, emptied, send_slot, send_key}
 use Rattle.mask_keys.proofs.Laws.{key_filled, other-filled, length-filled, none-emptied, other-emptied, length-emptied}
 use Rattle.mask_calls.specs.Calls as masked
 use Rattle.mask_calls.specs.Calls.{seal_mask, mask_by}
@@ -120,7 +120,7 @@ module _ (agreed : ℕ → Option (List ℕ)) (l : Ledger) (two : l.application 
 -- the slot of an epoch that is epoch 2 or the application epoch holds the key given for it
 send_key_is : (agreed : ℕ → Option (List ℕ)) (app : ℕ) (k : List ℕ) (f : Given) → HoldsOut agreed app k f → (e : ℕ) → (e ≡ 2) ⊎ (e ≡ app) → send_key k e ≡ f e
 unfolding send_key
-send_key_is agreed app k f i e z =
+send_key_is agreed a k f i e z =
     test_cases (eqb e 2)
     (λ t. ap (key_of k) (if_true _ _ t) ∙ i.first ∙ ap f (sym (eqb-true e 2 t)))
     (λ t. ap (key_of k) (if_false _ _ t) ∙ i.second ∙ ap f (sym (⊎_elim (λ w. absurd (eqb-false e 2 t w)) (λ w. w) z)))

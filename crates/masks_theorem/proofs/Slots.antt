@@ -1,11 +1,11 @@
 -- The slots for mask keys hold the keys that the host gave, for each epoch keyed to receive: keying, removing and searching. Assumes nothing.
-use Rattle.std.specs.Prelude.{ℕ, zero, suc, ◌+◌, ◌-◌, ◌*◌, ◌<◌, ◌≤◌, eqb, length, get_or, Bool, true, false, List, [], ◌∷◌, ◌⊎◌, ◌≡◌, refl}
-use Rattle.std.proofs.Common.{eqb-true, eq-eqb, ne_eqb, true≢false, ⊎_elim, sym, ap, subst, ◌∙◌, arith}
-use Rattle.std.proofs.lemmas.Bool.{eqb-false, false≢true}
+use Rattle.std.specs.Prelude.{ℕ, zero, suc, ◌+◌, ◌*◌, ◌<◌, ◌≤◌, eqb, length, get_or, Bool, true, false, List, [], ◌∷◌, ◌≡◌, refl}
+use Rattle.std.proofs.Common.{eqb-true, eq-eqb, true≢false, sym, ap, subst, ◌∙◌, arith}
+use Rattle.std.proofs.lemmas.Bool.{false≢true}
 use Rattle.std.proofs.Math.Option.{Option, none, some}
-use Rattle.base.specs.Choose.{choose, either, if_true, if_false, by_test, test_cases, either_true, either-false}
+use Rattle.base.specs.Choose.{choose, if_true, if_false, by_test, test_cases, either_true, either-false}
 use Rattle.recv_keys.specs.Keys.{no_entry, entry_at, find}
-use Rattle.recv_keys.specs.declared.Found.TheVariants.{At, Nothing}
+use Rattle.recv_keys.specs.declared.Found.TheVariants.{At}
 use Rattle.recv_keys.specs.declared.Found.{Found}
 use Rattle.recv_keys.specs.declared.RecvEpochEntry.{RecvEpochEntry}
 use Rattle.recv_keys.specs.declared.RecvKeys.{RecvKeys}

@@ -1,45 +1,30 @@
 -- Each call that mask keys change is calls of crate hosts_theorem whose contracts and rules are met, and the slots go on holding the keys given. Assumes nothing.
-use Rattle.std.specs.Prelude.{ℕ, ◌+◌, ◌*◌, ◌<◌, ◌≤◌, ltb, length, get_or, Bool, ◌⊎◌, ◌≡◌, refl}
-use Rattle.std.proofs.Common.{eq-eqb, ne_eqb, eqb-true, ltb-true, ltb-false, true≢false, inl, inr, ⊎_elim, sym, ◌∙◌, arith}
-use Rattle.std.proofs.lemmas.Bool.{eqb-false, false≢true}
+use Rattle.std.specs.Prelude.{ℕ, length, ◌⊎◌, ◌≡◌, refl}
+use Rattle.std.proofs.Common.{ne_eqb, eqb-true, inl, inr, ⊎_elim, sym, ◌∙◌, arith}
+use Rattle.std.proofs.lemmas.Bool.{eqb-false}
 use Rattle.std.proofs.Math.Dec.{eqb}
 use Rattle.std.proofs.Math.Bool.{true, false}
-use mathlib.Core.List.{List, [], ◌∷◌}
+use mathlib.Core.List.{List, ◌∷◌}
 use Rattle.std.proofs.Math.Option.{Option, none, some}
 use Rattle.std.proofs.Math.Path.{ap, subst}
-use Rattle.base.specs.Choose.{choose, if_true, if_false, by_test, test_cases, eq-or_ne}
-use Rattle.base.specs.Parts.{part}
-use Rattle.chacha.specs.Chacha.{mask_of}
+use Rattle.base.specs.Choose.{choose, if_true, if_false, by_test, test_cases}
 use Rattle.answers.specs.declared.HuskTold.{HuskTold}
-use Rattle.datagram.specs.declared.Reading.TheVariants as says
 use Rattle.recv_keys.specs.declared.Found.TheVariants as found
 use Rattle.recv_keys.specs.declared.Found.{Found}
 use Rattle.receiving.specs.declared.Receiving.{Receiving}
-use Rattle.recv_words.specs.Words.{keys_of}
-use Rattle.recv_key_steps.specs.Kept.{state_of}
-use Rattle.recv_calls.specs.Calls as receive
-use Rattle.recv_calls.specs.declared.HuskReading.{HuskReading}
-use Rattle.mask_keys.specs.Keys.{key_size, slot_size, receive_size, filled, emptied, entry_of, receive_key}
+use Rattle.mask_keys.specs.Keys.{key_size, receive_size, filled, emptied, entry_of}
 use Rattle.mask_keys.proofs.Laws.{length-filled, length-emptied}
-use Rattle.mask_calls.specs.Calls.{GoesOn, asked_key, MovesUp}
-use Rattle.history_theorem.specs.Account.{upd, nothing, a_mask, Account, is_in, without, key_owed, keys, with_key}
-use Rattle.history_theorem.specs.Claim.{Masks}
-use Rattle.history_theorem.proofs.Lists.{upd-by, some≢none, some_inj, option_cases}
+use Rattle.mask_calls.specs.Calls.{MovesUp}
+use Rattle.history_theorem.specs.Account.{upd, a_mask, Account, without, key_owed, keys}
+use Rattle.history_theorem.proofs.Lists.{upd-by, some≢none}
 use Rattle.history_theorem.proofs.Sound.{Sound}
-use Rattle.history_theorem.specs.Receiver.{Trial, Receiver, Inbound, is_the, removed_from, with_state, unkeyed, remove_owed, loses_owed}
-use Rattle.ends_theorem.specs.World.{Side, far}
-use Rattle.hosts_theorem.specs.Memory as inner
-use Rattle.hosts_theorem.specs.Log.{reading_of, removed_to, Host, Act, inward, behind, Whole}
-use Rattle.hosts_theorem.specs.Log as hosts
-use Rattle.hosts_theorem.specs.Claim.{Stands, removal_told}
-use Rattle.masks_theorem.specs.Hosts.{Given, MaskKeys, KeyedAct, gives, key_asked, going_on, mask_under}
-use Rattle.masks_theorem.specs.Claim as claim
-use Rattle.masks_theorem.specs.Claim.{Agreed, masks_of, mask_in, NotAsked}
-use Rattle.masks_theorem.proofs.Slots.{key_of, Agree, most, agree-filled, agree-emptied}
-use Rattle.masks_theorem.proofs.Quiet.{NotMask, Quiet, quiet, account_of, next-keyed, next-settles, mask-asks-none, same-app}
-use Rattle.masks_theorem.proofs.Keys.{count-is, asked-keyed, key_is, key_new, agree_left}
-use Rattle.masks_theorem.proofs.ReadLaws.{asks-mask, mask-told, read-asks, read-shows}
-use Rattle.masks_theorem.proofs.Looks.{pair_of, Well, looks, stands-own, sound-own}
+use Rattle.history_theorem.specs.Receiver.{Trial, Receiver, removed_from, remove_owed, loses_owed}
+use Rattle.hosts_theorem.specs.Log.{removed_to}
+use Rattle.hosts_theorem.specs.Claim.{removal_told}
+use Rattle.masks_theorem.specs.Hosts.{Given, gives}
+use Rattle.masks_theorem.proofs.Slots.{Agree, most, agree-filled, agree-emptied}
+use Rattle.masks_theorem.proofs.Quiet.{Quiet}
+use Rattle.masks_theorem.proofs.Keys.{count-is, asked-keyed, key_new, agree_left}
 
 -- ---- what holds of a receiving host and its mask keys: the slots hold the keys given, no mask is asked in an epoch with one, and they are the agreed ones
 

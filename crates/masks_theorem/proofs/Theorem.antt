@@ -1,13 +1,13 @@
 -- What is claimed of every list of calls with mask keys holds. Assumes nothing.
 use Prim.Native.Nat.{ℕ, zero, suc, ◌+◌, ◌*◌, ◌≤◌, ◌<◌}
-use Rattle.std.proofs.Common.{eq-eqb, ne_eqb, eqb-true, ltb-true, ltb-false, inl, inr, ⊎_elim, sym, subst, ◌∙◌, arith}
+use Rattle.std.proofs.Common.{ne_eqb, eqb-true, ltb-true, ltb-false, inl, inr, ⊎_elim, sym, subst, ◌∙◌, arith}
 use Rattle.std.proofs.lemmas.Bool.{eqb-false}
-use Rattle.std.specs.Prelude.{eqb, ltb, length, replicate, Bool, true, false, List, [], ◌∷◌, ◌++◌, ◌⊎◌, ◌≡◌, refl}
+use Rattle.std.specs.Prelude.{eqb, ltb, length, replicate, true, false, List, [], ◌∷◌, ◌⊎◌, ◌≡◌, refl}
 use Rattle.std.proofs.Math.ListN.{get_or}
 use Rattle.std.proofs.lemmas.List.{length-replicate}
 use Rattle.std.proofs.Math.Option.{Option, none, some}
 use Rattle.std.proofs.Math.Path.{ap}
-use Rattle.base.specs.Choose.{choose, either, if_true, if_false, by_test, test_cases, either_true, either-false}
+use Rattle.base.specs.Choose.{choose, either, if_true, if_false, by_test, test_cases, either-false}
 use Rattle.datagram.specs.declared.Reading.TheVariants as says
 use Rattle.datagram.specs.declared.Reading.{Reading}
 use Rattle.recv_keys.specs.declared.Found.TheVariants as found
@@ -21,20 +21,18 @@ use Rattle.recv_calls.specs.declared.HuskReading.{HuskReading}
 use Rattle.answers.specs.declared.HuskTold.{HuskTold}
 use Rattle.send_keys.specs.Answer.{refusal}
 use Rattle.outgoing.specs.State.{keying_state}
-use Rattle.outgoing.specs.declared.Sending.{Sending}
-use Rattle.send_words.specs.Words as sendWords
 use Rattle.send_calls.specs.Calls as sends
 use Rattle.mask_keys.specs.Keys.{key_size, receive_size, send_size, emptied, filled, has_key, keyed_as, key_in, entry_of}
 use Rattle.mask_calls.specs.Calls.{GoesOn, asked_key, MovesUp, seal_mask}
-use Rattle.waiting_laws.specs.Calls.{Stores, key_send·, sealed·, Reply, only}
-use Rattle.history_theorem.specs.Account.{sealed_over, Shown, nothing, a_mask, an_opening, Account, fifth, key_owed}
+use Rattle.waiting_laws.specs.Calls.{Stores, key_send·, sealed·, Reply}
+use Rattle.history_theorem.specs.Account.{sealed_over, Shown, nothing, a_mask, an_opening, Account, key_owed}
 use Rattle.history_theorem.proofs.Calls.{key_told}
-use Rattle.history_theorem.specs.Claim.{Masks, Proper}
+use Rattle.history_theorem.specs.Claim.{Masks}
 use Rattle.history_theorem.specs.Receiver.{Inbound, a_read, fate_of, question_in, keeps_shown, goes_to}
 use Rattle.ends_theorem.proofs.Every.{every-does}
 use Rattle.ends_theorem.specs.Ledger.{application_data, last_number, Ledger, key_number}
 use Rattle.ends_theorem.proofs.Theorem.{Good, new-good}
-use Rattle.ends_theorem.specs.Sender.{Lent, FairSeal}
+use Rattle.ends_theorem.specs.Sender.{FairSeal}
 use Rattle.ends_theorem.proofs.Sends.{lent-under}
 use Rattle.ends_theorem.specs.World.{Side, post, gateway, far, End, Setting, fresh-pair}
 use Rattle.hosts_theorem.specs.Memory as inner
@@ -45,8 +43,8 @@ use Rattle.hosts_theorem.specs.Claim.{Hosts, runs, Started, calls_of, hearing, d
 use Rattle.hosts_theorem.specs.Memory.{MadeOut}
 use Rattle.hosts_theorem.proofs.Theorem.{starts, startable, every_list_of_calls, stop_order-sent as theorem-stop-order}
 use Rattle.history_theorem.specs.Receiver as receiver
-use Rattle.masks_theorem.specs.Hosts.{key_length, Given, MaskKeys, KeyedAct, other, husk_receiving_key, husk_receiving_key_masked, husk_receiving_remove, husk_receiving_read, husk_receiving_begin_read, husk_receiving_read_over, husk_sending_key, husk_sending_key_masked, husk_sending_sealed, husk_sending_sealed_over, Other, Made, key_asked, going_on, mask_shown, acts_of, gives, keys_behind, KeyedHosts, KeyedCall, put_keys, at, after, list_of, AllMade}
-use Rattle.masks_theorem.specs.Claim.{NoKeys, Agreed, masks_of, mask_in, Unless, key_of_asked, spared_in, spared, Fair, AllFair, keying_owed, Owed, AllOwed, EveryListWithMaskKeys}
+use Rattle.masks_theorem.specs.Hosts.{key_length, Given, MaskKeys, KeyedAct, other, husk_receiving_key, husk_receiving_key_masked, husk_receiving_remove, husk_receiving_read, husk_receiving_begin_read, husk_receiving_read_over, husk_sending_key, husk_sending_key_masked, husk_sending_sealed, husk_sending_sealed_over, Made, mask_shown, acts_of, keys_behind, KeyedHosts, KeyedCall, put_keys, at, after, list_of, AllMade}
+use Rattle.masks_theorem.specs.Claim.{NoKeys, Agreed, masks_of, Unless, key_of_asked, spared_in, spared, Fair, AllFair, keying_owed, Owed, AllOwed, EveryListWithMaskKeys}
 use Rattle.masks_theorem.proofs.Slots.{key_of as slotKey, Agree}
 use Rattle.masks_theorem.proofs.Quiet.{quiet, same-app, after-app, account_of, next-keyed}
 use Rattle.masks_theorem.proofs.ReadLaws.{asks-mask, mask-told, read-asks, read-shows}

@@ -1,6 +1,6 @@
 -- Two hosts that call the C library and may give an epoch a mask key (02, 6): the calls that mask keys change, and the calls of crate hosts_theorem that each of
 -- them is. A call is written down as there: with its arguments, its answer, and what it left in the memory lent to it.
-use Rattle.std.specs.Prelude.{ℕ, eqb, length, get_or, List, [], ◌∷◌, ◌++◌, ◌≡◌}
+use Rattle.std.specs.Prelude.{ℕ, eqb, length, get_or, List, [], ◌∷◌, ◌++◌}
 use Rattle.std.proofs.Math.Option.{Option, none, some}
 use Rattle.base.specs.Choose.{choose}
 use Rattle.base.specs.Parts.{part}
