@@ -36,7 +36,8 @@ pub fn note(
     if 32 < n {
         return NoteAnswer::OutOfRange;
     }
-    if n < 32 {
+    let room = n < 32;
+    if room {
         epochs[n] = epoch;
         numbers[n] = number;
         *count = [(n + 1) as u64];
@@ -184,7 +185,8 @@ fn empty(f: &mut [u64; flight_words::WORDS], saved: usize)
     flight_words::sized(f);
     let t = tally_of(f, saved);
     if t.any {
-        if t.unmarked {
+        let left = t.unmarked;
+        if left {
             return;
         }
         f[SAVED] = 0;

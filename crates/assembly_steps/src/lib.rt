@@ -182,7 +182,8 @@ fn covers_all(w: &[u64; WORDS], n: usize, t: u64) -> bool
         if r == 0 {
             return false;
         }
-        if t - i <= r {
+        let last = t - i <= r;
+        if last {
             return true;
         }
         i = i + r;

@@ -254,7 +254,8 @@ fn alert_class(closed: bool, c: &[u8]) -> Class
         }
         return Class::Close;
     }
-    if description == USER_CANCELED {
+    let cancels = description == USER_CANCELED;
+    if cancels {
         return Class::Ignored;
     }
     Class::Alert {

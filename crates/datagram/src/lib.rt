@@ -162,7 +162,8 @@ pub fn count(b: Datagram, next: usize, r: Reading) -> Step
     ensures { result ≡ counted b next r }
 {
     let n = b.readings;
-    if 16 <= n {
+    let full = 16 <= n;
+    if full {
         return end(b, Reading::TooMany);
     }
     tell(move_to(b, next, n + 1), r)

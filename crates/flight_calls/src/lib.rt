@@ -20,7 +20,8 @@ pub fn begin_flight(f: &mut [u64; flight_words::WORDS]) -> u8
 {
     flight_words::sized(f);
     if flight_words::is_flat(f) {
-        if f[SAVED] <= 12 {
+        let fits = f[SAVED] <= 12;
+        if fits {
             f[SAVED] = 0;
             return 0;
         }

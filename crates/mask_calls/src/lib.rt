@@ -157,7 +157,8 @@ pub fn remove_receive(w: &mut [u64; WORDS], k: &mut [u8; RECEIVE], epoch: u16) -
 {
     let f = entry_of(w, epoch);
     let r = recv_calls::remove_receive(w, epoch);
-    if r.refusal == 0 {
+    let removed = r.refusal == 0;
+    if removed {
         leave(k, f);
         return r;
     }
@@ -259,7 +260,8 @@ pub fn fresh_sending(
 fn send_slot(epoch: u16) -> usize
     ensures { (result ≡ send_slot epoch) × (result < send_slots) }
 {
-    if epoch == 2 {
+    let handshake = epoch == 2;
+    if handshake {
         return 0;
     }
     1

@@ -116,7 +116,8 @@ fn send_all(
         a = send_piece(w, f, kind, body, at, size, memory, kept);
         at += size;
         n += 1;
-        if body.len() - at == 0 {
+        let all = body.len() - at == 0;
+        if all {
             return a;
         }
     }

@@ -600,7 +600,8 @@ fn opened_step(w: &mut [u64; WORDS], opened: u8, length: usize, d: &[u8]) -> Hus
 pub fn opened(w: &mut [u64; WORDS], opened: u8, length: usize, d: &[u8]) -> HuskReading
     ensures { OpenedCall result w.new w.old opened length d.now }
 {
-    if 1 < opened {
+    let wrong = 1 < opened;
+    if wrong {
         return told(0, 12);
     }
     if recv_words::is_flat(w) {

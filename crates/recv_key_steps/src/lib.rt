@@ -105,7 +105,8 @@ pub fn begin(w: &mut [u64; WORDS], n: usize) -> Answer
     recv_words::sized(w);
     let b = recv_words::datagram_of(w);
     if recv_words::is_sound(w, b) {
-        if 16384 < n {
+        let long = 16384 < n;
+        if long {
             return Answer::TooLong;
         }
         recv_words::put_datagram(

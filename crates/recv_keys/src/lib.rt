@@ -69,7 +69,8 @@ pub fn expected_recv_seq(w: ReplayWindow) -> u64
     requires { w.max_seq ≤ 281474976710655 }
     ensures { result ≡ expected w }
 {
-    if w.window % 2 == 1 {
+    let used = w.window % 2 == 1;
+    if used {
         return w.max_seq + 1;
     }
     0

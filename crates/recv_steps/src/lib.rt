@@ -29,7 +29,8 @@ fn locked_step(w: &[u64; WORDS], b: Datagram, c: Ciphertext) -> Step
     match f {
         Found::Nothing => datagram::pass(b, next, Reason::NoKeys),
         Found::At(i) => {
-            if length < 16 {
+            let short = length < 16;
+            if short {
                 return datagram::pass(b, next, Reason::TooShort);
             }
             if length < w[LEAST] as usize {

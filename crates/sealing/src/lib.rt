@@ -101,7 +101,8 @@ fn found_at(d: &[u8], slot: usize, c: Search) -> Search
     if size - SEALED_HEADER_LEN < n {
         return go_beyond(c);
     }
-    if n < SEALED_TAIL_LEN {
+    let short = n < SEALED_TAIL_LEN;
+    if short {
         return go_beyond(c);
     }
     let epoch = base::be16(d, n - TAG_BEHIND) as u16;

@@ -214,7 +214,8 @@ fn wait_for(w: &mut [u64; WORDS], epoch: u16, n: usize, slot: usize, start: usiz
     ensures { Partly (with_waiting (state_of w.old) (waits (state_of w.old).waiting epoch n slot start number)) w.old w.new }
 {
     send_words::sized(w);
-    if w[SEALING] == 1 {
+    let waits = w[SEALING] == 1;
+    if waits {
         return;
     }
     if epoch == 0 {

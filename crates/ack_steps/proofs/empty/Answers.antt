@@ -4,11 +4,11 @@ use Rattle.process_ack.specs.Ack.{tally_after}
 use Rattle.ack_steps.specs.Steps.{one-unmarked, all-marked, none-there}
 use Rattle.ack_steps.proofs.empty.Goals as goal
 
-pub returns-then-t-2 : goal.returns-then-t-2
-returns-then-t-2 c n = one-unmarked c.args.f.now n c.tally_of-t.result (c.tally_of-t.ensures n ∙ ap (tally_after _) c.requires.0) c.if-t.true c.if-t-2.true
+pub returns-then-left : goal.returns-then-left
+returns-then-left c n = one-unmarked c.args.f.now n c.tally_of-t.result (c.tally_of-t.ensures n ∙ ap (tally_after _) c.requires.0) c.if-t.true c.if-left.true
 
 pub returns-then-t : goal.returns-then-t
-returns-then-t c n = all-marked c.args.f.now n c.tally_of-t.result (c.tally_of-t.ensures n ∙ ap (tally_after _) c.requires.0) c.sized.ensures c.if-t.true c.if-t-2.false
+returns-then-t c n = all-marked c.args.f.now n c.tally_of-t.result (c.tally_of-t.ensures n ∙ ap (tally_after _) c.requires.0) c.sized.ensures c.if-t.true c.if-left.false
 
 pub returns : goal.returns
 returns c n = none-there c.args.f.now n c.tally_of-t.result (c.tally_of-t.ensures n ∙ ap (tally_after _) c.requires.0) c.if-t.false

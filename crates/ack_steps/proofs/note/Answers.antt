@@ -9,10 +9,10 @@ pub returns-then-n-gt32 : goal.returns-then-n-gt32
 unfolding noted
 returns-then-n-gt32 c = sym (if_true _ _ (lt-ltb _ _ c.if-n-gt32.true))
 
-pub returns-then-n-lt32 : goal.returns-then-n-lt32
+pub returns-then-room : goal.returns-then-room
 unfolding noted
-returns-then-n-lt32 c = sym (if_false _ _ (le-ltb _ _ c.if-n-gt32.false) ∙ if_true _ _ (lt-ltb _ _ c.if-n-lt32.true))
+returns-then-room c = sym (if_false _ _ (le-ltb _ _ c.if-n-gt32.false) ∙ if_true _ _ (lt-ltb _ _ c.if-room.true))
 
 pub returns : goal.returns
 unfolding noted
-returns c = sym (if_false _ _ (le-ltb _ _ c.if-n-gt32.false) ∙ if_false _ _ (le-ltb _ _ c.if-n-lt32.false))
+returns c = sym (if_false _ _ (le-ltb _ _ c.if-n-gt32.false) ∙ if_false _ _ (le-ltb _ _ c.if-room.false))

@@ -23,16 +23,16 @@ pub returns-then-r-eq0 : goal.returns-then-r-eq0
 returns-then-r-eq0 c = let a = c.args in
     sym (all_hole a.w.now a.n a.t c.loop-i.i c.loop-i-test.true (c.reach-r.ensures.none c.if-r-eq0.true))
 
-pub overflow_sub-t : goal.overflow_sub-t
-overflow_sub-t c = c.loop-i.invariant.0
+pub overflow_sub-last : goal.overflow_sub-last
+overflow_sub-last c = c.loop-i.invariant.0
 
-pub returns-then-t-i : goal.returns-then-t-i
-returns-then-t-i c = let a = c.args in
+pub returns-then-last : goal.returns-then-last
+returns-then-last c = let a = c.args in
     let w = a.w.now in
     let i = c.loop-i.i in
     let v = c.loop-i.invariant in
     let e = c.reach-r.ensures in
-    let l = c.if-t-i.true in
+    let l = c.if-last.true in
     sym (all_true w a.n a.t (covered-on w a.n i a.t v.1 (λ x p q. reached w a.n i _ e x p (omega (arith, l, v.0)))))
 
 pub loop-i-smaller : goal.loop-i-smaller
@@ -44,7 +44,7 @@ loop-i-preserved c = let a = c.args in
     let i = c.loop-i.i in
     let v = c.loop-i.invariant in
     let e = c.reach-r.ensures in
-    let l = c.if-t-i.false in
+    let l = c.if-last.false in
     (omega (arith, l, v.0), covered-on w a.n i _ v.1 (reached w a.n i _ e))
 
 pub returns : goal.returns

@@ -17,10 +17,10 @@ pub returns-then-description-eq-CLOSE_NOTIFY : goal.returns-then-description-eq-
 unfolding alert_as
 returns-then-description-eq-CLOSE_NOTIFY c = sym (if_false _ _ (le-ltb _ _ c.if-c-lt2.false) ∙ if_true _ _ (eq-eqb _ _ c.if-description-eq-CLOSE_NOTIFY.true) ∙ if_false _ _ c.if-closed.false)
 
-pub returns-then-description-eq-USER_CANCELED : goal.returns-then-description-eq-USER_CANCELED
+pub returns-then-cancels : goal.returns-then-cancels
 unfolding alert_as
-returns-then-description-eq-USER_CANCELED c = sym (if_false _ _ (le-ltb _ _ c.if-c-lt2.false) ∙ if_false _ _ (ne_eqb _ _ c.if-description-eq-CLOSE_NOTIFY.false) ∙ if_true _ _ (eq-eqb _ _ c.if-description-eq-USER_CANCELED.true))
+returns-then-cancels c = sym (if_false _ _ (le-ltb _ _ c.if-c-lt2.false) ∙ if_false _ _ (ne_eqb _ _ c.if-description-eq-CLOSE_NOTIFY.false) ∙ if_true _ _ (eq-eqb _ _ c.if-cancels.true))
 
 pub returns : goal.returns
 unfolding alert_as
-returns c = sym (if_false _ _ (le-ltb _ _ c.if-c-lt2.false) ∙ if_false _ _ (ne_eqb _ _ c.if-description-eq-CLOSE_NOTIFY.false) ∙ if_false _ _ (ne_eqb _ _ c.if-description-eq-USER_CANCELED.false))
+returns c = sym (if_false _ _ (le-ltb _ _ c.if-c-lt2.false) ∙ if_false _ _ (ne_eqb _ _ c.if-description-eq-CLOSE_NOTIFY.false) ∙ if_false _ _ (ne_eqb _ _ c.if-cancels.false))

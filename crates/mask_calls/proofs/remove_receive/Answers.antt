@@ -13,8 +13,8 @@ use Rattle.mask_calls.proofs.remove_receive.Goals as goal
 pub leave-requires : goal.leave-requires
 leave-requires c = let a = c.args in subst (Under most_epochs) (sym c.entry_of-f.ensures) (entry-under (keys_of a.w.now) a.epoch)
 
-pub returns-then-r-eq0 : goal.returns-then-r-eq0
-returns-then-r-eq0 c = (c.remove_receive-r.ensures, subst (λ (f : Found). MovesUp f c.leave.new.k c.args.k.now) (c.entry_of-f.ensures ∙ sym (if_true _ _ (eq-eqb _ _ c.if-r-eq0.true))) c.leave.ensures)
+pub returns-then-removed : goal.returns-then-removed
+returns-then-removed c = (c.remove_receive-r.ensures, subst (λ (f : Found). MovesUp f c.leave.new.k c.args.k.now) (c.entry_of-f.ensures ∙ sym (if_true _ _ (eq-eqb _ _ c.if-removed.true))) c.leave.ensures)
 
 pub returns : goal.returns
-returns c = let k = c.args.k.now in (c.remove_receive-r.ensures, subst (λ (f : Found). MovesUp f k k) (sym (if_false _ _ (ne_eqb _ _ c.if-r-eq0.false))) refl)
+returns c = let k = c.args.k.now in (c.remove_receive-r.ensures, subst (λ (f : Found). MovesUp f k k) (sym (if_false _ _ (ne_eqb _ _ c.if-removed.false))) refl)

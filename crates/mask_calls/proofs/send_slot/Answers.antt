@@ -5,8 +5,8 @@ use borrow.Author.Tests.{eq-eqb, ne_eqb}
 use Rattle.base.specs.Choose.{if_true, if_false}
 use Rattle.mask_calls.proofs.send_slot.Goals as goal
 
-pub returns-then-epoch-eq2 : goal.returns-then-epoch-eq2
-returns-then-epoch-eq2 c = (sym (if_true _ _ (eq-eqb _ _ c.if-epoch-eq2.true)), omega arith)
+pub returns-then-handshake : goal.returns-then-handshake
+returns-then-handshake c = (sym (if_true _ _ (eq-eqb _ _ c.if-handshake.true)), omega arith)
 
 pub returns : goal.returns
-returns c = (sym (if_false _ _ (ne_eqb _ _ c.if-epoch-eq2.false)), omega arith)
+returns c = (sym (if_false _ _ (ne_eqb _ _ c.if-handshake.false)), omega arith)

@@ -41,25 +41,25 @@ pub overflow_add-n : goal.overflow_add-n
 overflow_add-n c = omega (arith, c.loop-n-test.true)
 
 -- src/lib.rt:119:12
-pub overflow_sub-body-in-loop-n : goal.overflow_sub-body-in-loop-n
-overflow_sub-body-in-loop-n c = omega (arith, c.piece_size-size.ensures, size-rest (state_of c.loop-n.w).queue.mtu c.record_len-over.result c.last_len-used.result (length c.args.body.now - c.loop-n.at), (c.loop-n.invariant.0 []).inside, c.requires.1)
+pub overflow_sub-all : goal.overflow_sub-all
+overflow_sub-all c = omega (arith, c.piece_size-size.ensures, size-rest (state_of c.loop-n.w).queue.mtu c.record_len-over.result c.last_len-used.result (length c.args.body.now - c.loop-n.at), (c.loop-n.invariant.0 []).inside, c.requires.1)
 
 -- src/lib.rt:120:13
-pub shape_of-memory-then-body-at-eq0 : goal.shape_of-memory-then-body-at-eq0
-shape_of-memory-then-body-at-eq0 c = c.send_piece-a.auto.memory ∙ (c.loop-n.invariant.0 []).queue
+pub shape_of-memory-then-all : goal.shape_of-memory-then-all
+shape_of-memory-then-all c = c.send_piece-a.auto.memory ∙ (c.loop-n.invariant.0 []).queue
 
 -- src/lib.rt:120:13
-pub shape_of-kept-then-body-at-eq0 : goal.shape_of-kept-then-body-at-eq0
-shape_of-kept-then-body-at-eq0 c = c.send_piece-a.auto.kept ∙ (c.loop-n.invariant.0 []).kept
+pub shape_of-kept-then-all : goal.shape_of-kept-then-all
+shape_of-kept-then-all c = c.send_piece-a.auto.kept ∙ (c.loop-n.invariant.0 []).kept
 
 -- src/lib.rt:120:13
-pub returns-then-body-at-eq0 : goal.returns-then-body-at-eq0
-returns-then-body-at-eq0 c = let a = c.args in
+pub returns-then-all : goal.returns-then-all
+returns-then-all c = let a = c.args in
     let b = c.loop-n in
     let y = c.send_piece-a.ensures in
     let s = rw (c.last_len-used.ensures.0, c.record_len-over.ensures, c.epoch_of.ensures) at c.piece_size-size.ensures in
     let i : b.at + c.piece_size-size.result ≤ length a.body.now = omega (arith, c.piece_size-size.ensures, size-rest (state_of c.loop-n.w).queue.mtu c.record_len-over.result c.last_len-used.result (length c.args.body.now - c.loop-n.at), (c.loop-n.invariant.0 []).inside, c.requires.1) in
-    record { all = λ l. going_last (b.invariant.0 l) c.loop-n-test.true s (piece_is a.kind b.at c.piece_size-size.result a.body.now b.w _ b.f _ b.memory _ b.kept _ i y l) c.send_piece-a.auto.memory c.send_piece-a.auto.kept c.if-body-at-eq0.true; flat = λ z. y.flat (b.invariant.1 z); marks = λ z. y.marks (b.invariant.2 z) }
+    record { all = λ l. going_last (b.invariant.0 l) c.loop-n-test.true s (piece_is a.kind b.at c.piece_size-size.result a.body.now b.w _ b.f _ b.memory _ b.kept _ i y l) c.send_piece-a.auto.memory c.send_piece-a.auto.kept c.if-all.true; flat = λ z. y.flat (b.invariant.1 z); marks = λ z. y.marks (b.invariant.2 z) }
 
 -- src/lib.rt:113:5
 pub loop-n-smaller : goal.loop-n-smaller
@@ -72,7 +72,7 @@ loop-n-preserved c = let a = c.args in
     let y = c.send_piece-a.ensures in
     let s = rw (c.last_len-used.ensures.0, c.record_len-over.ensures, c.epoch_of.ensures) at c.piece_size-size.ensures in
     let i : b.at + c.piece_size-size.result ≤ length a.body.now = omega (arith, c.piece_size-size.ensures, size-rest (state_of c.loop-n.w).queue.mtu c.record_len-over.result c.last_len-used.result (length c.args.body.now - c.loop-n.at), (c.loop-n.invariant.0 []).inside, c.requires.1) in
-    (λ l. going_more (b.invariant.0 l) c.loop-n-test.true s (piece_is a.kind b.at c.piece_size-size.result a.body.now b.w _ b.f _ b.memory _ b.kept _ i y l) c.send_piece-a.auto.memory c.send_piece-a.auto.kept c.if-body-at-eq0.false i, λ z. y.flat (b.invariant.1 z), λ z. y.marks (b.invariant.2 z))
+    (λ l. going_more (b.invariant.0 l) c.loop-n-test.true s (piece_is a.kind b.at c.piece_size-size.result a.body.now b.w _ b.f _ b.memory _ b.kept _ i y l) c.send_piece-a.auto.memory c.send_piece-a.auto.kept c.if-all.false i, λ z. y.flat (b.invariant.1 z), λ z. y.marks (b.invariant.2 z))
 
 -- src/lib.rt:98:1
 pub shape_of-memory : goal.shape_of-memory

@@ -5,10 +5,10 @@ use Rattle.base.specs.Choose.{if_false, if_true}
 use Rattle.window.specs.Used.{expected}
 use Rattle.recv_keys.proofs.expected_recv_seq.Goals as goal
 
-pub returns-then-w-eq1 : goal.returns-then-w-eq1
+pub returns-then-used : goal.returns-then-used
 unfolding expected
-returns-then-w-eq1 c = sym (if_true _ _ (eq-eqb _ _ c.if-w-eq1.true))
+returns-then-used c = sym (if_true _ _ (eq-eqb _ _ c.if-used.true))
 
 pub returns : goal.returns
 unfolding expected
-returns c = sym (if_false _ _ (ne_eqb _ _ c.if-w-eq1.false))
+returns c = sym (if_false _ _ (ne_eqb _ _ c.if-used.false))

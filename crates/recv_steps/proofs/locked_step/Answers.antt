@@ -7,13 +7,13 @@ use Rattle.recv_keys.specs.Laws.{resolve-keyed}
 use Rattle.records.specs.Records.{locked_step}
 use Rattle.recv_steps.proofs.locked_step.Goals as goal
 
-pub returns-then-length-lt16 : goal.returns-then-length-lt16
+pub returns-then-short : goal.returns-then-short
 unfolding locked_step
-returns-then-length-lt16 c = rw (sym c.resolve_epoch-f.ensures ∙ c.in-At.is) (c.pass-then-length-lt16.ensures ∙ sym (if_true _ _ (lt-ltb _ _ c.if-length-lt16.true)))
+returns-then-short c = rw (sym c.resolve_epoch-f.ensures ∙ c.in-At.is) (c.pass-then-short.ensures ∙ sym (if_true _ _ (lt-ltb _ _ c.if-short.true)))
 
 pub returns-then-length-w : goal.returns-then-length-w
 unfolding locked_step
-returns-then-length-w c = rw (sym c.resolve_epoch-f.ensures ∙ c.in-At.is) (c.pass-then-length-w.ensures ∙ sym (if_false _ _ (le-ltb _ _ c.if-length-lt16.false) ∙ if_true _ _ (lt-ltb _ _ c.if-length-w.true)))
+returns-then-length-w c = rw (sym c.resolve_epoch-f.ensures ∙ c.in-At.is) (c.pass-then-length-w.ensures ∙ sym (if_false _ _ (le-ltb _ _ c.if-short.false) ∙ if_true _ _ (lt-ltb _ _ c.if-length-w.true)))
 
 pub epoch_at-requires : goal.epoch_at-requires
 epoch_at-requires c = omega (arith, resolve-keyed _ _ _ (sym c.resolve_epoch-f.ensures ∙ c.in-At.is), c.requires.0)
@@ -24,4 +24,4 @@ returns-in-Nothing c = rw (sym c.resolve_epoch-f.ensures ∙ c.in-Nothing.is) c.
 
 pub returns-else-length-w : goal.returns-else-length-w
 unfolding locked_step
-returns-else-length-w c = rw (sym c.resolve_epoch-f.ensures ∙ c.in-At.is) (rw c.epoch_at.ensures at c.ask_mask.ensures ∙ sym (if_false _ _ (le-ltb _ _ c.if-length-lt16.false) ∙ if_false _ _ (le-ltb _ _ c.if-length-w.false)))
+returns-else-length-w c = rw (sym c.resolve_epoch-f.ensures ∙ c.in-At.is) (rw c.epoch_at.ensures at c.ask_mask.ensures ∙ sym (if_false _ _ (le-ltb _ _ c.if-short.false) ∙ if_false _ _ (le-ltb _ _ c.if-length-w.false)))
