@@ -69,7 +69,7 @@ def load(top):
         for path in sorted(glob.glob(f"{top}/crates/*/{pattern}", recursive=True)):
             if os.path.basename(path) != "Lib.antt":
                 crate = os.path.relpath(path, top).split(os.sep)[1]
-                for name, kind, lines, around in declarations(path):
+                for name, kind, lines, around in list(declarations(path)):
                     body = plain(re.sub(r"\b(abbrev|unfoldable)\s+", "", " ".join(lines))) if kind else ""
                     found[crate, name].append((statement(name, lines), body, around, os.path.relpath(path, f"{top}/crates/{crate}")))
     return found
@@ -88,7 +88,8 @@ def main(argv):
                 for it in new.get((crate, name), []):
                     print(f"  + {it[1] or it[0]} ({it[3]})")
             elif path not in [it[3] for it in same]:
-                moved[crate, path, same[0][3]].append(name)
+                to = next((it[3] for it in same if os.path.basename(it[3]) == os.path.basename(path)), same[0][3])
+                moved[crate, path, to].append(name)
     if "--moved" in argv:
         for (crate, path, to), names in sorted(moved.items()):
             print(f"{crate}: {path} -> {to}: {' '.join(names)}")

@@ -12,6 +12,7 @@ use Rattle.base.specs.Choose.{both, if_true, if_false, by_test, test_cases, both
 use Rattle.base.specs.Every.{every, each-every, every-each, one-fails, same-each, each_same}
 use Rattle.history_theorem.proofs.Lists.{mem-by, either-cases}
 use Rattle.assembly_theorem.specs.Account.{Fragment, end_of, has, byte_in, is_same, is_shared, covers, byte_of, oldest, is_among, shares_all}
+use Rattle.assembly_theorem.specs.Agreement.{Shares}
 
 -- two tests that pass together are one
 pub alike : (a b : Bool) → (a ≡ true → b ≡ true) → (b ≡ true → a ≡ true) → a ≡ b
@@ -111,11 +112,6 @@ byte-first [] i x all e = absurd (false≢true e)
 byte-first (f ∷ fs) i x all e =
     test_cases (covers fs i) (λ t. byte-first fs i x (λ g m. all g (there m)) t ∙ sym (if_true _ _ t))
     (λ t. all f (here refl) (either-cases _ _ e (λ p. p) (λ p q. absurd (false≢true (sym t ∙ q)))) ∙ sym (if_false _ _ t))
-
--- ---- shared bytes
-
-abbrev pub Shares : Fragment → Fragment → Type 0
-Shares f g = (i : ℕ) → has f i ≡ true → has g i ≡ true → byte_in f i ≡ byte_in g i
 
 module _ (f : Fragment) where
   shares_with : (g : Fragment) → every (is_shared f g) (end_of f) ≡ true → Shares f g

@@ -14,11 +14,12 @@ use Rattle.base.specs.Choose.{choose, both, by_test, by_less, if_true, if_false,
 use Rattle.base.specs.Every.{every-each, each-every, one-fails}
 use Rattle.history_theorem.proofs.Lists.{mem-by}
 use Rattle.assembly_theorem.specs.Account.{most_taken, longest_body, last_number, Fragment, fragment_in, end_of, has, byte_in, covers, covers_all, oldest, is_among, shares_all, Account, Verdict, begun, turned, ended, over, other, same, held, whole, is_fit, is_agreed, taken_as, judged, read_as, owed, ends, settled, or_none, reads_from, after}
-use Rattle.assembly_theorem.proofs.Agreement.{same-one, Among, among, is-among, Shares, shares_each, one_differs, oldest-in}
+use Rattle.assembly_theorem.proofs.Agreement.{same-one, Among, among, is-among, shares_each, one_differs, oldest-in}
 use Rattle.assembly_theorem.specs.Claim.{PieceCall, begin·, take·, Out, Piecing, new_piecing, logged, does, FairPiece, Log, none as no-message, more, ran, AllFair}
 use Rattle.assembly_theorem.proofs.Laws.{length-stays}
 use Rattle.assembly_theorem.proofs.ReadLaws.{kept-count}
 use Rattle.assembly_theorem.proofs.Theorem.{Story, does_story, new_story}
+use Rattle.assembly_theorem.specs.Rules.{Fits, MessageWithin, Pieces, Within}
 
 -- ---- what the rules speak of
 
@@ -412,33 +413,6 @@ module _ (I : Piecing → Type 0) (step : (p : Piecing) (x : PieceCall) → Stor
   ran-keeps : (p : Piecing) (cs : List PieceCall) → AllFair p cs → Story p → I p → I (ran p cs)
   ran-keeps p [] fair s i = i
   ran-keeps p (x ∷ cs) fair s i = let t = does_story p x fair.0 s in ran-keeps (does p x) cs fair.1 t (step p x s t i)
-
--- pieces of message k, each within its total, which is at most 16,384
-abbrev pub Fits : ℕ → Fragment → Type 0
-Fits k f = (f.number ≡ k) × (f.total ≤ longest_body) × (end_of f ≤ f.total)
-
-abbrev pub Pieces : ℕ → List Fragment → Type 0
-Pieces k fs = (f : Fragment) → Mem f fs → Fits k f
-
--- a message: its pieces have its number; "at most 50 pieces", "body at most 16,384 bytes"
-pub record MessageWithin (m : Out) : Type 0 where
-  pub pieces : Pieces m.number (m.last ∷ m.earlier)
-  pub few : length (m.last ∷ m.earlier) ≤ most_taken
-  pub short : length m.body ≤ longest_body
-
--- two pieces of one message: type, total, and every byte that both have
-pub record Agree (f g : Fragment) : Type 0 where
-  pub kind : f.kind ≡ g.kind
-  pub total : f.total ≡ g.total
-  pub bytes : Shares f g
-
--- the expected number is never beyond 65,535, which is then the one that 24 means; any two pieces taken of the message agree (02, 7)
-pub record Within (p : Piecing) : Type 0 where
-  pub agree : (f g : Fragment) → Mem f p.account.pieces → Mem g p.account.pieces → Agree f g
-  pub expected : p.account.out ≤ last_number
-  pub pieces : Pieces p.account.out p.account.pieces
-  pub few : length p.account.pieces ≤ most_taken
-  pub messages : (m : Out) → Mem m p.messages → MessageWithin m
 
 module _ (a : Account) (c : List ℕ) (n : ℕ) where
   one-more : {f : Fragment} → New a c n f → Pieces a.out a.pieces → Pieces a.out (reads_from a c ∷ a.pieces)

@@ -1,2 +1,4 @@
 pub mod Account
 pub mod Claim
+pub mod Rules
+pub mod Agreement

@@ -17,6 +17,7 @@ use Rattle.history_theorem.proofs.Lists.{some≢none}
 use Rattle.history_theorem.specs.Receiver.{Sealed, Handed, Tried, Inbound}
 use Rattle.classify_theorem.specs.Account.{alert_type, ack_type, close_notify, user_canceled, Pending, Place, Verdict, turned, noneWaits, beyond, unprotected, ignored, marks, closes, tells, handshake, application_data, other, unopened, is_past, first_only, alert_owed, type_owed, sealed_owed, is_dropped, plain_owed, place_of, kind_owed, reading_owed, Reply}
 use Rattle.classify_theorem.specs.Claim.{Dealt, Dealings, is_reading, Is, Kept, was-dealt, was-missed, still-waits, Classified}
+use Rattle.classify_theorem.specs.Rules.{Delivered, Handled, due_owed, delivered, left-behind, waits}
 
 -- ---- beyond the close
 
@@ -47,12 +48,6 @@ not_past o p h = test_cases (is_past o p) (λ e. absurd (h (past o p e))) (λ e.
 -- at the close itself nothing is past it
 pub at-close : (c : Place) → Past (some c) c → ⊥
 at-close c h = ⊎_elim (λ l. omega arith) (λ (l : (c.epoch ≡ c.epoch) × (c.number < c.number)). let k = l.1 in omega arith) h
-
--- ---- a record that was due
-
--- what the far end sealed with that type and content is owed, by the first close alone: "handed on by its type and content"
-abbrev pub due_owed : Option Place → ℕ → Sealed → Verdict
-due_owed close e r = choose (is_past close (record { epoch = e; number = r.num })) beyond (sealed_owed close r.type r.content)
 
 opened-owed : (close : Option Place) (on : Bool) (r : Reading) (c : List ℕ) (e : ℕ) (h : Handed) → SaysOpened r c e h
     → (reading_owed close on r c ≡ choose (is_past close (record { epoch = e; number = h.num })) beyond (sealed_owed close h.type h.content))
@@ -87,18 +82,6 @@ opened-reads (says.Plaintext t n s l) c e h q = absurd q
 opened-reads (says.Unopened b n s l) c e h q = absurd q
 opened-reads (says.Mask k s) c e h q = absurd q
 opened-reads (says.Opening k n s g l) c e h q = absurd q
-
--- its own reading, told as what it is, with the very bytes that were sealed
-pub record Delivered (x : Dealt) (e : ℕ) (r : Sealed) : Type 0 where
-  pub reading : SaysOpened x.pending.reading x.pending.shown e (as_handed r)
-  pub verdict : x.reply.verdict ≡ due_owed x.close e r
-  pub content : x.reply.content ≡ r.content
-
--- dealt with; or left behind by its own host, which read on or began anew first; or it waits
-pub data Handled (p : Dealings) (e : ℕ) (r : Sealed) : Type 0 where
-  delivered : (x : Dealt) → Mem x p.dealt → Delivered x e r → Handled p e r
-  left-behind : (x : Pending) → Mem x p.missed → SaysOpened x.reading x.shown e (as_handed r) → Handled p e r
-  waits : (x : Pending) → p.account.pending ≡ some x → SaysOpened x.reading x.shown e (as_handed r) → Handled p e r
 
 module _ (p : Dealings) (sealed : ℕ → List Sealed) (i : Inbound) (e : ℕ) (c : Classified p i.into) (g : Received sealed i e) where
   says_so : (d : Tried) (x : Pending) → Is d x → (h : Handed) → SaysOpened d.reading d.shown e h → SaysOpened x.reading x.shown e h

@@ -11,7 +11,8 @@ use Rattle.queue.specs.Queue.{is_setting}
 use Rattle.history_theorem.specs.Account.{sealed_over}
 use Rattle.ends_theorem.proofs.Starting.{ranges-setting}
 use Rattle.assembly_theorem.proofs.Theorem.{Story, does_story, new_story}
-use Rattle.assembly_theorem.proofs.Rules.{Within, does-within, new-within}
+use Rattle.assembly_theorem.proofs.Rules.{does-within, new-within}
+use Rattle.assembly_theorem.specs.Rules.{Within}
 use Rattle.ends_theorem.proofs.Given.{Given, given-keeps, given-lies, took-all}
 use Rattle.base.specs.Choose.{by_test}
 use Rattle.opening_reply.specs.declared.Opening.{Opening}

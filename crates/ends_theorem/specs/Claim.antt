@@ -9,8 +9,8 @@ use Rattle.history_theorem.specs.Claim.{Masks, Once, as_handed, nonce_for, Due, 
 use Rattle.history_theorem.specs.Receiver.{Sealed, Tried}
 use Rattle.assembly_theorem.specs.Claim.{Assembled}
 use Rattle.classify_theorem.specs.Claim.{Classified}
-use Rattle.classify_theorem.proofs.Rules.{Handled}
-use Rattle.assembly_theorem.proofs.Rules.{Within}
+use Rattle.classify_theorem.specs.Rules.{Handled}
+use Rattle.assembly_theorem.specs.Rules.{Within}
 use Rattle.history_theorem.specs.Account.{sealed_tail}
 use Rattle.ends_theorem.specs.Deals.{Deals}
 use Rattle.ends_theorem.specs.Flights.{handed_as, Arrived, Apart, Held}

@@ -6,7 +6,8 @@ use Rattle.std.proofs.Common.{sym, ap, subst, ◌∙◌, ltb-false, leb-false}
 use native.Mathlib.Omega.{arith}
 use Rattle.base.specs.Choose.{by_test, lt-or_ge}
 use Rattle.datagram.specs.declared.Datagram.{Datagram}
-use Rattle.opening_reply.proofs.Keeps.{opened-effect, Marks}
+use Rattle.opening_reply.proofs.Keeps.{opened-effect}
+use Rattle.opening_reply.specs.Keeps.{Marks}
 use Rattle.opening_reply.specs.declared.Opening.{Opening}
 use Rattle.recv_keys.specs.Keeps.{installed-other, installed-last, left-front, left-behind, marked-epoch}
 use Rattle.recv_keys.specs.Keys.{no_entry, entry_at, fits, last_fit, find, fresh, is_full, installed, left, marked}

@@ -27,7 +27,8 @@ use Rattle.recv_keys.specs.declared.Found.TheVariants as found
 use Rattle.recv_keys.specs.declared.Found.{Found}
 use Rattle.recv_keys.specs.declared.RecvEpochEntry.{RecvEpochEntry}
 use Rattle.recv_keys.specs.declared.RecvKeys.{RecvKeys}
-use Rattle.sequence.proofs.Laws.{Nearest, only-nearest}
+use Rattle.sequence.proofs.Laws.{only-nearest}
+use Rattle.sequence.specs.Laws.{Nearest}
 use Rattle.sequence.specs.Sequence.{block_of, nearest}
 use Rattle.window.specs.Used.{Agrees, expected}
 use Rattle.window.proofs.Used.{used-below, tells}

@@ -40,7 +40,7 @@ use Rattle.recv_keys.specs.declared.Found.TheVariants as found
 use Rattle.recv_keys.specs.declared.Found.{Found}
 use Rattle.recv_keys.specs.declared.RecvEpochEntry.{RecvEpochEntry}
 use Rattle.recv_keys.specs.declared.RecvKeys.{RecvKeys}
-use Rattle.sequence.proofs.Laws.{Nearest}
+use Rattle.sequence.specs.Laws.{Nearest}
 use Rattle.window.specs.Used.{above, Agrees}
 use Rattle.window.proofs.Used.{expects}
 use Rattle.window.specs.Window.{verdict}

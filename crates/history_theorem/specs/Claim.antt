@@ -12,7 +12,7 @@ use Rattle.datagram.specs.declared.Reading.{Reading}
 use Rattle.datagram.specs.declared.Reason.TheVariants as reason
 use Rattle.opening_reply.specs.declared.Opening.TheVariants as reply
 use Rattle.opening_reply.specs.declared.Opening.{Opening}
-use Rattle.sequence.proofs.Laws.{Nearest}
+use Rattle.sequence.specs.Laws.{Nearest}
 use Rattle.window.specs.Used.{above}
 use Rattle.window.specs.declared.Verdict.TheVariants.{Seen}
 use Rattle.history_theorem.specs.Account.{plain_head, tag_size, Shown, nothing, a_mask, an_opening, head_size, said_size, record_size}

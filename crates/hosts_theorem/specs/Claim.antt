@@ -46,7 +46,7 @@ use Rattle.classify_theorem.specs.Account as account
 use Rattle.opening_reply.specs.Opening.{start_of, length_of}
 use Rattle.datagram.specs.declared.Reading.{Reading}
 use Rattle.recv_calls.specs.declared.HuskReading.{HuskReading}
-use Rattle.sequence.proofs.Laws.{Nearest}
+use Rattle.sequence.specs.Laws.{Nearest}
 use Rattle.window.specs.Used.{above}
 use Rattle.ends_theorem.specs.Claim.{Holds}
 use Rattle.ends_theorem.specs.Ledger.{Item, Ledger, waiting, items, oldest, unacked, owed, short_reply, after as accountAfter}

@@ -24,6 +24,7 @@ use Rattle.opening_reply.specs.Opening.{typed, opened_at, opened_by, openings, o
 use Rattle.opening_reply.specs.declared.Marked.{Marked}
 use Rattle.opening_reply.specs.declared.Opening.TheVariants as reply
 use Rattle.opening_reply.specs.declared.Opening.{Opening}
+use Rattle.opening_reply.specs.Keeps.{Marks}
 
 -- the ranges hold behind an opening
 abbrev pub Fine : Marked → Type 0
@@ -65,18 +66,6 @@ unfolding opened_step
 opened-keeps k b o d long t =
     let r = ready k b t in
     is-ready _ _ (by_test Fine (λ u. by_test Fine (λ v. openings_keep k b o d b.question r long r.question) (λ v. r)) (λ u. r))
-
--- ---- what an opening reply does to the keys
-
--- the number of the question that waits is marked, by a yes of the right length
-pub record Marks (k : RecvKeys) (b : Datagram) (o : Opening) (l : RecvKeys) : Type 0 where
-  pub ask : Ask
-  pub number : ℕ
-  pub place : ℕ
-  pub waits : b.question ≡ question.Opening ask number
-  pub found : find k.entries ask.epoch k.count ≡ found.At place
-  pub said : o ≡ reply.Yes (ask.length - tag_size)
-  pub keys : l ≡ marked k place number
 
 -- refused, the state is unchanged; else the keys are unchanged, or a number is marked
 pub record Effect (k : RecvKeys) (b : Datagram) (o : Opening) (m : Marked) : Type 0 where

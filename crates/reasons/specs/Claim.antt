@@ -4,7 +4,7 @@ use Prim.{Unit}
 use Rattle.std.specs.Prelude.{◌⊎◌, ◌↔◌, ◌≡◌, ℕ, ◌+◌, ◌-◌, ◌*◌, ◌<◌, ◌≤◌, eqb, length, get_or}
 use mathlib.Core.List.{List, Memᴰ as Mem}
 use Rattle.sequence.specs.Sequence.{block_of}
-use Rattle.sequence.proofs.Laws.{Nearest}
+use Rattle.sequence.specs.Laws.{Nearest}
 use Rattle.reasons.specs.declared.Reason.{Reason}
 use Rattle.reasons.specs.declared.Reason.TheVariants.{Short, Record, Epoch, Old, Seen, Cipher, Taken}
 use Rattle.reasons.specs.Met.{Distinct}

@@ -13,7 +13,8 @@ use Rattle.datagram.specs.declared.Datagram.{Datagram}
 use Rattle.datagram.specs.declared.Question.TheVariants as question
 use Rattle.datagram.specs.declared.Question.{Question}
 use Rattle.mask_reply.proofs.Keeps.{mask-keeps, mask-rests}
-use Rattle.opening_reply.proofs.Keeps.{opened-effect, opened-keeps, Marks}
+use Rattle.opening_reply.proofs.Keeps.{opened-effect, opened-keeps}
+use Rattle.opening_reply.specs.Keeps.{Marks}
 use Rattle.opening_reply.proofs.Leads.{cancel_drops}
 use Rattle.opening_reply.specs.Opening.{cancelled_ask, cancelled, opened_step}
 use Rattle.opening_reply.specs.declared.Cancelled.{Cancelled}

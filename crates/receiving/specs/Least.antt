@@ -3,7 +3,8 @@ use Rattle.std.specs.Prelude.{ℕ, List, [], ◌∷◌, ◌≡◌}
 use Rattle.std.proofs.Common.{⊎_elim, ap, ◌∙◌}
 use Rattle.std.proofs.Math.Path.{refl}
 use Rattle.base.specs.Choose.{by_test}
-use Rattle.opening_reply.proofs.Keeps.{opened-effect, Marks}
+use Rattle.opening_reply.proofs.Keeps.{opened-effect}
+use Rattle.opening_reply.specs.Keeps.{Marks}
 use Rattle.opening_reply.specs.Opening.{opened_step}
 use Rattle.opening_reply.specs.declared.Opening.{Opening}
 use Rattle.recv_keys.specs.Keys.{find, installed, left, marked}

@@ -1,9 +1,10 @@
 -- What number rebuilding answers. Assumes nothing.
-use Rattle.std.specs.Prelude.{Bool, true, false, ◌⊎◌, ◌≡◌, ℕ, ◌+◌, ◌-◌, ◌/◌, ◌%◌, ◌^◌, ◌<◌, ◌≤◌, max}
+use Rattle.std.specs.Prelude.{Bool, true, false, ◌⊎◌, ◌≡◌, ℕ, ◌+◌, ◌-◌, ◌/◌, ◌%◌, ◌^◌, ◌<◌, max}
 use Rattle.std.proofs.Common.{inl, inr, ⊎_elim, sym, ◌∙◌, arith}
 use Rattle.base.specs.Choose.{eq-or_ne}
 use Rattle.sequence.specs.Sequence.{block_of, own, nearest}
 use Rattle.sequence.proofs.Cases.{cases}
+use Rattle.sequence.specs.Laws.{Nearest, distance}
 
 -- a number, of those that 64 bits hold, that ends in the bits is the answer if it is nearer than half a block, and above e also if it is in
 -- the first block: the one a block below is negative
@@ -14,20 +15,6 @@ near true p e n w m l u =
     cases (λ (x : ℕ). x ≡ n) 65536 p e (λ s z. omega arith) (λ s z. omega arith) (λ s t v. omega arith) (λ s t v. omega arith) (λ s t. omega arith)
 near false p e n w m l u =
     cases (λ (x : ℕ). x ≡ n) 256 p e (λ s z. omega arith) (λ s z. omega arith) (λ s t v. omega arith) (λ s t v. omega arith) (λ s t. omega arith)
-
--- ---- 02, 1: "the nearest number that is 0 or more and ends in the received bits"
-
--- how far apart two numbers are
-abbrev pub distance : ℕ → ℕ → ℕ
-distance x e = (x - e) + (e - x)
-
--- x, of the numbers of 0 or more that 64 bits hold, ends in the bits of p, and none of those that do is nearer e
-pub record Nearest (b p e x : ℕ) : Type 0 where
-  pub held : x < 2 ^ 64
-  pub ends : x % b ≡ p % b
-  pub least : (n : ℕ) → n < 2 ^ 64 → n % b ≡ p % b → distance x e ≤ distance n e
-  -- 01: of two as near the one in e's own block
-  pub tie : (n : ℕ) → n % b ≡ p % b → n / b ≡ e / b → distance n e ≡ distance x e → x ≡ n
 
 -- the answer is such a number
 pub nearest-least : (s : Bool) (p e : ℕ) → e < 2 ^ 64 → Nearest (block_of s) p e (nearest (block_of s) p e)

@@ -1,4 +1,4 @@
--- `assembly_steps::is-same` meets its contract. Invariant: the answer for the pieces that are left is the answer for all. Assumes nothing.
+-- `assembly_steps::is_same` meets its contract. Invariant: the answer for the pieces that are left is the answer for all. Assumes nothing.
 use mathlib.Core.Path.{refl, sym, ◌∙◌}
 use native.Mathlib.Omega.{arith}
 use Rattle.assembly.proofs.Covering.{same_hit, same_miss, same_none}

@@ -1,4 +1,4 @@
--- `assembly_steps::is-same` meets its contract. Invariant: the answer for the pieces that are left is the answer for all. Assumes nothing.
+-- `assembly_steps::is_same` meets its contract. Invariant: the answer for the pieces that are left is the answer for all. Assumes nothing.
 use mathlib.Core.Path.{◌≡◌}
 use Prim.Native.Nat.{◌≤◌}
 use Rattle.assembly.specs.Spans.{is_same, most-pieces}

@@ -1,4 +1,4 @@
--- `flight::has-room` meets its contract. Assumes nothing.
+-- `flight::has_room` meets its contract. Assumes nothing.
 use borrow.Author.Tests.{le-leb, lt-leb}
 use mathlib.Core.Path.{sym}
 use native.Mathlib.Omega.{arith}

@@ -4,7 +4,6 @@ use Rattle.base.specs.Choose.{if_true, if_false, both_true, both_false}
 use Rattle.flight_calls.specs.Calls.{saves}
 use Rattle.flight_calls.proofs.send_saved.Goals as goal
 
--- src/lib.rt:64:13
 pub returns-then-is_flat-2 : goal.returns-then-is_flat-2
 returns-then-is_flat-2 c = let l = c.args.numbers.now in
     let p = sym c.is_flat.ensures ∙ c.if-is_flat.true in
@@ -13,10 +12,8 @@ returns-then-is_flat-2 c = let l = c.args.numbers.now in
     let y = c.send_saved-a.ensures in
     (saves c.send_saved-a.result _ _ _ _ _ l _ p q c.refusal.ensures (y.saved l) y.flat y.marks, (y.queue l ∙ sym (if_true _ _ h), y.kept l ∙ sym (if_true _ _ h)))
 
--- src/lib.rt:66:9
 pub returns-then-is_flat : goal.returns-then-is_flat
 returns-then-is_flat c = ((sym (if_false _ _ (both_true (sym c.is_flat.ensures ∙ c.if-is_flat.true) ∙ (sym c.is_flat-then-is_flat.ensures ∙ c.if-is_flat-2.false))), sym (if_false _ _ (both_true (sym c.is_flat.ensures ∙ c.if-is_flat.true) ∙ (sym c.is_flat-then-is_flat.ensures ∙ c.if-is_flat-2.false))), refl, sym (if_false _ _ (both_true (sym c.is_flat.ensures ∙ c.if-is_flat.true) ∙ (sym c.is_flat-then-is_flat.ensures ∙ c.if-is_flat-2.false))), refl), (sym (if_false _ _ (both_true (sym c.is_flat.ensures ∙ c.if-is_flat.true) ∙ (sym c.is_flat-then-is_flat.ensures ∙ c.if-is_flat-2.false))), sym (if_false _ _ (both_true (sym c.is_flat.ensures ∙ c.if-is_flat.true) ∙ (sym c.is_flat-then-is_flat.ensures ∙ c.if-is_flat-2.false)))))
 
--- src/lib.rt:49:1
 pub returns : goal.returns
 returns c = ((sym (if_false _ _ (both_false _ (sym c.is_flat.ensures ∙ c.if-is_flat.false))), sym (if_false _ _ (both_false _ (sym c.is_flat.ensures ∙ c.if-is_flat.false))), refl, sym (if_false _ _ (both_false _ (sym c.is_flat.ensures ∙ c.if-is_flat.false))), refl), (sym (if_false _ _ (both_false _ (sym c.is_flat.ensures ∙ c.if-is_flat.false))), sym (if_false _ _ (both_false _ (sym c.is_flat.ensures ∙ c.if-is_flat.false)))))

@@ -8,18 +8,14 @@ use Rattle.flight_words.specs.Words.{saved-at}
 use Rattle.message_steps.specs.Create.{creates_all, creates_nothing}
 use Rattle.message_steps.proofs.create_handshake.Goals as goal
 
--- src/lib.rt:150:9
 pub send_all-requires : goal.send_all-requires
 send_all-requires c = let a = c.args in let h = message_safe (state_of a.w.now) (counted (get_or a.f.now saved-at 0)) (length a.memory.now) (length a.kept.now) a.kind (length a.body.now) (rw c.message_answer-a.ensures at (sym c.is_done.ensures ∙ c.if-is_done.true)) in (h.range, h.short)
 
--- src/lib.rt:151:9
 pub put_message-requires : goal.put_message-requires
 put_message-requires c = let a = c.args in let h = message_safe (state_of a.w.now) (counted (get_or a.f.now saved-at 0)) (length a.memory.now) (length a.kept.now) a.kind (length a.body.now) (rw c.message_answer-a.ensures at (sym c.is_done.ensures ∙ c.if-is_done.true)) in h.seq
 
--- src/lib.rt:152:9
 pub returns-then-is_done : goal.returns-then-is_done
 returns-then-is_done c = let a = c.args in creates_all a.kind a.body.now a.w.now a.f.now a.memory.now a.kept.now c.message_answer-a.ensures _ _ _ _ _ (sym c.is_done.ensures ∙ c.if-is_done.true) c.send_all.ensures c.put_message.ensures
 
--- src/lib.rt:136:1
 pub returns : goal.returns
 returns c = let a = c.args in creates_nothing a.kind a.body.now a.w.now a.f.now a.memory.now a.kept.now c.message_answer-a.ensures (sym c.is_done.ensures ∙ c.if-is_done.false)

@@ -8,7 +8,6 @@ use Rattle.queue.specs.declared.Tail.{Tail}
 use Rattle.send_words.specs.Words.{state_of}
 use Rattle.message_steps.proofs.plan_of.Goals as goal
 
--- src/lib.rt:31:5
 pub survey-requires : goal.survey-requires
 unfolding tail_of
 survey-requires c = let r = c.requires in (
@@ -21,7 +20,6 @@ survey-requires c = let r = c.requires in (
   },
 )
 
--- src/lib.rt:23:1
 pub returns : goal.returns
 returns c = (
   rw (c.tail_of.ensures.0, c.record_len.ensures) at c.survey.ensures.0,

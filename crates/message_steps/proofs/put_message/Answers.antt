@@ -3,6 +3,5 @@ use native.Mathlib.Omega.{arith}
 use Rattle.message_steps.specs.Create.{message-put}
 use Rattle.message_steps.proofs.put_message.Goals as goal
 
--- src/lib.rt:127:1
 pub returns : goal.returns
 returns c = message-put _ _ c.sized.ensures (omega (arith, c.requires))

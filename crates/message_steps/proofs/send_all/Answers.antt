@@ -12,47 +12,36 @@ use Rattle.send_words.specs.Words.{state_of}
 use Rattle.message_steps.specs.Create.{piece_is}
 use Rattle.message_steps.proofs.send_all.Goals as goal
 
--- src/lib.rt:113:5
 pub loop-n-init : goal.loop-n-init
 loop-n-init c = (λ l. record { turns = omega arith; inside = omega arith; range = c.requires.0; same = refl; queue = refl; kept = refl }, λ z. z, λ z. z)
 
--- src/lib.rt:114:13
 pub last_len-used-requires : goal.last_len-used-requires
 last_len-used-requires c = (c.loop-n.invariant.0 []).range
 
--- src/lib.rt:115:70
 pub overflow_sub-body : goal.overflow_sub-body
 overflow_sub-body c = omega (arith, (c.loop-n.invariant.0 []).inside)
 
--- src/lib.rt:115:13
 pub piece_size-size-requires : goal.piece_size-size-requires
 piece_size-size-requires c = ((c.loop-n.invariant.0 []).range.low, omega (arith, c.record_len-over.ensures, len_small c.epoch_of.result 12), c.last_len-used.ensures.1)
 
--- src/lib.rt:116:9
 pub send_piece-a-requires : goal.send_piece-a-requires
 send_piece-a-requires c = (omega (arith, c.piece_size-size.ensures, size-rest (state_of c.loop-n.w).queue.mtu c.record_len-over.result c.last_len-used.result (length c.args.body.now - c.loop-n.at), (c.loop-n.invariant.0 []).inside, c.requires.1), c.requires.1)
 
--- src/lib.rt:117:9
 pub overflow_add-at : goal.overflow_add-at
 overflow_add-at c = omega (arith, c.piece_size-size.ensures, size-rest (state_of c.loop-n.w).queue.mtu c.record_len-over.result c.last_len-used.result (length c.args.body.now - c.loop-n.at), (c.loop-n.invariant.0 []).inside, c.requires.1)
 
--- src/lib.rt:118:9
 pub overflow_add-n : goal.overflow_add-n
 overflow_add-n c = omega (arith, c.loop-n-test.true)
 
--- src/lib.rt:119:12
 pub overflow_sub-all : goal.overflow_sub-all
 overflow_sub-all c = omega (arith, c.piece_size-size.ensures, size-rest (state_of c.loop-n.w).queue.mtu c.record_len-over.result c.last_len-used.result (length c.args.body.now - c.loop-n.at), (c.loop-n.invariant.0 []).inside, c.requires.1)
 
--- src/lib.rt:120:13
 pub shape_of-memory-then-all : goal.shape_of-memory-then-all
 shape_of-memory-then-all c = c.send_piece-a.auto.memory ∙ (c.loop-n.invariant.0 []).queue
 
--- src/lib.rt:120:13
 pub shape_of-kept-then-all : goal.shape_of-kept-then-all
 shape_of-kept-then-all c = c.send_piece-a.auto.kept ∙ (c.loop-n.invariant.0 []).kept
 
--- src/lib.rt:120:13
 pub returns-then-all : goal.returns-then-all
 returns-then-all c = let a = c.args in
     let b = c.loop-n in
@@ -61,11 +50,9 @@ returns-then-all c = let a = c.args in
     let i : b.at + c.piece_size-size.result ≤ length a.body.now = omega (arith, c.piece_size-size.ensures, size-rest (state_of c.loop-n.w).queue.mtu c.record_len-over.result c.last_len-used.result (length c.args.body.now - c.loop-n.at), (c.loop-n.invariant.0 []).inside, c.requires.1) in
     record { all = λ l. going_last (b.invariant.0 l) c.loop-n-test.true s (piece_is a.kind b.at c.piece_size-size.result a.body.now b.w _ b.f _ b.memory _ b.kept _ i y l) c.send_piece-a.auto.memory c.send_piece-a.auto.kept c.if-all.true; flat = λ z. y.flat (b.invariant.1 z); marks = λ z. y.marks (b.invariant.2 z) }
 
--- src/lib.rt:113:5
 pub loop-n-smaller : goal.loop-n-smaller
 loop-n-smaller c = omega (arith, c.loop-n-test.true)
 
--- src/lib.rt:113:5
 pub loop-n-preserved : goal.loop-n-preserved
 loop-n-preserved c = let a = c.args in
     let b = c.loop-n in
@@ -74,14 +61,11 @@ loop-n-preserved c = let a = c.args in
     let i : b.at + c.piece_size-size.result ≤ length a.body.now = omega (arith, c.piece_size-size.ensures, size-rest (state_of c.loop-n.w).queue.mtu c.record_len-over.result c.last_len-used.result (length c.args.body.now - c.loop-n.at), (c.loop-n.invariant.0 []).inside, c.requires.1) in
     (λ l. going_more (b.invariant.0 l) c.loop-n-test.true s (piece_is a.kind b.at c.piece_size-size.result a.body.now b.w _ b.f _ b.memory _ b.kept _ i y l) c.send_piece-a.auto.memory c.send_piece-a.auto.kept c.if-all.false i, λ z. y.flat (b.invariant.1 z), λ z. y.marks (b.invariant.2 z))
 
--- src/lib.rt:98:1
 pub shape_of-memory : goal.shape_of-memory
 shape_of-memory c = (c.loop-n.invariant.0 []).queue
 
--- src/lib.rt:98:1
 pub shape_of-kept : goal.shape_of-kept
 shape_of-kept c = (c.loop-n.invariant.0 []).kept
 
--- src/lib.rt:98:1
 pub returns : goal.returns
 returns c = record { all = λ l. going_end (c.loop-n.invariant.0 l) c.loop-n-test.false; flat = c.loop-n.invariant.1; marks = c.loop-n.invariant.2 }

@@ -24,23 +24,18 @@ slot-put g n w z x ex h l =
     rw ex (ap (λ (d : List ℕ). take (g + n - g) (drop g d)) (lent g (g + n) z w (omega arith))
     ∙ ap (λ (k : ℕ). part g k (splice g w z)) e ∙ splice-here g w z (omega arith))
 
--- src/lib.rt:88:20
 pub overflow_mul-from : goal.overflow_mul-from
 overflow_mul-from c = let a = c.args in let f = kept-fits (save_safe (state_of a.w.now) (counted (get_or a.f.now saved-at 0)) (length a.memory.now) (length a.kept.now) c.epoch_of-epoch.result 22 (12 + a.size) (rw c.save_answer-v.ensures.answer at (sym c.is_done.ensures ∙ c.if-is_done.true))).keeps in omega arith
 
--- src/lib.rt:89:19
 pub overflow_add-end : goal.overflow_add-end
 overflow_add-end c = let a = c.args in let f = kept-fits (save_safe (state_of a.w.now) (counted (get_or a.f.now saved-at 0)) (length a.memory.now) (length a.kept.now) c.epoch_of-epoch.result 22 (12 + a.size) (rw c.save_answer-v.ensures.answer at (sym c.is_done.ensures ∙ c.if-is_done.true))).keeps in omega arith
 
--- src/lib.rt:90:33
 pub slice_bounds-write_content-end : goal.slice_bounds-write_content-end
 slice_bounds-write_content-end c = let a = c.args in let f = kept-fits (save_safe (state_of a.w.now) (counted (get_or a.f.now saved-at 0)) (length a.memory.now) (length a.kept.now) c.epoch_of-epoch.result 22 (12 + a.size) (rw c.save_answer-v.ensures.answer at (sym c.is_done.ensures ∙ c.if-is_done.true))).keeps in omega arith
 
--- src/lib.rt:91:51
 pub slice_bounds-lay_saved-end : goal.slice_bounds-lay_saved-end
 slice_bounds-lay_saved-end c = let a = c.args in let f = kept-fits (save_safe (state_of a.w.now) (counted (get_or a.f.now saved-at 0)) (length a.memory.now) (length a.kept.now) c.epoch_of-epoch.result 22 (12 + a.size) (rw c.save_answer-v.ensures.answer at (sym c.is_done.ensures ∙ c.if-is_done.true))).keeps in search rules
 
--- src/lib.rt:91:9
 pub lay_saved-requires : goal.lay_saved-requires
 lay_saved-requires c = let a = c.args in
     let x = content_of a.kind (state_of a.w.now).message_seq a.body.now a.at a.size in
@@ -52,7 +47,6 @@ lay_saved-requires c = let a = c.args in
     subst (λ (n : ℕ). Clear (state_of a.w.now) (length a.memory.now) c.epoch_of-epoch.result n × (c.save_answer-v.result.place ≡ spot_of (state_of a.w.now) c.epoch_of-epoch.result n) × (get_or a.f.now saved-at 0 < 12))
     (sym (ap length y ∙ w)) (k.clear, c.save_answer-v.ensures.place (sym c.is_done.ensures ∙ c.if-is_done.true), k.keeps.saved)
 
--- src/lib.rt:92:9
 pub returns-then-is_done : goal.returns-then-is_done
 returns-then-is_done c = let a = c.args in
     let x = content_of a.kind (state_of a.w.now).message_seq a.body.now a.at a.size in
@@ -65,7 +59,6 @@ returns-then-is_done c = let a = c.args in
     saves-laid (epoch_of a.kind) 22 x a.w.now a.f.now a.memory.now a.kept.now (rw w (rw c.epoch_of-epoch.ensures at c.save_answer-v.ensures.answer)) _ _ _ _ (sym c.is_done.ensures ∙ c.if-is_done.true) r.0 r.1 r.2
     (ap (put_mid i (i + (12 + a.size) - i) a.kept.now) z ∙ lent i (i + (12 + a.size)) a.kept.now x (omega (arith, w)))
 
--- src/lib.rt:67:1
 pub returns : goal.returns
 returns c = let a = c.args in
     let x = content_of a.kind (state_of a.w.now).message_seq a.body.now a.at a.size in

@@ -1,4 +1,4 @@
--- `recv_calls::open-by` meets its contract. Assumes nothing.
+-- `recv_calls::open_by` meets its contract. Assumes nothing.
 use mathlib.Core.Path.{refl, sym, ◌∙◌}
 use native.Mathlib.Omega.{arith}
 use Rattle.opening_reply.specs.Opening.{opened_by}

@@ -1,4 +1,4 @@
--- `resend::has-room` meets its contract. Assumes nothing.
+-- `resend::has_room` meets its contract. Assumes nothing.
 use mathlib.Core.Path.{sym, ◌∙◌}
 use Rattle.base.specs.Choose.{if_true, if_false}
 use Rattle.resend.specs.Tests.{has_room}

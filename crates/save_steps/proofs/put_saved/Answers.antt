@@ -2,6 +2,5 @@
 use Rattle.save_steps.specs.Save.{adds}
 use Rattle.save_steps.proofs.put_saved.Goals as goal
 
--- src/lib.rt:64:1
 pub returns : goal.returns
 returns c = adds _ _ _ _ _ _ c.sized.ensures c.requires c.put_entry.ensures.0 c.put_entry.ensures.1

@@ -14,27 +14,21 @@ use Rattle.save_steps.specs.Save.{saves-laid, saves-nothing}
 use borrow.Author.Rules.{rules}
 use Rattle.save_steps.proofs.send_saved.Goals as goal
 
--- src/lib.rt:121:18
 pub overflow_mul-at : goal.overflow_mul-at
 overflow_mul-at c = let a = c.args in let f = kept-fits (save_safe (state_of a.w.now) (counted (get_or a.f.now saved-at 0)) (length a.memory.now) (length a.kept.now) a.epoch a.t (length a.content.now) (rw c.save_answer-v.ensures.answer at (sym c.is_done.ensures ∙ c.if-is_done.true))).keeps in omega arith
 
--- src/lib.rt:122:19
 pub overflow_add-end : goal.overflow_add-end
 overflow_add-end c = let a = c.args in let f = kept-fits (save_safe (state_of a.w.now) (counted (get_or a.f.now saved-at 0)) (length a.memory.now) (length a.kept.now) a.epoch a.t (length a.content.now) (rw c.save_answer-v.ensures.answer at (sym c.is_done.ensures ∙ c.if-is_done.true))).keeps in omega arith
 
--- src/lib.rt:123:36
 pub slice_bounds-move_bytes-end : goal.slice_bounds-move_bytes-end
 slice_bounds-move_bytes-end c = let a = c.args in let f = kept-fits (save_safe (state_of a.w.now) (counted (get_or a.f.now saved-at 0)) (length a.memory.now) (length a.kept.now) a.epoch a.t (length a.content.now) (rw c.save_answer-v.ensures.answer at (sym c.is_done.ensures ∙ c.if-is_done.true))).keeps in omega arith
 
--- src/lib.rt:123:9
 pub move_bytes-requires : goal.move_bytes-requires
 move_bytes-requires c = let a = c.args in let short = clear-short (save_safe (state_of a.w.now) (counted (get_or a.f.now saved-at 0)) (length a.memory.now) (length a.kept.now) a.epoch a.t (length a.content.now) (rw c.save_answer-v.ensures.answer at (sym c.is_done.ensures ∙ c.if-is_done.true))).clear in (search rules, omega arith)
 
--- src/lib.rt:124:9
 pub lay_saved-requires : goal.lay_saved-requires
 lay_saved-requires c = let a = c.args in let s = save_safe (state_of a.w.now) (counted (get_or a.f.now saved-at 0)) (length a.memory.now) (length a.kept.now) a.epoch a.t (length a.content.now) (rw c.save_answer-v.ensures.answer at (sym c.is_done.ensures ∙ c.if-is_done.true)) in (s.clear, c.save_answer-v.ensures.place (sym c.is_done.ensures ∙ c.if-is_done.true), s.keeps.saved)
 
--- src/lib.rt:125:9
 pub returns-then-is_done : goal.returns-then-is_done
 returns-then-is_done c = let a = c.args in
     let i = get_or a.f.now saved-at 0 * (state_of a.w.now).queue.mtu in
@@ -43,6 +37,5 @@ returns-then-is_done c = let a = c.args in
     saves-laid a.epoch a.t a.content.now a.w.now a.f.now a.memory.now a.kept.now c.save_answer-v.ensures.answer _ _ _ _ (sym c.is_done.ensures ∙ c.if-is_done.true) y.0 y.1 y.2
     (ap (put_mid i (i + n - i) a.kept.now) c.move_bytes.ensures ∙ lent i (i + n) a.kept.now a.content.now (omega arith))
 
--- src/lib.rt:104:1
 pub returns : goal.returns
 returns c = let a = c.args in saves-nothing a.epoch a.t a.content.now a.w.now a.f.now a.memory.now a.kept.now c.save_answer-v.ensures.answer (sym c.is_done.ensures ∙ c.if-is_done.false)
