@@ -18,6 +18,7 @@ NAME = r"[^\s(){}.;,@\"«»\[\]:`]+"
 MARKS = r"(?:(?:pub|abbrev|unfoldable|pattern|axiom)\s+)*"
 DECLARED = re.compile(rf"^(\s*)({MARKS})(record\s+|data\s+)?(?:pub\s+)?({NAME})(?:\s*\{{[^}}]*\}})?\s*:(?:\s.*|)$")
 SHAPED = re.compile(rf"^(\s*)({MARKS})(record\s+|data\s+)(?:pub\s+)?({NAME})\s*[({{].*$")
+RENAMED = {"Proof.antt": "Theorem.antt", "Reads.antt": "ReadLaws.antt", "Met.antt": "Meeting.antt"}
 MODULE = re.compile(r"^\s*module (\S+) ?(.*) where\s*$")
 
 
@@ -88,7 +89,8 @@ def main(argv):
                 for it in new.get((crate, name), []):
                     print(f"  + {it[1] or it[0]} ({it[3]})")
             elif path not in [it[3] for it in same]:
-                to = next((it[3] for it in same if os.path.basename(it[3]) == os.path.basename(path)), same[0][3])
+                module = os.path.basename(path)
+                to = next((it[3] for it in same if os.path.basename(it[3]) == RENAMED.get(module, module)), same[0][3])
                 moved[crate, path, to].append(name)
     if "--moved" in argv:
         for (crate, path, to), names in sorted(moved.items()):
