@@ -1,6 +1,6 @@
 #!/usr/bin/env python3
 """Respells this repository's own definitions and lemmas by the table respelled.tsv beside this script: functions in snake case, a dash
-only between two names. Run once at the top of the repository, after /opt/rattle/port/port.py and before any edit by hand.
+only between two names. Run once at the top of the repository, after the kit's port.py and before any edit by hand.
 
 What turns: in crates/*/specs and crates/*/proofs every word of the table; in crates/*/src the clauses' words that no Rust name can be
 (camel case, or with a dash) and so are definitions' alone; in must-fail edits the same. Comments turn with the code.
