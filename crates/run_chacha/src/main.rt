@@ -45,6 +45,20 @@ fn quarter(rt: &impl Print, text: &[u8], r: Quad) -> io::Result<()> {
     line(rt, b"\n")
 }
 
+// The quarter rounds of RFC 8439, 2.1.1 and 2.2.1.
+fn quarter_rounds(rt: &impl Print) -> io::Result<()> {
+    quarter(
+        rt,
+        b"2.1.1: ",
+        chacha::quarter_round(0x1111_1111, 0x0102_0304, 0x9b8d_6f43, 0x0123_4567),
+    )?;
+    quarter(
+        rt,
+        b"2.2.1: ",
+        chacha::quarter_round(0x5164_61b1, 0x2a5f_714c, 0x5337_2767, 0x3d63_1689),
+    )
+}
+
 // The blocks of RFC 8439, appendix A.1.
 fn appendix(rt: &impl Print) -> io::Result<()> {
     let zero =
@@ -84,16 +98,7 @@ fn appendix(rt: &impl Print) -> io::Result<()> {
 fn main(rt: HostRuntime) -> io::Result<()> {
     let key =
         b"\x00\x01\x02\x03\x04\x05\x06\x07\x08\x09\x0a\x0b\x0c\x0d\x0e\x0f\x10\x11\x12\x13\x14\x15\x16\x17\x18\x19\x1a\x1b\x1c\x1d\x1e\x1f";
-    quarter(
-        &rt,
-        b"2.1.1: ",
-        chacha::quarter_round(0x1111_1111, 0x0102_0304, 0x9b8d_6f43, 0x0123_4567),
-    )?;
-    quarter(
-        &rt,
-        b"2.2.1: ",
-        chacha::quarter_round(0x5164_61b1, 0x2a5f_714c, 0x5337_2767, 0x3d63_1689),
-    )?;
+    quarter_rounds(&rt)?;
     block(
         &rt,
         b"2.3.2: ",
