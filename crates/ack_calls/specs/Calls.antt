@@ -1,27 +1,25 @@
 -- Resends and ACKs of the C interface: each is the call on the state, the flight and the notes that the words stand for. Words that stand
 -- for none are refused by 12, and state, flight and memory stay.
-use Rattle.std.specs.Prelude.{Bool, true, false, List, ◌≡◌, ℕ, ◌-◌, ◌≤◌, ◌<◌, eqb, length}
+use Rattle.std.specs.Prelude.{Bool, true, false, List, ◌≡◌, ℕ, ◌-◌, ◌≤◌, ◌<◌, eqb, length, Ok, Err}
 use Rattle.std.proofs.Math.Path.{refl, sym, ap}
 use Rattle.std.proofs.Common.{◌∙◌, arith, lt-ltb, le-ltb}
 use Rattle.answers.specs.declared.HuskTold.{HuskTold}
 use Rattle.answers.specs.Told.{tells}
 use Rattle.base.specs.Choose.{choose, both, if_true, if_false, both_true}
-use Rattle.send_keys.specs.declared.SendAnswer.{SendAnswer}
-use Rattle.send_keys.specs.declared.SendAnswer.TheVariants.{Done, OutOfRange}
-use Rattle.resend.specs.declared.Resent.{Resent}
+use Rattle.send_keys.specs.declared.SendError.TheVariants.{OutOfRange}
+use Rattle.flight.specs.declared.Saved.{Saved}
 use Rattle.resend.specs.Tests.{resend_answer}
 use Rattle.resend.specs.Resend.{Laying, all_again, resend_state, resend_queue}
 use Rattle.process_ack.specs.Ack.{acked}
-use Rattle.process_ack.specs.declared.Acked.{Acked}
+use Rattle.flight.specs.declared.Acted.{Acted}
 use Rattle.process_ack.specs.Status.{newly_marked}
 use Rattle.process_ack.proofs.Status.{newly_behind, fewer-behind, saved-behind}
 use Rattle.flight.specs.declared.Flight.{Flight}
 use Rattle.flight.specs.Status.{unmarked_after, unacknowledged, unmarked-few}
-use Rattle.acks.specs.declared.NoteAnswer.{NoteAnswer}
-use Rattle.acks.specs.declared.NoteAnswer.TheVariants as note
 use Rattle.acks.specs.declared.Notes as noted
 use Rattle.acks.specs.declared.Noting.{Noting}
 use Rattle.acks.specs.declared.AckSent.{AckSent}
+use Rattle.acks.specs.Acks.{NoteAnswer}
 use Rattle.acks.specs.Acks as noting
 use Rattle.acks.proofs.Acks as noting-laws
 use Rattle.send_words.specs.Words.{state_of, is_flat}
@@ -30,7 +28,7 @@ use Rattle.flight_words.specs.Words.{flight_of, flat_to}
 use Rattle.flight_words.specs.Laws as flights
 use Rattle.resend_steps.specs.Again.{laying_of}
 use Rattle.ack_steps.specs.Steps.{SendsAck}
-use Rattle.send_keys.specs.Answer.{is_done, refusal}
+use Rattle.send_keys.specs.Answer.{SendAnswer, is_done, refusal}
 use Rattle.ack_calls.specs.declared.HuskAcked.{HuskAcked}
 pub use Rattle.ack_steps.specs.Steps.{notes_of}
 
@@ -49,9 +47,9 @@ abbrev pub resent_told : SendAnswer → ℕ → HuskTold
 resent_told a n = tells (refusal a) (choose (is_done a) n 0)
 
 abbrev pub note_told : NoteAnswer → HuskTold
-note_told note.Noted = tells 0 1
-note_told note.Full = tells 0 0
-note_told note.OutOfRange = tells 12 0
+note_told (Ok true) = tells 0 1
+note_told (Ok false) = tells 0 0
+note_told (Err e) = tells 12 0
 
 -- 1 where an ACK was sent
 abbrev pub ack_told : AckSent → HuskTold
@@ -68,20 +66,20 @@ no_acked n = record { refusal = n; marked = 0; unacknowledged = 0; saved = 0 }
 abbrev pub left_behind : ℕ → Flight → HuskAcked
 left_behind marked f = record { refusal = 0; marked = marked; unacknowledged = unacknowledged f; saved = f.saved }
 
-abbrev pub acked_told : Acked → ℕ → HuskAcked
+abbrev pub acked_told : Acted → ℕ → HuskAcked
 acked_told k marked = choose (is_done k.answer) (left_behind marked k.flight) (no_acked (refusal k.answer))
 
 -- ---- what a call leaves
 
 -- w, f, n before; v, g, m behind; t sent again
-abbrev pub Resends : HuskTold → List ℕ → List ℕ → List ℕ → List ℕ → List ℕ → List ℕ → Resent → ℕ → Type 0
+abbrev pub Resends : HuskTold → List ℕ → List ℕ → List ℕ → List ℕ → List ℕ → List ℕ → Saved → ℕ → Type 0
 Resends r v w g f m n k t =
     (r ≡ choose (are_flat w f) (resent_told k.answer t) (tells 12 0))
     × (state_of v ≡ choose (are_flat w f) k.state (state_of w)) × (is_flat v ≡ is_flat w)
     × (flight_of g m ≡ choose (are_flat w f) k.flight (flight_of f n)) × (flat_to g 12 ≡ flat_to f 12)
 
 -- f, n before; g, m behind; t newly marked
-abbrev pub Acts : HuskAcked → List ℕ → List ℕ → List ℕ → List ℕ → Acked → ℕ → Type 0
+abbrev pub Acts : HuskAcked → List ℕ → List ℕ → List ℕ → List ℕ → Acted → ℕ → Type 0
 Acts r g f m n k t =
     (r ≡ choose (flat_to f 12) (acked_told k t) (no_acked 12))
     × (flight_of g m ≡ choose (flat_to f 12) k.flight (flight_of f n)) × (flat_to g 12 ≡ flat_to f 12)
@@ -121,14 +119,14 @@ SendAckCall r v w b a p q =
 
 -- ---- from the parts to the whole
 
-pub resends : (r : HuskTold) (v w g f m n : List ℕ) (x k : Resent) (u : ℕ) → is_flat w ≡ true → flat_to f 12 ≡ true → r ≡ resent_told x.answer u
+pub resends : (r : HuskTold) (v w g f m n : List ℕ) (x k : Saved) (u : ℕ) → is_flat w ≡ true → flat_to f 12 ≡ true → r ≡ resent_told x.answer u
     → sent.Kept x.state v → flights.Kept x.flight g → m ≡ x.flight.numbers → x ≡ k → Resends r v w g f m n k u
 resends r v w g f m n x k u p q a s t z e =
     let h : are_flat w f ≡ true = both_true p ∙ q in (
-      a ∙ ap (λ (y : Resent). resent_told y.answer u) e ∙ sym (if_true _ _ h),
-      s.0 ∙ ap (λ (y : Resent). y.state) e ∙ sym (if_true _ _ h),
+      a ∙ ap (λ (y : Saved). resent_told y.answer u) e ∙ sym (if_true _ _ h),
+      s.0 ∙ ap (λ (y : Saved). y.state) e ∙ sym (if_true _ _ h),
       s.1 ∙ sym p,
-      ap (flight_of g) z ∙ t.0 ∙ ap (λ (y : Resent). y.flight) e ∙ sym (if_true _ _ h),
+      ap (flight_of g) z ∙ t.0 ∙ ap (λ (y : Saved). y.flight) e ∙ sym (if_true _ _ h),
       t.1 ∙ sym q,
     )
 
@@ -154,11 +152,11 @@ module _ (r : HuskTold) (a : SendAnswer) (w f n k q : List ℕ) (u : ℕ) (i : i
 -- an ACK acted on: before and behind are what was not acknowledged of the records saved before it
 module _ (g f n c : List ℕ) (q : flat_to f 12 ≡ true) (l : (flight_of f n).saved ≤ 12) (a : SendAnswer) (e : record { answer = a; flight = flight_of g n } ≡ acked (flight_of f n) c) where
   pub acted-few : (flight_of g n).saved ≤ 12
-  acted-few = omega (arith, ap (λ (x : Acked). x.flight.saved) e, saved-behind (flight_of f n) c)
+  acted-few = omega (arith, ap (λ (x : Acted). x.flight.saved) e, saved-behind (flight_of f n) c)
 
   module _ {before behind : ℕ} (x : before ≡ unmarked_after (flight_of f n) (flight_of f n).saved) (y : behind ≡ unmarked_after (flight_of g n) (flight_of f n).saved) where
     behind-is : behind ≡ unmarked_after (acked (flight_of f n) c).flight (flight_of f n).saved
-    behind-is = y ∙ ap (λ (z : Acked). unmarked_after z.flight (flight_of f n).saved) e
+    behind-is = y ∙ ap (λ (z : Acted). unmarked_after z.flight (flight_of f n).saved) e
 
     pub acted-fewer : (behind ≤ before) × (before ≤ 12)
     acted-fewer = (omega (arith, x, behind-is, fewer-behind (flight_of f n) c), omega (arith, x, unmarked-few (flight_of f n) (flight_of f n).saved))
@@ -166,23 +164,23 @@ module _ (g f n c : List ℕ) (q : flat_to f 12 ≡ true) (l : (flight_of f n).s
     pub acted-told : (r : HuskAcked) → r ≡ left_behind (before - behind) (flight_of g n) → r ≡ choose (flat_to f 12) (acked_told (acked (flight_of f n) c) (newly_marked (flight_of f n) c)) (no_acked 12)
     unfolding acked
     acted-told r z =
-        let d : (acked (flight_of f n) c).answer ≡ Done = ap (λ (t : Acked). t.answer) (if_false _ _ (le-ltb _ _ l)) in
+        let d : (acked (flight_of f n) c).answer ≡ Ok tt = ap (λ (t : Acted). t.answer) (if_false _ _ (le-ltb _ _ l)) in
         z
-        ∙ rw (x, behind-is, ← (newly_behind (flight_of f n) c)) (ap (λ (t : Acked). left_behind (newly_marked (flight_of f n) c) t.flight) e)
+        ∙ rw (x, behind-is, ← (newly_behind (flight_of f n) c)) (ap (λ (t : Acted). left_behind (newly_marked (flight_of f n) c) t.flight) e)
         ∙ sym (if_true _ _ (ap is_done d))
         ∙ sym (if_true _ _ q)
 
-pub acts : (r : HuskAcked) (g f m n : List ℕ) (x k : Acked) (u : ℕ) → flat_to f 12 ≡ true → r ≡ choose (flat_to f 12) (acked_told k u) (no_acked 12)
+pub acts : (r : HuskAcked) (g f m n : List ℕ) (x k : Acted) (u : ℕ) → flat_to f 12 ≡ true → r ≡ choose (flat_to f 12) (acked_told k u) (no_acked 12)
     → flights.Kept x.flight g → m ≡ x.flight.numbers → x ≡ k → Acts r g f m n k u
-acts r g f m n x k u q a t z e = (a, ap (flight_of g) z ∙ t.0 ∙ ap (λ (y : Acked). y.flight) e ∙ sym (if_true _ _ q), t.1 ∙ sym q)
+acts r g f m n x k u q a t z e = (a, ap (flight_of g) z ∙ t.0 ∙ ap (λ (y : Acted). y.flight) e ∙ sym (if_true _ _ q), t.1 ∙ sym q)
 
 -- too many saved
 pub acts-none : (r : HuskAcked) (f n c : List ℕ) → flat_to f 12 ≡ true → 12 < (flight_of f n).saved → r ≡ no_acked 12 → ProcessAckCall r f f n n c
 unfolding acked
 acts-none r f n c q l z =
-    let e : acked (flight_of f n) c ≡ record { answer = OutOfRange; flight = flight_of f n } = if_true _ _ (lt-ltb _ _ l) in (
-      z ∙ sym (if_true _ _ q ∙ ap (λ (x : Acked). acked_told x (newly_marked (flight_of f n) c)) e ∙ if_false _ _ refl),
-      sym (if_true _ _ q ∙ ap (λ (x : Acked). x.flight) e),
+    let e : acked (flight_of f n) c ≡ record { answer = Err OutOfRange; flight = flight_of f n } = if_true _ _ (lt-ltb _ _ l) in (
+      z ∙ sym (if_true _ _ q ∙ ap (λ (x : Acted). acked_told x (newly_marked (flight_of f n) c)) e ∙ if_false _ _ refl),
+      sym (if_true _ _ q ∙ ap (λ (x : Acted). x.flight) e),
       refl,
     )
 

@@ -17,16 +17,16 @@ ghost use Rattle.ack_calls.specs.Calls.{
   FreshNotesCall,
 };
 
-use acks::NoteAnswer;
+use acks::OutOfRange;
 use answers::HuskTold;
 use flight_words::SAVED;
-use send_keys::SendAnswer;
+use send_keys::SendError;
 
 // The count of what is noted is one word.
 const NOTED: usize = 0;
 
 // What an ACK did: how many saved records it marked that were not marked before, those of a flight that it emptied among them; and what
-// is left behind it, not acknowledged and saved. With 0 saved the flight is empty.
+// is left behind it, not acknowledged and saved. With 0 saved the flight is empty. The C interface has numbers.
 #[repr(C)]
 #[derive(Clone, Copy)]
 pub struct HuskAcked {
@@ -38,27 +38,24 @@ pub struct HuskAcked {
 
 // ---- answers
 
-fn note_told(a: NoteAnswer) -> HuskTold
+fn note_told(a: Result<bool, OutOfRange>) -> HuskTold
     ensures { result ≡ note_told a }
 {
     match a {
-        NoteAnswer::Noted => answers::told(0, 1),
-        NoteAnswer::Full => answers::told(0, 0),
-        NoteAnswer::OutOfRange => answers::told(12, 0),
+        Ok(true) => answers::told(0, 1),
+        Ok(false) => answers::told(0, 0),
+        Err(OutOfRange) => answers::told(12, 0),
     }
 }
 
 // An ACK of so many noted records is sent where some are and nothing is refused.
-fn sent_told(a: SendAnswer, noted: u64) -> HuskTold
+fn sent_told(a: Result<(), SendError>, noted: u64) -> HuskTold
     ensures { result ≡ sent_told a noted }
 {
-    if noted == 0 {
-        return answers::told(send_keys::refusal(a), 0);
+    match a {
+        Ok(()) => answers::told(0, (noted != 0) as u8),
+        Err(e) => answers::told(u8::from(e), 0),
     }
-    if send_keys::is_done(a) {
-        return answers::told(send_keys::refusal(a), 1);
-    }
-    answers::told(send_keys::refusal(a), 0)
 }
 
 fn no_acked() -> HuskAcked
@@ -100,15 +97,16 @@ pub fn resend(
 {
     if send_words::is_flat(w) {
         if flight_words::is_flat(f) {
-            let a = resend_steps::resend_answer(w, f, queue.len(), kept.len());
-            if send_keys::is_done(a) {
-                let saved = f[SAVED] as usize;
-                let n = status_calls::unmarked(f, saved);
-                resend_steps::close(w);
-                resend_steps::resend_all(w, f, numbers, kept, queue);
-                return answers::told(send_keys::refusal(a), n as u8);
-            }
-            return answers::told(send_keys::refusal(a), 0);
+            return match resend_steps::resend_answer(w, f, queue.len(), kept.len()) {
+                Ok(()) => {
+                    let saved = f[SAVED] as usize;
+                    let n = status_calls::unmarked(f, saved);
+                    resend_steps::close(w);
+                    resend_steps::resend_all(w, f, numbers, kept, queue);
+                    answers::told(0, n as u8)
+                }
+                Err(e) => answers::told(u8::from(e), 0),
+            };
         }
         return answers::told(12, 0);
     }
@@ -128,7 +126,8 @@ pub fn process_ack(
         let saved = f[SAVED] as usize;
         if saved <= 12 {
             let before = status_calls::unmarked(f, saved);
-            ack_steps::process_ack(f, numbers, content);
+            // It refuses more than 12 alone.
+            let _ = ack_steps::process_ack(f, numbers, content);
             // Of those saved before: a flight that empties keeps its marks.
             let behind = status_calls::unmarked(f, saved);
             return left_behind(f, before - behind);

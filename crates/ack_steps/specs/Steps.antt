@@ -1,32 +1,30 @@
 -- What noting, sending and acting on an ACK leave of the words, by the definitions on notes, state and flight. Assumes nothing.
-use Rattle.std.specs.Prelude.{Bool, true, false, List, ◌≡◌, ℕ, ◌+◌, ◌≤◌, ◌<◌, length, get_or, set}
+use Rattle.std.specs.Prelude.{Bool, true, false, List, ◌≡◌, ℕ, ◌+◌, ◌≤◌, ◌<◌, length, get_or, set, Ok, Err}
 use Rattle.std.proofs.Math.Path.{refl, sym, ap}
 use Rattle.std.proofs.Common.{◌∙◌, arith}
 use borrow.Author.Tests.{lt-ltb, le-ltb, eq-eqb, ne_eqb}
 use Rattle.base.specs.Choose.{choose, if_true, if_false}
 use Rattle.queue.specs.Queue.{is_ready}
-use Rattle.send_keys.specs.declared.SendAnswer.{SendAnswer}
-use Rattle.send_keys.specs.declared.SendAnswer.TheVariants.{Done, OutOfRange}
+use Rattle.send_keys.specs.declared.SendError.TheVariants.{OutOfRange}
 use Rattle.outgoing.specs.Send.{send_state}
 use Rattle.flight.specs.declared.Entry.{Entry}
 use Rattle.flight.specs.declared.Flight.{Flight}
 use Rattle.flight.specs.Flight.{entry_at}
-use Rattle.process_ack.specs.declared.Acked.{Acked}
+use Rattle.flight.specs.declared.Acted.{Acted}
 use Rattle.process_ack.specs.declared.Tally.{Tally}
 use Rattle.process_ack.specs.Ack.{is_acked, with_mark, mark_at, marks_after, tally_with, tally_after, is_formed, pairs_in, emptied, acked}
 use Rattle.process_ack.proofs.Ack.{marks-next, later_same, tally-next, marks-saved}
 use Rattle.acks.specs.declared.Notes.{Notes}
-use Rattle.acks.specs.declared.NoteAnswer.{NoteAnswer}
 use Rattle.acks.specs.declared.Noting.{Noting}
 use Rattle.acks.specs.declared.AckSent.{AckSent}
-use Rattle.acks.specs.Acks.{forgotten, ack_epoch, ack_content, ack_answer, ack_sent, nothing_sent, notice_state, notice_memory, sent_ack, ack_memory}
+use Rattle.acks.specs.Acks.{NoteAnswer, forgotten, ack_epoch, ack_content, ack_answer, ack_sent, nothing_sent, notice_state, notice_memory, sent_ack, ack_memory}
 use Rattle.acks.proofs.Acks.{length-content}
 use Rattle.send_words.specs.Words.{state_of, is_flat}
 use Rattle.send_steps.specs.Sends.{Sends}
 use Rattle.flight_words.specs.Words.{words, saved-at, entry_at as row_at, flight_of, flat_to}
 use Rattle.flight_words.specs.Laws.{begins}
 use Rattle.flight_words.specs.Entries.{entry-at, Entered, with_marked}
-use Rattle.send_keys.specs.Answer.{is_done}
+use Rattle.send_keys.specs.Answer.{SendAnswer, is_done}
 
 -- ---- notes
 
@@ -66,26 +64,26 @@ module _ (w : List ℕ) (a : Notes) (q : List ℕ) where
       let z = ap is_done e ∙ d in
       still r (if_false _ _ z ∙ ap (λ (x : SendAnswer). nothing_sent x (state_of w) a) e) (if_false _ _ z)
 
-  pub too_many : 32 < a.count → SendsAck OutOfRange w w a a q q
+  pub too_many : 32 < a.count → SendsAck (Err OutOfRange) w w a a q q
   unfolding ack_answer
-  too_many h = refused OutOfRange refl (if_true _ _ (lt-ltb _ _ h))
+  too_many h = refused (Err OutOfRange) refl (if_true _ _ (lt-ltb _ _ h))
 
   module _ (h : a.count ≤ 32) where
-    pub not_ready : is_ready (state_of w).queue (length q) ≡ false → SendsAck OutOfRange w w a a q q
+    pub not_ready : is_ready (state_of w).queue (length q) ≡ false → SendsAck (Err OutOfRange) w w a a q q
     unfolding ack_answer
-    not_ready r = refused OutOfRange refl (if_false _ _ (le-ltb _ _ h) ∙ if_false _ _ r)
+    not_ready r = refused (Err OutOfRange) refl (if_false _ _ (le-ltb _ _ h) ∙ if_false _ _ r)
 
     module _ (r : is_ready (state_of w).queue (length q) ≡ true) where
-      accepted : ack_answer (state_of w) a (length q) ≡ Done
+      accepted : ack_answer (state_of w) a (length q) ≡ Ok tt
       unfolding ack_answer
       accepted = if_false _ _ (le-ltb _ _ h) ∙ if_true _ _ r
 
-      pub none-noted : a.count ≡ 0 → SendsAck Done w w a a q q
+      pub none-noted : a.count ≡ 0 → SendsAck (Ok tt) w w a a q q
       unfolding sent_ack ack_memory
       none-noted z =
           let d = ap is_done accepted in
           let o = eq-eqb _ _ z in
-          still Done (if_true _ _ d ∙ if_true _ _ o ∙ ap (λ (x : SendAnswer). nothing_sent x (state_of w) a) accepted) (if_true _ _ d ∙ if_true _ _ o)
+          still (Ok tt) (if_true _ _ d ∙ if_true _ _ o ∙ ap (λ (x : SendAnswer). nothing_sent x (state_of w) a) accepted) (if_true _ _ d ∙ if_true _ _ o)
 
       pub some-noted : (x : SendAnswer) (v p : List ℕ) (b : Notes) → (a.count ≡ 0 → ⊥) → Sends x (ack_epoch (state_of w).keys) 26 (ack_content a) w v q p
           → b ≡ choose (is_done x) (forgotten a) a → SendsAck x v w b a p q
@@ -110,7 +108,7 @@ module _ (w : List ℕ) (a : Notes) (q : List ℕ) where
 abbrev pub Flights : (Flight → Flight) → List ℕ → List ℕ → List ℕ → Type 0
 Flights step n w v = (flight_of v n ≡ step (flight_of w n)) × (flat_to w 12 ≡ true → flat_to v 12 ≡ true)
 
-abbrev pub acted_on : SendAnswer → Flight → Acked
+abbrev pub acted_on : SendAnswer → Flight → Acted
 acted_on a f = record { answer = a; flight = f }
 
 -- the i-th record marked, by its words
@@ -152,22 +150,22 @@ module _ (w n : List ℕ) (t : Tally) (e : t ≡ tally_after (flight_of w n) (ge
 
 -- an ACK with content c acted on
 module _ (w n c : List ℕ) where
-  pub acts_not : 12 < get_or w saved-at 0 → acted_on OutOfRange (flight_of w n) ≡ acked (flight_of w n) c
+  pub acts_not : 12 < get_or w saved-at 0 → acted_on (Err OutOfRange) (flight_of w n) ≡ acked (flight_of w n) c
   unfolding acked
   acts_not h = sym (if_true _ _ (lt-ltb _ _ h))
 
   module _ (h : get_or w saved-at 0 ≤ 12) where
     pub acts-formed : (a v : List ℕ) → is_formed c ≡ true → Flights (λ x. marks_after c (pairs_in c) x (get_or w saved-at 0)) n w a → Flights emptied n a v
-        → (acted_on Done (flight_of v n) ≡ acked (flight_of w n) c) × (flat_to w 12 ≡ true → flat_to v 12 ≡ true)
+        → (acted_on (Ok tt) (flight_of v n) ≡ acked (flight_of w n) c) × (flat_to w 12 ≡ true → flat_to v 12 ≡ true)
     unfolding acked
     acts-formed a v f p q = (
-      ap (acted_on Done) (q.0 ∙ ap emptied p.0 ∙ sym (if_true _ _ f)) ∙ sym (if_false _ _ (le-ltb _ _ h)),
+      ap (acted_on (Ok tt)) (q.0 ∙ ap emptied p.0 ∙ sym (if_true _ _ f)) ∙ sym (if_false _ _ (le-ltb _ _ h)),
       λ g. q.1 (p.1 g),
     )
 
-    pub acts-unformed : is_formed c ≡ false → acted_on Done (flight_of w n) ≡ acked (flight_of w n) c
+    pub acts-unformed : is_formed c ≡ false → acted_on (Ok tt) (flight_of w n) ≡ acked (flight_of w n) c
     unfolding acked
-    acts-unformed f = ap (acted_on Done) (sym (if_false _ _ f)) ∙ sym (if_false _ _ (le-ltb _ _ h))
+    acts-unformed f = ap (acted_on (Ok tt)) (sym (if_false _ _ f)) ∙ sym (if_false _ _ (le-ltb _ _ h))
 
 pub still-saved : (c : List ℕ) (k i : ℕ) (n w a : List ℕ) → Flights (λ x. marks_after c k x i) n w a → get_or a saved-at 0 ≡ get_or w saved-at 0
 still-saved c k i n w a p = ap (λ (x : Flight). x.saved) p.0 ∙ marks-saved c k (flight_of w n) i

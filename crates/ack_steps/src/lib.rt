@@ -10,11 +10,12 @@ ghost use Rattle.send_steps.specs.Sends.{Sends};
 ghost use Rattle.flight_words.specs.Words.{saved-at, flight_of, flat_to};
 ghost use Rattle.ack_steps.specs.Steps.{notes_of, tabled, noting, SendsAck, Flights, acted_on};
 
-use acks::NoteAnswer;
+use acks::{MOST_CONTENT, OutOfRange};
+use flight::NUMBERS;
 use flight_words::SAVED;
-use process_ack::Tally;
-use record::ACK;
-use send_keys::SendAnswer;
+use process_ack::{Pairs, Tally};
+use record::{ACK, RECORD_NUMBER_LEN};
+use send_keys::SendError;
 use send_words::{APPLICATION, WORDS};
 
 // The count of what is noted is one word.
@@ -22,28 +23,28 @@ const NOTED: usize = 0;
 
 // ---- the outgoing ACK
 
-// Notes a record for the outgoing ACK, unless 32 are noted.
+// Notes a record for the outgoing ACK, unless 32 are noted; whether it is noted.
 pub fn note(
     count: &mut [u64; 1],
     epochs: &mut [u64; 32],
     numbers: &mut [u64; 32],
     epoch: u64,
     number: u64,
-) -> NoteAnswer
+) -> Result<bool, OutOfRange>
     ensures { noting result (notes_of count.new epochs.new numbers.new) ≡ noted (notes_of count.old epochs.old numbers.old) epoch number }
 {
     let n = count[NOTED] as usize;
     if 32 < n {
-        return NoteAnswer::OutOfRange;
+        return Err(OutOfRange);
     }
     let room = n < 32;
     if room {
         epochs[n] = epoch;
         numbers[n] = number;
         *count = [(n + 1) as u64];
-        return NoteAnswer::Noted;
+        return Ok(true);
     }
-    NoteAnswer::Full
+    Ok(false)
 }
 
 // The application epoch if keyed, else 2.
@@ -62,11 +63,9 @@ fn write_content(d: &mut [u8], n: usize, epochs: &[u64; 32], numbers: &[u64; 32]
     requires { (length d.old ≡ 2 + n * 16) × (n ≤ 32) }
     ensures { d.new ≡ ack_content (tabled n epochs.now numbers.now) }
 {
-    acks::write_length(d, n * 16);
-    let mut i = 0;
-    while i < n {
-        acks::write_pair(d, 2 + i * 16, epochs[i], numbers[i]);
-        i += 1;
+    acks::write_length(d, n * RECORD_NUMBER_LEN);
+    for i in 0..n {
+        acks::write_pair(d, 2 + i * RECORD_NUMBER_LEN, epochs[i], numbers[i]);
     }
 }
 
@@ -78,7 +77,7 @@ fn send_from(
     numbers: &[u64; 32],
     buffer: &mut [u8],
     queue: &mut [u8],
-) -> SendAnswer
+) -> Result<(), SendError>
     requires { (n ≤ 32) × (514 ≤ length buffer.old) }
     ensures { Sends result (ack_epoch (state_of w.old).keys) 26 (ack_content (tabled n epochs.now numbers.now)) w.old w.new queue.old queue.new }
 {
@@ -94,11 +93,11 @@ fn send_noted(
     epochs: &[u64; 32],
     numbers: &[u64; 32],
     queue: &mut [u8],
-) -> SendAnswer
+) -> Result<(), SendError>
     requires { n ≤ 32 }
     ensures { Sends result (ack_epoch (state_of w.old).keys) 26 (ack_content (tabled n epochs.now numbers.now)) w.old w.new queue.old queue.new }
 {
-    let mut content = [0u8; 514];
+    let mut content = [0u8; MOST_CONTENT];
     send_from(w, n, epochs, numbers, &mut content, queue)
 }
 
@@ -109,54 +108,43 @@ pub fn send_ack(
     epochs: &[u64; 32],
     numbers: &[u64; 32],
     queue: &mut [u8],
-) -> SendAnswer
+) -> Result<(), SendError>
     ensures { SendsAck result w.new w.old (notes_of count.new epochs.now numbers.now) (notes_of count.old epochs.now numbers.now) queue.new queue.old }
 {
     let n = count[NOTED] as usize;
     if 32 < n {
-        return SendAnswer::OutOfRange;
+        return Err(SendError::OutOfRange);
     }
     if !send_steps::is_ready(w, queue.len()) {
-        return SendAnswer::OutOfRange;
+        return Err(SendError::OutOfRange);
     }
     if n == 0 {
-        return SendAnswer::Done;
+        return Ok(());
     }
-    let a = send_noted(w, n, epochs, numbers, queue);
-    if send_keys::is_done(a) {
-        *count = [0];
-        return a;
-    }
-    a
+    send_noted(w, n, epochs, numbers, queue)?;
+    *count = [0];
+    Ok(())
 }
 
 // ---- an ACK that came in
 
-// The i-th saved record is marked if the first n pairs acknowledge it.
-fn mark(f: &mut [u64; flight_words::WORDS], i: usize, numbers: &[u64; 384], d: &[u8], n: usize)
-    requires { (2 + n * 16 ≤ length d.now) × (i < 12) }
-    ensures { Flights (λ x. mark_at x i (is_acked d.now n x.numbers i (entry_at x i))) numbers.now f.old f.new }
+// The i-th saved record is marked if an ACK with these pairs acknowledges it.
+fn mark(f: &mut [u64; flight_words::WORDS], i: usize, numbers: &[u64; NUMBERS], p: Pairs)
+    requires { i < 12 }
+    ensures { Flights (λ x. mark_at x i (is_acked p.entry.content.now p.entry.count x.numbers i (entry_at x i))) numbers.now f.old f.new }
 {
     let e = flight_words::entry_of(f, i);
-    let m = process_ack::is_acked(d, n, numbers, i, e);
+    let m = p.acknowledges(numbers, i, e);
     flight_words::put_mark(f, i, m);
 }
 
-// The saved records that the first n pairs acknowledge are marked.
-fn mark_all(
-    f: &mut [u64; flight_words::WORDS],
-    saved: usize,
-    numbers: &[u64; 384],
-    d: &[u8],
-    n: usize,
-)
-    requires { (2 + n * 16 ≤ length d.now) × (saved ≤ 12) }
-    ensures { Flights (λ x. marks_after d.now n x saved) numbers.now f.old f.new }
+// The saved records that an ACK with these pairs acknowledges are marked.
+fn mark_all(f: &mut [u64; flight_words::WORDS], saved: usize, numbers: &[u64; NUMBERS], p: Pairs)
+    requires { saved ≤ 12 }
+    ensures { Flights (λ x. marks_after p.entry.content.now p.entry.count x saved) numbers.now f.old f.new }
 {
-    let mut i = 0;
-    while i < saved {
-        mark(f, i, numbers, d, n);
-        i += 1;
+    for i in 0..saved {
+        mark(f, i, numbers, p);
     }
 }
 
@@ -169,10 +157,8 @@ fn tally_of(f: &[u64; flight_words::WORDS], saved: usize) -> Tally
         any: false,
         unmarked: false,
     };
-    let mut i = 0;
-    while i < saved {
+    for i in 0..saved {
         t = process_ack::tallied(t, flight_words::entry_of(f, i));
-        i += 1;
     }
     t
 }
@@ -182,7 +168,6 @@ fn empty(f: &mut [u64; flight_words::WORDS], saved: usize)
     requires { (saved ≡ get_or f.old saved-at 0) × (saved ≤ 12) }
     ensures { (n : List ℕ) → Flights emptied n f.old f.new }
 {
-    flight_words::sized(f);
     let t = tally_of(f, saved);
     if t.any {
         let left = t.unmarked;
@@ -199,18 +184,17 @@ pub fn process_ack(
     f: &mut [u64; flight_words::WORDS],
     numbers: &[u64; 384],
     content: &[u8],
-) -> SendAnswer
+) -> Result<(), SendError>
     ensures { (acted_on result (flight_of f.new numbers.now) ≡ acked (flight_of f.old numbers.now) content.now) × (flat_to f.old 12 ≡ true → flat_to f.new 12 ≡ true) }
 {
     let saved = f[SAVED] as usize;
     if 12 < saved {
-        return SendAnswer::OutOfRange;
+        return Err(SendError::OutOfRange);
     }
-    if process_ack::is_formed(content) {
-        let n = (content.len() - 2) / 16;
-        mark_all(f, saved, numbers, content, n);
-        empty(f, saved);
-        return SendAnswer::Done;
-    }
-    SendAnswer::Done
+    let Some(pairs) = Pairs::new(content) else {
+        return Ok(());
+    };
+    mark_all(f, saved, numbers, pairs);
+    empty(f, saved);
+    Ok(())
 }

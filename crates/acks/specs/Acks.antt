@@ -1,30 +1,33 @@
 -- Records noted for the outgoing ACK, and sending it (01, "Flights acknowledged or sent again"; RFC 9147, section 7). Assumes nothing.
-use Rattle.std.specs.Prelude.{false, List, [], ◌++◌, ℕ, zero, suc, ◌+◌, ◌*◌, ltb, eqb, length, get_or, set, replicate}
+use Rattle.std.specs.Prelude.{Bool, true, false, Result, Ok, Err, List, [], ◌++◌, ℕ, zero, suc, ◌+◌, ◌*◌, ltb, eqb, length, get_or, set, replicate}
 use Rattle.base.specs.Bytes.{be}
 use Rattle.base.specs.Choose.{choose}
 use Rattle.queue.specs.Queue.{is_ready}
 use Rattle.send_keys.specs.declared.SendKeys.{SendKeys}
 use Rattle.outgoing.specs.declared.Sending.{Sending}
 use Rattle.outgoing.specs.declared.Sent.{Sent}
-use Rattle.send_keys.specs.declared.SendAnswer.{SendAnswer}
-use Rattle.send_keys.specs.declared.SendAnswer.TheVariants as send
+use Rattle.send_keys.specs.declared.SendError.TheVariants as send
 use Rattle.outgoing.specs.Send.{send_answer, send_state, send_memory}
-use Rattle.send_keys.specs.Answer.{is_done}
+use Rattle.send_keys.specs.Answer.{SendAnswer, is_done}
 use Rattle.acks.specs.declared.Notes.{Notes}
-use Rattle.acks.specs.declared.NoteAnswer.TheVariants.{Noted, Full, OutOfRange}
+use Rattle.acks.specs.declared.OutOfRange.{OutOfRange}
 use Rattle.acks.specs.declared.Noting.{Noting}
 use Rattle.acks.specs.declared.AckSent.{AckSent}
 
 unfoldable pub fresh_notes : Notes
 fresh_notes = record { count = 0; epochs = replicate 32 0; numbers = replicate 32 0 }
 
+-- whether a record is noted; or the count is out of its range
+abbrev pub NoteAnswer : Type 0
+NoteAnswer = Result Bool OutOfRange
+
 -- "The host notes records, by epoch and number, ... up to 32; later ones are not noted"
 unfoldable pub noted : Notes → ℕ → ℕ → Noting
 noted s e n =
-    choose (ltb 32 s.count) (record { answer = OutOfRange; notes = s })
+    choose (ltb 32 s.count) (record { answer = Err (record {}); notes = s })
     (choose (ltb s.count 32)
-    (record { answer = Noted; notes = record { count = s.count + 1; epochs = set s.epochs s.count e; numbers = set s.numbers s.count n } })
-    (record { answer = Full; notes = s }))
+    (record { answer = Ok true; notes = record { count = s.count + 1; epochs = set s.epochs s.count e; numbers = set s.numbers s.count n } })
+    (record { answer = Ok false; notes = s }))
 
 -- "sending the ACK forgets them all"
 unfoldable pub forgotten : Notes → Notes
@@ -59,7 +62,7 @@ notice_memory s n q = send_memory (send_answer s (length q) (ack_epoch s.keys) 2
 
 -- 12 comes first, also with none noted
 unfoldable pub ack_answer : Sending → Notes → ℕ → SendAnswer
-ack_answer s n room = choose (ltb 32 n.count) send.OutOfRange (choose (is_ready s.queue room) send.Done send.OutOfRange)
+ack_answer s n room = choose (ltb 32 n.count) (Err send.OutOfRange) (choose (is_ready s.queue room) (Ok tt) (Err send.OutOfRange))
 
 -- wholly or not at all: notes are forgotten if it was sent, else kept
 unfoldable pub ack_sent : Sent → Notes → AckSent

@@ -7,72 +7,51 @@ ghost use Rattle.base.specs.Parts.{splice};
 ghost use Rattle.acks.specs.Acks.{pair_of};
 
 use outgoing::Sending;
-use send_keys::SendAnswer;
+use record::RECORD_NUMBER_LEN;
+use send_keys::SendError;
+
+// How many records are noted at most, and the bytes of an ACK of as many.
+pub const MOST_NOTED: usize = 32;
+
+pub const MOST_CONTENT: usize = 2 + MOST_NOTED * RECORD_NUMBER_LEN;
 
 // Epochs and numbers of the records noted, in the order of noting.
 #[derive(Clone, Copy)]
 pub struct Notes {
     pub count: usize,
-    pub epochs: [u64; 32],
-    pub numbers: [u64; 32],
+    pub epochs: [u64; MOST_NOTED],
+    pub numbers: [u64; MOST_NOTED],
 }
 
-#[derive(Clone, Copy)]
-pub enum NoteAnswer {
-    Noted,
-    // 32 are noted already: nothing changes.
-    Full,
-    // A count out of its range.
-    OutOfRange,
-}
+// More than 32 noted: a count out of its range.
+#[derive(Clone, Copy, Debug, PartialEq, Eq)]
+pub struct OutOfRange;
 
+// Whether a record is noted. Where 32 are noted already it is not, and nothing changes.
 #[derive(Clone, Copy)]
 pub struct Noting {
-    pub answer: NoteAnswer,
+    pub answer: Result<bool, OutOfRange>,
     pub notes: Notes,
 }
 
 // What sending the ACK leaves; with none noted nothing is sent.
 #[derive(Clone, Copy)]
 pub struct AckSent {
-    pub answer: SendAnswer,
+    pub answer: Result<(), SendError>,
     pub sent: bool,
     pub state: Sending,
     pub notes: Notes,
 }
 
-// The 16 bytes of a noted record: its epoch, then its number.
-fn pair(epoch: u64, number: u64) -> [u8; 16]
-    ensures { result ≡ pair_of epoch number }
-{
-    [
-        (epoch / 0x100_0000_0000_0000 % 256) as u8,
-        (epoch / 0x1_0000_0000_0000 % 256) as u8,
-        (epoch / 0x100_0000_0000 % 256) as u8,
-        (epoch / 0x1_0000_0000 % 256) as u8,
-        (epoch / 0x100_0000 % 256) as u8,
-        (epoch / 0x1_0000 % 256) as u8,
-        (epoch / 0x100 % 256) as u8,
-        (epoch % 256) as u8,
-        (number / 0x100_0000_0000_0000 % 256) as u8,
-        (number / 0x1_0000_0000_0000 % 256) as u8,
-        (number / 0x100_0000_0000 % 256) as u8,
-        (number / 0x1_0000_0000 % 256) as u8,
-        (number / 0x100_0000 % 256) as u8,
-        (number / 0x1_0000 % 256) as u8,
-        (number / 0x100 % 256) as u8,
-        (number % 256) as u8,
-    ]
-}
-
-// A noted record written from a place on.
+// A noted record written from a place on: its epoch, then its number, eight bytes each.
 pub fn write_pair(d: &mut [u8], at: usize, epoch: u64, number: u64)
     requires { at + 16 ≤ length d.old }
     ensures { d.new ≡ splice at (pair_of epoch number) d.old }
 {
-    let end = at + 16;
-    let p = pair(epoch, number);
-    queue::copy(&p, &mut d[at..end]);
+    let middle = at + 8;
+    let end = middle + 8;
+    d[at..middle].copy_from_slice(&epoch.to_be_bytes());
+    d[middle..end].copy_from_slice(&number.to_be_bytes());
 }
 
 // The length of what follows, in two bytes.
@@ -80,8 +59,5 @@ pub fn write_length(d: &mut [u8], n: usize)
     requires { 2 ≤ length d.old }
     ensures { d.new ≡ splice 0 (be 2 n) d.old }
 {
-    let start = 0;
-    let end = start + 2;
-    let p = [(n / 256 % 256) as u8, (n % 256) as u8];
-    queue::copy(&p, &mut d[start..end]);
+    d[..2].copy_from_slice(&n.to_be_bytes()[6..]);
 }

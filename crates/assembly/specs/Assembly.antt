@@ -1,22 +1,22 @@
 -- A piece taken: the order of the tests, the answer, and the words and the buffer behind it (02, 2 and 7). Assumes nothing.
-use Rattle.std.specs.Prelude.{Bool, List, ℕ, ◌+◌, ◌-◌, ◌%◌, leb, ltb, eqb, length, set, drop, replicate}
+use Rattle.std.specs.Prelude.{Result, Ok, Err, Option, Some, None, Bool, List, ℕ, ◌+◌, ◌-◌, ◌%◌, leb, ltb, eqb, length, set, drop, replicate}
 use Rattle.base.specs.Choose.{choose, both, either}
 use Rattle.base.specs.Parts.{part, splice}
 use Rattle.handshake.specs.declared.Header.{Header}
-use Rattle.handshake.specs.declared.ParsedHeader.{ParsedHeader}
-use Rattle.handshake.specs.declared.ParsedHeader.TheVariants as parsed
 use Rattle.handshake.specs.Header.{parse_header}
 use Rattle.assembly.specs.declared.Piece.{Piece}
+use Rattle.assembly.specs.declared.PieceError.{PieceError}
 use Rattle.assembly.specs.declared.Piece.TheVariants as piece
+use Rattle.assembly.specs.declared.PieceError.TheVariants as refused
 use Rattle.assembly.specs.Spans.{most-pieces, most_bytes, last-number, header-length, words, expected-at, count_at, type_at, total-at, size-at, place_at, offset_at, length_at, expected_of, count_of, type_of, total_of, size_of, place_of, is_whole, is_same, all_shared}
 
 -- what a call leaves: its answer, the words, the buffer
 pub record Outcome : Type 0 where
-  pub answer : Piece
+  pub answer : Result Piece PieceError
   pub words : List ℕ
   pub bytes : List ℕ
 
-abbrev pub outcome : Piece → List ℕ → List ℕ → Outcome
+abbrev pub outcome : Result Piece PieceError → List ℕ → List ℕ → Outcome
 outcome a w d = record { answer = a; words = w; bytes = d }
 
 -- every word that has a range is in it; else a call answers 12. Of the type the low byte counts, and spans are only compared
@@ -58,12 +58,12 @@ handed w = set (set w expected-at (expected_of w + 1)) count_at 0
 
 -- ---- a piece taken
 
--- the piece at a place of a record, measured against the record: Incomplete where its header or its body runs past it
-abbrev pub measured : ℕ → ParsedHeader → ParsedHeader
-measured n parsed.Incomplete = parsed.Incomplete
-measured n (parsed.Read h) = choose (ltb n (header-length + h.fragment_length)) parsed.Incomplete (parsed.Read h)
+-- the piece at a place of a record, measured against the record: none where its header or its body runs past it
+abbrev pub measured : ℕ → Option Header → Option Header
+measured n None = None
+measured n (Some h) = choose (ltb n (header-length + h.fragment_length)) None (Some h)
 
-unfoldable pub piece_at : List ℕ → ℕ → ParsedHeader
+unfoldable pub piece_at : List ℕ → ℕ → Option Header
 piece_at c at = measured (length c - at) (parse_header (drop at c))
 
 -- its body
@@ -86,7 +86,7 @@ is_fit w h =
 -- "handed over once when every byte is covered, an empty body by its one piece"; else the piece is held
 unfoldable pub finished : List ℕ → List ℕ → Outcome
 finished w d =
-    choose (is_whole w) (outcome (piece.Message (type_of w % 256) (expected_of w % 65536) (total_of w)) (handed w) d) (outcome piece.Held w d)
+    choose (is_whole w) (outcome (Ok (piece.Message (type_of w % 256) (expected_of w % 65536) (total_of w))) (handed w) d) (outcome (Ok piece.Held) w d)
 
 -- 28: "Every piece must have the held type and total"; none is held, or it has
 unfoldable pub is_alike : List ℕ → Header → Bool
@@ -102,25 +102,25 @@ unfoldable pub offered : List ℕ → Header → List ℕ → ℕ → List ℕ �
 offered w h b next d =
     choose (is_fit w h)
     (choose (is_agreed w h b d)
-    (choose (is_same w (count_of w) h.fragment_offset h.fragment_length) (outcome piece.Same (moved w next) d)
-    (choose (ltb (count_of w) most-pieces) (finished (held w h next) (splice h.fragment_offset b d)) (outcome piece.TooMany (ended w) d)))
-    (outcome piece.Disagrees (ended w) d))
-    (outcome piece.Malformed (ended w) d)
+    (choose (is_same w (count_of w) h.fragment_offset h.fragment_length) (outcome (Ok piece.Same) (moved w next) d)
+    (choose (ltb (count_of w) most-pieces) (finished (held w h next) (splice h.fragment_offset b d)) (outcome (Err refused.TooMany) (ended w) d)))
+    (outcome (Err refused.Disagrees) (ended w) d))
+    (outcome (Err refused.Malformed) (ended w) d)
 
 -- what stands at the place reached: 24 where it runs past the record; "Pieces of other messages change nothing and are only measured against the
 -- record"
-unfoldable pub read_at : List ℕ → List ℕ → List ℕ → ParsedHeader → Outcome
-read_at w c d parsed.Incomplete = outcome piece.Malformed (ended w) d
-read_at w c d (parsed.Read h) =
+unfoldable pub read_at : List ℕ → List ℕ → List ℕ → Option Header → Outcome
+read_at w c d None = outcome (Err refused.Malformed) (ended w) d
+read_at w c d (Some h) =
     choose (eqb h.message_seq (expected_of w)) (offered w h (body_at c (place_of w) h) (next_at (place_of w) h) d)
-    (outcome (piece.Passed h.message_seq) (moved w (next_at (place_of w) h)) d)
+    (outcome (Ok (piece.Passed h.message_seq)) (moved w (next_at (place_of w) h)) d)
 
 -- the next piece of the record begun, whose content is c: 16, "tested first", then 12, 15, and the record's end
 unfoldable pub taken : List ℕ → List ℕ → List ℕ → Outcome
 taken w c d =
-    choose (ltb (length d) most_bytes) (outcome piece.Short w d)
+    choose (ltb (length d) most_bytes) (outcome (Err refused.Short) w d)
     (choose (is_sound w)
     (choose (eqb (length c) (size_of w))
-    (choose (ltb (place_of w) (length c)) (read_at w c d (piece_at c (place_of w))) (outcome piece.End w d))
-    (outcome piece.Reply w d))
-    (outcome piece.Setting w d))
+    (choose (ltb (place_of w) (length c)) (read_at w c d (piece_at c (place_of w))) (outcome (Ok piece.End) w d))
+    (outcome (Err refused.Reply) w d))
+    (outcome (Err refused.Setting) w d))

@@ -1,9 +1,12 @@
 -- What each call of reassembly leaves, here and over C: r answered, w the words before and v behind, c the record's content, d the buffer before and
 -- e behind. Assumes nothing.
-use Rattle.std.specs.Prelude.{List, ◌≡◌, ℕ}
+use Rattle.std.specs.Prelude.{⊤, Result, Ok, Err, List, ◌≡◌, ℕ}
 use Rattle.base.specs.Choose.{choose}
 use Rattle.assembly.specs.declared.Piece.{Piece}
+use Rattle.assembly.specs.declared.PieceError.{PieceError}
 use Rattle.assembly.specs.declared.Piece.TheVariants as piece
+use Rattle.assembly.specs.declared.PieceError.TheVariants as refused
+use Rattle.assembly.specs.Numbers.{piece_number}
 use Rattle.assembly.specs.Spans.{most_bytes}
 use Rattle.assembly.specs.Assembly.{is_sound, fresh, begun, taken}
 use Rattle.assembly_calls.specs.declared.HuskPiece.{HuskPiece}
@@ -13,18 +16,23 @@ use Rattle.assembly_calls.specs.declared.HuskPiece.{HuskPiece}
 abbrev pub told : ℕ → ℕ → ℕ → ℕ → HuskPiece
 told k r m n = record { kind = k; refusal = r; msg_type = 0; number = m; length = n }
 
-abbrev pub flat_piece : Piece → HuskPiece
-flat_piece piece.Short = told 0 16 0 most_bytes
-flat_piece piece.Setting = told 0 12 0 0
-flat_piece piece.Reply = told 0 15 0 0
-flat_piece piece.End = told 1 0 0 0
-flat_piece piece.Malformed = told 0 24 0 0
-flat_piece piece.Disagrees = told 0 28 0 0
-flat_piece piece.TooMany = told 0 25 0 0
-flat_piece (piece.Passed n) = told 2 0 n 0
-flat_piece piece.Same = told 3 0 0 0
-flat_piece piece.Held = told 4 0 0 0
-flat_piece (piece.Message t n l) = record { kind = 5; refusal = 0; msg_type = t; number = n; length = l }
+abbrev pub flat_piece : Result Piece PieceError → HuskPiece
+flat_piece (Err refused.Short) = told 0 16 0 most_bytes
+flat_piece (Err refused.Setting) = told 0 12 0 0
+flat_piece (Err refused.Reply) = told 0 15 0 0
+flat_piece (Ok piece.End) = told 1 0 0 0
+flat_piece (Err refused.Malformed) = told 0 24 0 0
+flat_piece (Err refused.Disagrees) = told 0 28 0 0
+flat_piece (Err refused.TooMany) = told 0 25 0 0
+flat_piece (Ok (piece.Passed n)) = told 2 0 n 0
+flat_piece (Ok piece.Same) = told 3 0 0 0
+flat_piece (Ok piece.Held) = told 4 0 0 0
+flat_piece (Ok (piece.Message t n l)) = record { kind = 5; refusal = 0; msg_type = t; number = n; length = l }
+
+-- the number alone; 0 where it is done
+abbrev pub number_of : Result ⊤ PieceError → ℕ
+number_of (Ok x) = 0
+number_of (Err e) = piece_number e
 
 -- ---- the contracts of the calls
 

@@ -1,5 +1,6 @@
 -- Pieces cover no more bytes than their lengths add up to: so few bytes are no whole message, whatever places they have. Assumes nothing.
 use Rattle.std.specs.Prelude.{Bool, true, false, List, ◌≡◌, refl, ℕ, zero, suc, ◌+◌, ◌-◌, ◌≤◌, ◌<◌, min}
+use Rattle.std.specs.List.{sum_by}
 use Rattle.std.proofs.Common.{arith}
 use Rattle.base.specs.Choose.{choose, either, if_true, if_false, test_cases, both_left, both_right}
 use Rattle.base.specs.Every.{every}
@@ -10,6 +11,10 @@ use Rattle.assembly.proofs.Covering.{within_from, within_to}
 unfoldable pub lengths_of : List ℕ → ℕ → ℕ → ℕ
 lengths_of w zero t = 0
 lengths_of w (suc n) t = min (span_of w n) t + lengths_of w n t
+
+-- lengths, each at most t, added up
+abbrev pub sum_to : ℕ → List ℕ → ℕ
+sum_to t ls = sum_by (λ (l : ℕ). min l t) ls
 
 -- 1 where a byte is covered
 abbrev one : Bool → ℕ

@@ -6,8 +6,7 @@ use Rattle.std.proofs.Common.{sym, ◌∙◌}
 use Rattle.std.proofs.Math.Dec.{ltb}
 use Rattle.base.specs.Choose.{both}
 use Rattle.handshake.specs.declared.Header.{Header}
-use Rattle.handshake.specs.declared.ParsedHeader.{ParsedHeader}
-use Rattle.handshake.specs.declared.ParsedHeader.TheVariants as parsed
+use Rattle.std.specs.Prelude as parsed
 use Rattle.history_theorem.proofs.Lists.{by_both}
 use Rattle.assembly.specs.Spans.{most_bytes, count_of, place_of, covered, all_shared}
 use Rattle.assembly.specs.Assembly.{Outcome, piece_at, is_alike, is_agreed, finished, offered, read_at, taken}
@@ -45,10 +44,10 @@ module _ (w c d e : List ℕ) (same : Covered w d e) where
       (λ u. by_both Alike refl (λ s. (refl, refl)) (λ s. by_both Alike refl (λ l. finished-alike _ _ _) (λ l. (refl, refl)))) (λ u. (refl, refl)))
       (λ t. (refl, refl))
 
-  read_alike : (q : ParsedHeader) → Alike (read_at w c d q) (read_at w c e q)
+  read_alike : (q : parsed.Option Header) → Alike (read_at w c d q) (read_at w c e q)
   unfolding read_at
-  read_alike parsed.Incomplete = (refl, refl)
-  read_alike (parsed.Read h) = by_both Alike refl (λ t. offered-alike h _ _) (λ t. (refl, refl))
+  read_alike parsed.None = (refl, refl)
+  read_alike (parsed.Some h) = by_both Alike refl (λ t. offered-alike h _ _) (λ t. (refl, refl))
 
   pub taken-alike : length d ≡ length e → Alike (taken w c d) (taken w c e)
   unfolding taken

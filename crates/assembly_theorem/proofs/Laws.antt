@@ -1,6 +1,6 @@
 -- What a call does, by cases, and its laws: what is not taken changes neither the buffer nor a word but the place reached; a byte that is covered
 -- stays; a message is handed over exactly when every byte of it is covered. Assumes nothing.
-use Rattle.std.specs.Prelude.{Bool, true, false, List, ◌≡◌, ℕ, ◌+◌, ◌-◌, ◌%◌, ◌≤◌, ◌<◌, leb, length, drop}
+use Rattle.std.specs.Prelude.{Result, Ok, Err, Bool, true, false, List, ◌≡◌, ℕ, ◌+◌, ◌-◌, ◌%◌, ◌≤◌, ◌<◌, leb, length, drop}
 use Rattle.std.proofs.lemmas.Bool.{false≢true}
 use Rattle.std.proofs.Common.{⊎_elim, sym, ◌∙◌, get_or-set_other}
 use Rattle.std.proofs.Math.Path.{refl, ap}
@@ -11,11 +11,12 @@ use Rattle.base.specs.Choose.{choose, by_test, by_less, if_true, if_false, test_
 use Rattle.base.specs.Every.{each-every, every-each}
 use Rattle.base.specs.Parts.{length_part, splice, length-splice, splice_at}
 use Rattle.handshake.specs.declared.Header.{Header}
-use Rattle.handshake.specs.declared.ParsedHeader.{ParsedHeader}
-use Rattle.handshake.specs.declared.ParsedHeader.TheVariants as parsed
+use Rattle.std.specs.Prelude as parsed
 use Rattle.handshake.specs.Header.{parse_header}
 use Rattle.assembly.specs.declared.Piece.{Piece}
+use Rattle.assembly.specs.declared.PieceError.{PieceError}
 use Rattle.assembly.specs.declared.Piece.TheVariants as piece
+use Rattle.assembly.specs.declared.PieceError.TheVariants as refused
 use Rattle.assembly.specs.Spans.{most-pieces, most_bytes, last-number, header-length, words, place_at, expected_of, count_of, type_of, total_of, size_of, place_of, within, covered, is_whole, is_same, is_shared, all_shared}
 use Rattle.assembly.proofs.Covering.{within_from, within_to, is_within, all-each}
 use Rattle.assembly.specs.Assembly.{Outcome, outcome, is_sound, moved, ended, held, measured, piece_at, body_at, next_at, is_fit, is_alike, is_agreed, finished, offered, read_at, taken}
@@ -31,7 +32,7 @@ pub record Keeps (w c d : List ℕ) (h : Header) : Type 0 where
   pub room : most_bytes ≤ length d
   pub sound : is_sound w ≡ true
   pub record_length : length c ≡ size_of w
-  pub read : piece_at c (place_of w) ≡ parsed.Read h
+  pub read : piece_at c (place_of w) ≡ parsed.Some h
   pub number : h.message_seq ≡ expected_of w
   pub fit : is_fit w h ≡ true
   pub agreed : is_agreed w h (body_at c (place_of w) h) d ≡ true
@@ -46,37 +47,37 @@ abbrev pub bytes_held : List ℕ → List ℕ → List ℕ → Header → List �
 bytes_held w c d h = splice h.fragment_offset (body_at c (place_of w) h) d
 
 -- an answer that takes nothing, with the words as they were or at another place of the record; or a piece held
-module _ (w c d : List ℕ) (P : Outcome → Type 0) (unchanged : (a : Piece) → is_taken (verdict_of a) ≡ false → P (outcome a w d))
-    (placed : (a : Piece) (next : ℕ) → is_taken (verdict_of a) ≡ false → P (outcome a (moved w next) d))
+module _ (w c d : List ℕ) (P : Outcome → Type 0) (unchanged : (a : Result Piece PieceError) → is_taken (verdict_of a) ≡ false → P (outcome a w d))
+    (placed : (a : Result Piece PieceError) (next : ℕ) → is_taken (verdict_of a) ≡ false → P (outcome a (moved w next) d))
     (kept : (h : Header) → Keeps w c d h → P (finished (words_held w h) (bytes_held w c d h))) where
   module _ (room : most_bytes ≤ length d) (sound : is_sound w ≡ true) (n : length c ≡ size_of w) where
-    by-offered : (h : Header) → piece_at c (place_of w) ≡ parsed.Read h → h.message_seq ≡ expected_of w
+    by-offered : (h : Header) → piece_at c (place_of w) ≡ parsed.Some h → h.message_seq ≡ expected_of w
         → P (offered w h (body_at c (place_of w) h) (next_at (place_of w) h) d)
     unfolding offered
     by-offered h r e =
         by_test P
         (λ fit. by_test P
-        (λ agreed. by_test P (λ s. placed piece.Same (next_at (place_of w) h) refl)
+        (λ agreed. by_test P (λ s. placed (Ok piece.Same) (next_at (place_of w) h) refl)
         (λ o. by_less P (count_of w) most-pieces
         (λ few. kept h (record { room = room; sound = sound; record_length = n; read = r; number = e; fit = fit; agreed = agreed; other = o; few = few }))
-        (λ m. placed piece.TooMany (size_of w) refl)))
-        (λ t. placed piece.Disagrees (size_of w) refl))
-        (λ f. placed piece.Malformed (size_of w) refl)
+        (λ m. placed (Err refused.TooMany) (size_of w) refl)))
+        (λ t. placed (Err refused.Disagrees) (size_of w) refl))
+        (λ f. placed (Err refused.Malformed) (size_of w) refl)
 
-    by_read : (p : ParsedHeader) → piece_at c (place_of w) ≡ p → P (read_at w c d p)
+    by_read : (p : parsed.Option Header) → piece_at c (place_of w) ≡ p → P (read_at w c d p)
     unfolding read_at
-    by_read parsed.Incomplete r = placed piece.Malformed (size_of w) refl
-    by_read (parsed.Read h) r = by_test P (λ e. by-offered h r (eqb-true _ _ e)) (λ e. placed (piece.Passed h.message_seq) (next_at (place_of w) h) refl)
+    by_read parsed.None r = placed (Err refused.Malformed) (size_of w) refl
+    by_read (parsed.Some h) r = by_test P (λ e. by-offered h r (eqb-true _ _ e)) (λ e. placed (Ok (piece.Passed h.message_seq)) (next_at (place_of w) h) refl)
 
   pub by-taken : P (taken w c d)
   unfolding taken
   by-taken =
-      by_less P (length d) most_bytes (λ l. unchanged piece.Short refl)
+      by_less P (length d) most_bytes (λ l. unchanged (Err refused.Short) refl)
       (λ room. by_test P
       (λ sound. by_test P
-      (λ n. by_test P (λ l. by_read room sound (eqb-true _ _ n) (piece_at c (place_of w)) refl) (λ l. unchanged piece.End refl))
-      (λ n. unchanged piece.Reply refl))
-      (λ s. unchanged piece.Setting refl))
+      (λ n. by_test P (λ l. by_read room sound (eqb-true _ _ n) (piece_at c (place_of w)) refl) (λ l. unchanged (Ok piece.End) refl))
+      (λ n. unchanged (Err refused.Reply) refl))
+      (λ s. unchanged (Err refused.Setting) refl))
 
 -- ---- ranges
 
@@ -91,14 +92,14 @@ unfolding is_sound
 is-sound w s = both_true (le-leb _ _ s.expected) ∙ both_true (le-leb _ _ s.count) ∙ both_true (le-leb _ _ s.total) ∙ le-leb _ _ s.place
 
 -- a piece that was read lies in its record
-measured-inside : (n : ℕ) (p : ParsedHeader) (h : Header) → measured n p ≡ parsed.Read h → header-length + h.fragment_length ≤ n
-measured-inside n parsed.Incomplete h = λ e. let z : ◌≡◌ {A = ℕ} 0 1 = cc in absurd (omega arith)
-measured-inside n (parsed.Read g) h =
-    by_test (λ (q : ParsedHeader). q ≡ parsed.Read h → header-length + h.fragment_length ≤ n)
+measured-inside : (n : ℕ) (p : parsed.Option Header) (h : Header) → measured n p ≡ parsed.Some h → header-length + h.fragment_length ≤ n
+measured-inside n parsed.None h = λ e. let z : ◌≡◌ {A = ℕ} 0 1 = cc in absurd (omega arith)
+measured-inside n (parsed.Some g) h =
+    by_test (λ (q : parsed.Option Header). q ≡ parsed.Some h → header-length + h.fragment_length ≤ n)
     (λ t e. let z : ◌≡◌ {A = ℕ} 0 1 = cc in absurd (omega arith))
     (λ t e. let z : g.fragment_length ≡ h.fragment_length = cc in omega (arith, ltb-false n (header-length + g.fragment_length) t))
 
-pub piece_inside : (c : List ℕ) (at : ℕ) (h : Header) → piece_at c at ≡ parsed.Read h → at + header-length + h.fragment_length ≤ length c
+pub piece_inside : (c : List ℕ) (at : ℕ) (h : Header) → piece_at c at ≡ parsed.Some h → at + header-length + h.fragment_length ≤ length c
 unfolding piece_at
 piece_inside c at h e = omega (arith, measured-inside (length c - at) (parse_header (drop at c)) h e)
 
@@ -114,7 +115,7 @@ module _ (w : List ℕ) (n o : ℕ) (b d : List ℕ) (m : ℕ) where
   each_shared f = each-every (is_shared w n o b d) m (λ j h. by_test (λ (t : Bool). t ≡ true) (λ t. eq-eqb _ _ (f j h t)) (λ t. refl))
 
 -- a piece that was read and that 24 spares, over a buffer that is long enough
-module _ (w c d : List ℕ) (h : Header) (room : most_bytes ≤ length d) (read : piece_at c (place_of w) ≡ parsed.Read h) (fit : is_fit w h ≡ true) where
+module _ (w c d : List ℕ) (h : Header) (room : most_bytes ≤ length d) (read : piece_at c (place_of w) ≡ parsed.Some h) (fit : is_fit w h ≡ true) where
   abbrev b : List ℕ
   b = body_at c (place_of w) h
 
@@ -196,24 +197,24 @@ not_taken w c d =
 -- a piece of the number expected that 24 spares
 module _ (w : List ℕ) (h : Header) (b : List ℕ) (next : ℕ) (d : List ℕ) (fit : is_fit w h ≡ true) where
   -- 28 exactly if type, total or a shared byte differs: the record is over, the buffer and what is held are as they were, also with 50 held
-  pub disagreed : is_agreed w h b d ≡ false → offered w h b next d ≡ outcome piece.Disagrees (ended w) d
+  pub disagreed : is_agreed w h b d ≡ false → offered w h b next d ≡ outcome (Err refused.Disagrees) (ended w) d
   unfolding offered
   disagreed e = if_true _ _ fit ∙ if_false _ _ e
 
   module _ (agreed : is_agreed w h b d ≡ true) where
     -- the same piece again changes nothing but the place reached, also with 50 held
-    pub same-again : is_same w (count_of w) h.fragment_offset h.fragment_length ≡ true → offered w h b next d ≡ outcome piece.Same (moved w next) d
+    pub same-again : is_same w (count_of w) h.fragment_offset h.fragment_length ≡ true → offered w h b next d ≡ outcome (Ok piece.Same) (moved w next) d
     unfolding offered
     same-again s = if_true _ _ fit ∙ if_true _ _ agreed ∙ if_true _ _ s
 
     -- a fifty-first different piece is refused, also if it were the last that is missing
     pub one_too_many : is_same w (count_of w) h.fragment_offset h.fragment_length ≡ false → most-pieces ≤ count_of w
-        → offered w h b next d ≡ outcome piece.TooMany (ended w) d
+        → offered w h b next d ≡ outcome (Err refused.TooMany) (ended w) d
     unfolding offered
     one_too_many s l = if_true _ _ fit ∙ if_true _ _ agreed ∙ if_false _ _ s ∙ if_false _ _ (le-ltb _ _ l)
 
 -- a piece that is held hands the message over exactly when every byte is then covered
-pub handed-whole : (w d : List ℕ) → verdict_of (finished w d).answer ≡ choose (is_whole w) (verdict_of (piece.Message (type_of w % 256) (expected_of w % 65536) (total_of w))) (verdict_of piece.Held)
+pub handed-whole : (w d : List ℕ) → verdict_of (finished w d).answer ≡ choose (is_whole w) (verdict_of (Ok (piece.Message (type_of w % 256) (expected_of w % 65536) (total_of w)))) (verdict_of (Ok piece.Held))
 unfolding finished
 handed-whole w d =
     test_cases (is_whole w) (λ e. ap (λ (o : Outcome). verdict_of o.answer) (if_true _ _ e) ∙ sym (if_true _ _ e))
@@ -226,31 +227,31 @@ whole_each v e = all-each v (count_of v) (total_of v) e
 -- ---- whatever stands in the words
 
 -- the length that an answer tells of a message
-abbrev pub told_length : Piece → ℕ
-told_length piece.Short = 0
-told_length piece.Setting = 0
-told_length piece.Reply = 0
-told_length piece.End = 0
-told_length piece.Malformed = 0
-told_length piece.Disagrees = 0
-told_length piece.TooMany = 0
-told_length (piece.Passed n) = 0
-told_length piece.Same = 0
-told_length piece.Held = 0
-told_length (piece.Message t n l) = l
+abbrev pub told_length : Result Piece PieceError → ℕ
+told_length (Err refused.Short) = 0
+told_length (Err refused.Setting) = 0
+told_length (Err refused.Reply) = 0
+told_length (Ok piece.End) = 0
+told_length (Err refused.Malformed) = 0
+told_length (Err refused.Disagrees) = 0
+told_length (Err refused.TooMany) = 0
+told_length (Ok (piece.Passed n)) = 0
+told_length (Ok piece.Same) = 0
+told_length (Ok piece.Held) = 0
+told_length (Ok (piece.Message t n l)) = l
 
-untaken-length : (a : Piece) (m : ℕ) → is_taken (verdict_of a) ≡ false → told_length a ≤ m
-untaken-length piece.Short m e = omega arith
-untaken-length piece.Setting m e = omega arith
-untaken-length piece.Reply m e = omega arith
-untaken-length piece.End m e = omega arith
-untaken-length piece.Malformed m e = omega arith
-untaken-length piece.Disagrees m e = omega arith
-untaken-length piece.TooMany m e = omega arith
-untaken-length (piece.Passed n) m e = omega arith
-untaken-length piece.Same m e = omega arith
-untaken-length piece.Held m e = omega arith
-untaken-length (piece.Message t n l) m e = absurd (false≢true (sym e))
+untaken-length : (a : Result Piece PieceError) (m : ℕ) → is_taken (verdict_of a) ≡ false → told_length a ≤ m
+untaken-length (Err refused.Short) m e = omega arith
+untaken-length (Err refused.Setting) m e = omega arith
+untaken-length (Err refused.Reply) m e = omega arith
+untaken-length (Ok piece.End) m e = omega arith
+untaken-length (Err refused.Malformed) m e = omega arith
+untaken-length (Err refused.Disagrees) m e = omega arith
+untaken-length (Err refused.TooMany) m e = omega arith
+untaken-length (Ok (piece.Passed n)) m e = omega arith
+untaken-length (Ok piece.Same) m e = omega arith
+untaken-length (Ok piece.Held) m e = omega arith
+untaken-length (Ok (piece.Message t n l)) m e = absurd (false≢true (sym e))
 
 sound-total : (w : List ℕ) → is_sound w ≡ true → total_of w ≤ most_bytes
 unfolding is_sound

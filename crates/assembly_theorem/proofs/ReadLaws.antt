@@ -14,8 +14,7 @@ use Rattle.base.specs.Every.{every}
 use Rattle.base.specs.Parts.{part-behind}
 use Rattle.handshake.specs.Header.{header_at, parse_header}
 use Rattle.handshake.specs.declared.Header.{Header}
-use Rattle.handshake.specs.declared.ParsedHeader.{ParsedHeader}
-use Rattle.handshake.specs.declared.ParsedHeader.TheVariants as parsed
+use Rattle.std.specs.Prelude as parsed
 use Rattle.assembly.specs.Spans.{start_of, span_of, within, covered, all_covered, is_same}
 use Rattle.assembly.specs.Assembly.{measured, piece_at, body_at}
 use Rattle.history_theorem.proofs.Lists.{mem-by, either-cases}
@@ -33,9 +32,9 @@ fragment_of c at h = record {
   body = body_at c at h;
 }
 
-abbrev pub as_fragment : List ℕ → ℕ → ParsedHeader → Option Fragment
-as_fragment c at parsed.Incomplete = none
-as_fragment c at (parsed.Read h) = some (fragment_of c at h)
+abbrev pub as_fragment : List ℕ → ℕ → parsed.Option Header → Option Fragment
+as_fragment c at parsed.None = none
+as_fragment c at (parsed.Some h) = some (fragment_of c at h)
 
 -- the account's fragment with this body
 abbrev with_body : List ℕ → List ℕ → Option Fragment
@@ -52,14 +51,14 @@ module _ (c : List ℕ) (at : ℕ) where
   unfolding fragment_in piece_at parse_header header_at
   reads_same =
       test_cases (ltb (length rest) head_bytes)
-      (λ t. if_true _ _ t ∙ sym (ap (λ (p : ParsedHeader). as_fragment c at (measured (length c - at) p)) (if_true _ _ t)))
+      (λ t. if_true _ _ t ∙ sym (ap (λ (p : parsed.Option Header). as_fragment c at (measured (length c - at) p)) (if_true _ _ t)))
       (λ t. if_false _ _ t
       ∙ test_cases (ltb (length rest) (head_bytes + size_read))
       (λ u. if_true _ _ u
-      ∙ sym (ap (λ (p : ParsedHeader). as_fragment c at (measured (length c - at) p)) (if_false _ _ t)
+      ∙ sym (ap (λ (p : parsed.Option Header). as_fragment c at (measured (length c - at) p)) (if_false _ _ t)
       ∙ ap (as_fragment c at) (if_true _ _ (ap (λ (n : ℕ). ltb n (head_bytes + size_read)) (sym (length-drop at c)) ∙ u))))
       (λ u. if_false _ _ u ∙ ap (with_body rest) (part-behind at head_bytes size_read c)
-      ∙ sym (ap (λ (p : ParsedHeader). as_fragment c at (measured (length c - at) p)) (if_false _ _ t)
+      ∙ sym (ap (λ (p : parsed.Option Header). as_fragment c at (measured (length c - at) p)) (if_false _ _ t)
       ∙ ap (as_fragment c at) (if_false _ _ (ap (λ (n : ℕ). ltb n (head_bytes + size_read)) (sym (length-drop at c)) ∙ u)))))
 
 -- ---- the pieces held

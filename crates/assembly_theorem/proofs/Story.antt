@@ -1,5 +1,5 @@
 -- The words stand for the account, call after call: each answer is the one owed, and the buffer is written as the claim says. Assumes nothing.
-use Rattle.std.specs.Prelude.{Bool, ◌≡◌, leb, ltb, eqb, set, take, drop}
+use Rattle.std.specs.Prelude.{Ok, Err, Bool, ◌≡◌, leb, ltb, eqb, set, take, drop}
 use Rattle.std.proofs.Math.Bool.{true, false}
 use Rattle.std.proofs.lemmas.Bool.{false≢true}
 use mathlib.Core.List.{List, [], ◌∷◌, Memᴰ as Mem}
@@ -14,9 +14,9 @@ use Rattle.std.proofs.Math.ListN.{length, get_or, length-set}
 use Rattle.base.specs.Choose.{choose, both, either, if_true, if_false, test_cases, both_left, both_right, both_true, both_false, either_true, either-false}
 use Rattle.base.specs.Parts.{length_part}
 use Rattle.handshake.specs.declared.Header.{Header}
-use Rattle.handshake.specs.declared.ParsedHeader.{ParsedHeader}
-use Rattle.handshake.specs.declared.ParsedHeader.TheVariants as parsed
+use Rattle.std.specs.Prelude as parsed
 use Rattle.assembly.specs.declared.Piece.TheVariants as piece
+use Rattle.assembly.specs.declared.PieceError.TheVariants as refused
 use Rattle.assembly.specs.Spans.{most_bytes, most-pieces, last-number, words, expected-at, count_at, type_at, total-at, size-at, place_at, offset_at, length_at, expected_of, count_of, type_of, total_of, size_of, place_of, within, covered, is_whole, is_same, all_shared}
 use Rattle.assembly.specs.Assembly.{Outcome, outcome, begun, moved, ended, handed, piece_at, body_at, next_at, is_fit, is_alike, is_agreed, finished, offered, read_at, taken}
 use Rattle.assembly.proofs.Assembly.{fit-number, fit-end}
@@ -127,27 +127,27 @@ module _ {w d : List ℕ} {a : Account} {ms : List Out} (s : Stands w d a) (log 
     abbrev P : Outcome → Verdict → Type 0
     P = Step a d ms f
 
-    unchanged-end : P (outcome piece.End w d) over
+    unchanged-end : P (outcome (Ok piece.End) w d) over
     unchanged-end = record { reply = refl; stands = s; wrote = spared f a.pieces over d refl; log = log; count = out }
 
-    unchanged-reply : P (outcome piece.Reply w d) (turned 15)
+    unchanged-reply : P (outcome (Err refused.Reply) w d) (turned 15)
     unchanged-reply = record { reply = refl; stands = s; wrote = spared f a.pieces (turned 15) d refl; log = log; count = out }
 
     -- 24, 28 and 25
     ended-stands : Stands (ended w) d (ends a)
     ended-stands = moved-stands s (size_of w) a.size s.size (omega arith)
 
-    is-malformed : P (outcome piece.Malformed (ended w) d) (account.ended 24)
+    is-malformed : P (outcome (Err refused.Malformed) (ended w) d) (account.ended 24)
     is-malformed = record { reply = refl; stands = ended-stands; wrote = spared f a.pieces (account.ended 24) d refl; log = log; count = out }
 
-    is-other : P (outcome piece.Disagrees (ended w) d) (account.ended 28)
+    is-other : P (outcome (Err refused.Disagrees) (ended w) d) (account.ended 28)
     is-other = record { reply = refl; stands = ended-stands; wrote = spared f a.pieces (account.ended 28) d refl; log = log; count = out }
 
-    is_too_many : P (outcome piece.TooMany (ended w) d) (account.ended 25)
+    is_too_many : P (outcome (Err refused.TooMany) (ended w) d) (account.ended 25)
     is_too_many = record { reply = refl; stands = ended-stands; wrote = spared f a.pieces (account.ended 25) d refl; log = log; count = out }
 
   -- a piece that was read
-  module _ (c : List ℕ) (room : most_bytes ≤ length d) (n : length c ≡ size_of w) (h : Header) (read : piece_at c (place_of w) ≡ parsed.Read h) where
+  module _ (c : List ℕ) (room : most_bytes ≤ length d) (n : length c ≡ size_of w) (h : Header) (read : piece_at c (place_of w) ≡ parsed.Some h) where
     abbrev b : List ℕ
     b = body_at c (place_of w) h
 
@@ -170,10 +170,10 @@ module _ {w d : List ℕ} {a : Account} {ms : List Out} (s : Stands w d a) (log 
     unfolding f
     passed-stands = moved-stands s (next_at (place_of w) h) (a.place + head_bytes + length b) next-is next_fits
 
-    is-passed : Q (outcome (piece.Passed h.message_seq) (moved w (next_at (place_of w) h)) d) (other h.message_seq)
+    is-passed : Q (outcome (Ok (piece.Passed h.message_seq)) (moved w (next_at (place_of w) h)) d) (other h.message_seq)
     is-passed = record { reply = refl; stands = passed-stands; wrote = spared f a.pieces (other h.message_seq) d refl; log = log; count = out }
 
-    is-again : Q (outcome piece.Same (moved w (next_at (place_of w) h)) d) same
+    is-again : Q (outcome (Ok piece.Same) (moved w (next_at (place_of w) h)) d) same
     is-again = record { reply = refl; stands = passed-stands; wrote = spared f a.pieces same d refl; log = log; count = out }
 
     -- ---- and taken
@@ -313,7 +313,7 @@ module _ {w d : List ℕ} {a : Account} {ms : List Out} (s : Stands w d a) (log 
         each = each_more;
       }
 
-      is_held : Q (outcome piece.Held v x) account.held
+      is_held : Q (outcome (Ok piece.Held) v x) account.held
       is_held = record { reply = refl; stands = held-stands; wrote = wrote-more account.held refl; log = log; count = out }
 
       -- ---- and the message whole
@@ -381,7 +381,7 @@ module _ {w d : List ℕ} {a : Account} {ms : List Out} (s : Stands w d a) (log 
       verdict_from (by p q) = rw (p, q, number_is)
 
       is-message : is_whole v ≡ true
-          → Q (outcome (piece.Message (type_of v % 256) (expected_of v % 65536) (total_of v)) handed_words x) (whole (oldest f fs).kind a.out (oldest f fs).total)
+          → Q (outcome (Ok (piece.Message (type_of v % 256) (expected_of v % 65536) (total_of v))) handed_words x) (whole (oldest f fs).kind a.out (oldest f fs).total)
       is-message e = record {
         reply = verdict_from head_more;
         stands = handed-stands;
@@ -530,20 +530,20 @@ module _ {w d : List ℕ} {a : Account} {ms : List Out} (s : Stands w d a) (log 
         (λ e. is-other f))
         (λ e. is-malformed f)
 
-    offered-step : Q (read_at w c d (parsed.Read h)) (read_as a (some f))
+    offered-step : Q (read_at w c d (parsed.Some h)) (read_as a (some f))
     unfolding read_at read_as f
     offered-step = by_both Q (ap (eqb h.message_seq) (sym s.expected)) (λ e. judged-step (eqb-true _ _ e)) (λ e. is-passed)
 
   -- ---- the call
 
   module _ (c : List ℕ) (room : most_bytes ≤ length d) where
-    abbrev read : ParsedHeader
+    abbrev read : parsed.Option Header
     read = piece_at c (place_of w)
 
-    read_step : length c ≡ size_of w → (p : ParsedHeader) → read ≡ p → Step a d ms (or_none (as_fragment c (place_of w) p)) (read_at w c d p) (read_as a (as_fragment c (place_of w) p))
+    read_step : length c ≡ size_of w → (p : parsed.Option Header) → read ≡ p → Step a d ms (or_none (as_fragment c (place_of w) p)) (read_at w c d p) (read_as a (as_fragment c (place_of w) p))
     unfolding read_at read_as f
-    read_step n parsed.Incomplete e = is-malformed (or_none none)
-    read_step n (parsed.Read h) e = offered-step c room n h e
+    read_step n parsed.None e = is-malformed (or_none none)
+    read_step n (parsed.Some h) e = offered-step c room n h e
 
     -- the account's verdict of what stands at the place reached, with 16 passed and before it
     abbrev begun_owed : Option Fragment → Verdict
@@ -557,7 +557,7 @@ module _ {w d : List ℕ} {a : Account} {ms : List Out} (s : Stands w d a) (log 
 
     begun-step : let g = or_none (as_fragment c (place_of w) read) in
         Step a d ms g
-        (choose (eqb (length c) (size_of w)) (choose (ltb (place_of w) (length c)) (read_at w c d read) (outcome piece.End w d)) (outcome piece.Reply w d))
+        (choose (eqb (length c) (size_of w)) (choose (ltb (place_of w) (length c)) (read_at w c d read) (outcome (Ok piece.End) w d)) (outcome (Err refused.Reply) w d))
         (begun_owed (as_fragment c (place_of w) read))
     begun-step =
         let g = or_none (as_fragment c (place_of w) read) in

@@ -1,5 +1,5 @@
 -- What is claimed of every list of calls of reassembly holds. Assumes nothing.
-use Rattle.std.specs.Prelude.{true, false, ◌≡◌, refl, ℕ, ◌≤◌, ◌<◌, length, drop}
+use Rattle.std.specs.Prelude.{Err, true, false, ◌≡◌, refl, ℕ, ◌≤◌, ◌<◌, length, drop}
 use Rattle.std.proofs.lemmas.Bool.{false≢true}
 use mathlib.Core.List.Memᴰ.{head as here}
 use mathlib.Core.List.Memᴰ.{tail as there}
@@ -12,6 +12,7 @@ use Rattle.history_theorem.proofs.Lists.{mem-by}
 use Rattle.assembly.specs.Assembly as assembly
 use Rattle.assembly.specs.Assembly.{Outcome, outcome}
 use Rattle.assembly.specs.declared.Piece.TheVariants as piece
+use Rattle.assembly.specs.declared.PieceError.TheVariants as refused
 use Rattle.assembly_theorem.specs.Account.{longest_body, Fragment, fragment_in, Account, Verdict, begun, turned, ended, over, other, same, held, whole, read_as, owed, begins, settled, or_none, reads_from, after}
 use Rattle.assembly_theorem.proofs.Agreement.{one_covers}
 use Rattle.assembly_theorem.specs.Claim.{PieceCall, begin·, take·, Told, Given, Wrote, Out, Piecing, new_piecing, verdict_of, logged, takes, does, FairPiece, is_taken, WroteOnly, Log, none as no-message, Came, Assembled, ran, AllFair, EveryRun}
@@ -145,7 +146,7 @@ module _ (p : Piecing) (c d : List ℕ) (s : Story p) where
       }
 
   -- over one that is too short
-  short-taken : length d < longest_body → outcome piece.Short p.words d ≡ assembly.taken p.words c d
+  short-taken : length d < longest_body → outcome (Err refused.Short) p.words d ≡ assembly.taken p.words c d
   unfolding assembly.taken
   short-taken l = sym (if_true _ _ (lt-ltb _ _ l))
 
@@ -165,7 +166,7 @@ module _ (p : Piecing) (c d : List ℕ) (s : Story p) where
             subst (λ (x : List ℕ). Stands p.words x (after a c (length d))) (sym (if_true _ _ (lt-ltb _ _ l)))
             (subst (λ (x : Verdict). Stands p.words p.left (settled a x (reads_from a c))) v s.stands);
         holds =
-            holds_from (outcome piece.Short p.words d) v (short-wrote _ (ap is_taken (sym v))) s.holds.log
+            holds_from (outcome (Err refused.Short) p.words d) v (short-wrote _ (ap is_taken (sym v))) s.holds.log
             (subst (λ (x : Verdict). length p.messages ≡ (settled a x (reads_from a c)).out) v s.holds.count);
       })
 

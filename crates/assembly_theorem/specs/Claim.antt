@@ -1,11 +1,13 @@
 -- Every list of calls of reassembly at one end: what happens at each, what the host sees and enters, and what holds of it.
-use Rattle.std.specs.Prelude.{Bool, true, false, ◌≡◌, ℕ, ◌-◌, ◌≤◌, ◌<◌, ltb, length, get_or, take, drop}
+use Rattle.std.specs.Prelude.{Result, Ok, Err, Bool, true, false, ◌≡◌, ℕ, ◌-◌, ◌≤◌, ◌<◌, ltb, length, get_or, take, drop}
 use mathlib.Core.List.{List, [], ◌∷◌, Memᴰ as Mem}
 use Rattle.std.proofs.Math.Option.{some}
 use Rattle.base.specs.Choose.{choose, both}
 use Rattle.assembly.specs.Assembly as assembly
 use Rattle.assembly.specs.declared.Piece.{Piece}
+use Rattle.assembly.specs.declared.PieceError.{PieceError}
 use Rattle.assembly.specs.declared.Piece.TheVariants as piece
+use Rattle.assembly.specs.declared.PieceError.TheVariants as refused
 use Rattle.assembly_theorem.specs.Account.{longest_body, Fragment, fragment_in, has, byte_in, covers, byte_of, oldest, Account, new_account, Verdict, begun, turned, ended, over, other, same, held, whole, owed, begins, reads_from, after}
 
 -- ---- the calls
@@ -61,18 +63,18 @@ new_piecing = record { words = assembly.fresh; left = []; account = new_account;
 -- ---- a call
 
 -- an answer by what it tells
-abbrev pub verdict_of : Piece → Verdict
-verdict_of piece.Short = turned 16
-verdict_of piece.Setting = turned 12
-verdict_of piece.Reply = turned 15
-verdict_of piece.End = over
-verdict_of piece.Malformed = ended 24
-verdict_of piece.Disagrees = ended 28
-verdict_of piece.TooMany = ended 25
-verdict_of (piece.Passed n) = other n
-verdict_of piece.Same = same
-verdict_of piece.Held = held
-verdict_of (piece.Message t n l) = whole t n l
+abbrev pub verdict_of : Result Piece PieceError → Verdict
+verdict_of (Err refused.Short) = turned 16
+verdict_of (Err refused.Setting) = turned 12
+verdict_of (Err refused.Reply) = turned 15
+verdict_of (Ok piece.End) = over
+verdict_of (Err refused.Malformed) = ended 24
+verdict_of (Err refused.Disagrees) = ended 28
+verdict_of (Err refused.TooMany) = ended 25
+verdict_of (Ok (piece.Passed n)) = other n
+verdict_of (Ok piece.Same) = same
+verdict_of (Ok piece.Held) = held
+verdict_of (Ok (piece.Message t n l)) = whole t n l
 
 -- a message goes into the log as the host sees it
 abbrev pub logged : Verdict → Fragment → List Fragment → List ℕ → List Out → List Out

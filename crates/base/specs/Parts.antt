@@ -102,6 +102,12 @@ module _ (p : ℕ) (v d : List ℕ) (fits : p + length v ≤ length d) where
       ∙ ap (take n) (rw (take-add a (p - a) d) (drop_at (take a d) (take (p - a) (drop a d)) a (length-take-le a d (omega arith))))
       ∙ take-take n (p - a) (drop a d) (omega arith)
 
+  pub splice_front : (n : ℕ) → n < p → get_or (splice p v d) n 0 ≡ get_or d n 0
+  splice_front n h =
+      let e : 0 + n ≡ n = omega arith in
+      ap (λ (j : ℕ). get_or (splice p v d) j 0) (sym e) ∙ sym (part_at 0 p (splice p v d) n h) ∙ ap (λ (l : List ℕ). get_or l n 0) (splice-before 0 p (omega arith))
+      ∙ part_at 0 p d n h ∙ ap (λ (j : ℕ). get_or d j 0) e
+
   behind : drop (p + length v) (splice p v d) ≡ drop (p + length v) d
   unfolding splice
   behind =

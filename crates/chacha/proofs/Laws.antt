@@ -3,7 +3,6 @@ use Rattle.std.specs.Prelude.{◌≡◌, ℕ, zero, suc, ◌+◌, ◌/◌, ◌%�
 use Rattle.std.proofs.Common.{ap, ◌∙◌, add_assoc, add-zero, zero-add, one-add, arith}
 use Rattle.std.proofs.Math.ListN.{get_or-eq_default}
 use Rattle.base.specs.Parts.{part, part_at}
-use Rattle.chacha.specs.declared.Quad.{Quad}
 use Rattle.chacha.specs.Chacha.{plus, rotl, abd, cdb, quarter_round, word, initial, column_round, diagonal_round, quarter_at, put_quad, double_rounds, added, bytes_of, block_words, block, mask_of, sample_words}
 
 -- a word of a part is a word of the whole

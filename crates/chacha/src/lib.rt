@@ -42,26 +42,18 @@ pub struct State {
     pub x15: u32,
 }
 
-// 2.1: a word rolled n bits to the left.
-fn rotl(x: u32, n: u32) -> u32
-    requires { (0 < n) × (n < 32) }
-    ensures { result ≡ spec.rotl n x }
-{
-    (x << n) | (x >> (32 - n))
-}
-
 // 2.1: the quarter round.
 pub fn quarter_round(a: u32, b: u32, c: u32, d: u32) -> Quad
     ensures { result ≡ spec.quarter_round a b c d }
 {
-    let a = std::num::wrapping_add_u32(a, b);
-    let d = rotl(d ^ a, 16);
-    let c = std::num::wrapping_add_u32(c, d);
-    let b = rotl(b ^ c, 12);
-    let a = std::num::wrapping_add_u32(a, b);
-    let d = rotl(d ^ a, 8);
-    let c = std::num::wrapping_add_u32(c, d);
-    let b = rotl(b ^ c, 7);
+    let a = a.wrapping_add(b);
+    let d = (d ^ a).rotate_left(16);
+    let c = c.wrapping_add(d);
+    let b = (b ^ c).rotate_left(12);
+    let a = a.wrapping_add(b);
+    let d = (d ^ a).rotate_left(8);
+    let c = c.wrapping_add(d);
+    let b = (b ^ c).rotate_left(7);
     Quad { a, b, c, d }
 }
 
@@ -126,18 +118,10 @@ fn rounds(s: State) -> State
     ensures { spec.words_of result ≡ spec.double_rounds 10 (spec.words_of s) }
 {
     let mut t = s;
-    let mut i: usize = 0;
-    while i < DOUBLE_ROUNDS {
+    for _ in 0..DOUBLE_ROUNDS {
         t = diagonal_round(column_round(t));
-        i += 1;
     }
     t
-}
-
-fn wide(x: u8) -> u32
-    ensures { (result ≡ x) × (result < 256) }
-{
-    x as u32
 }
 
 // The word that four bytes make from place i on, the lowest first.
@@ -145,7 +129,7 @@ fn word(d: &[u8], i: usize) -> u32
     requires { i + 4 ≤ length d.now }
     ensures { result ≡ spec.word d.now i }
 {
-    wide(d[i]) + wide(d[i + 1]) * 0x100 + wide(d[i + 2]) * 0x1_0000 + wide(d[i + 3]) * 0x100_0000
+    u32::from_le_bytes([d[i], d[i + 1], d[i + 2], d[i + 3]])
 }
 
 // 2.3: the state before the rounds: the constants, the key, the counter, the nonce.
@@ -190,13 +174,13 @@ pub fn block_word(key: [u8; 32], sample: [u8; 16], k: usize) -> u32
     let s = initial(key, sample);
     let before = words(s);
     let after = words(rounds(s));
-    std::num::wrapping_add_u32(before[k], after[k])
+    before[k].wrapping_add(after[k])
 }
 
 // The mask of a record number, RFC 9147, section 4.2.3: the first two bytes of that block.
 pub fn mask(key: [u8; 32], sample: [u8; 16]) -> [u8; 2]
     ensures { result ≡ spec.mask_of key sample }
 {
-    let x = block_word(key, sample, 0);
-    [(x % 256) as u8, (x / 256 % 256) as u8]
+    let [first, second, _, _] = block_word(key, sample, 0).to_le_bytes();
+    [first, second]
 }

@@ -1,5 +1,5 @@
 -- From what a call's parts ensure to what the call ensures. Assumes nothing.
-use Rattle.std.specs.Prelude.{Bool, false, List, ◌≡◌, ℕ, ◌≤◌, ◌<◌, leb, eqb}
+use Rattle.std.specs.Prelude.{Bool, false, List, ◌≡◌, ℕ, ◌≤◌, ◌<◌, leb, eqb, Ok, Err}
 use Rattle.std.proofs.Math.Bool.{true}
 use Rattle.std.proofs.Math.Path.{refl, sym, ap, subst}
 use Rattle.std.proofs.Common.{◌∙◌, arith}
@@ -12,10 +12,10 @@ use Rattle.datagram.specs.declared.Question.{Question}
 use Rattle.datagram.specs.declared.Question.TheVariants as question
 use Rattle.datagram.specs.declared.Reading.{Reading}
 use Rattle.datagram.specs.declared.Reading.TheVariants as says
-use Rattle.send_keys.specs.declared.SendAnswer.TheVariants.{Done, OutOfRange}
+use Rattle.send_keys.specs.declared.SendError.TheVariants.{OutOfRange}
 use Rattle.send_keys.specs.Answer.{is_done}
 use Rattle.process_ack.specs.Ack.{acked}
-use Rattle.process_ack.specs.declared.Acked.{Acked}
+use Rattle.flight.specs.declared.Acted.{Acted}
 use Rattle.process_ack.specs.Status.{newly_marked}
 use Rattle.flight_words.specs.Words.{saved-at, flight_of, flat_to}
 use Rattle.recv_words.specs.Words.{question-at, size-at, readings-at, question_of, datagram_of, keys_of, is_flat}
@@ -115,7 +115,7 @@ module _ (a : HuskAcked) (g f m n c : List ℕ) (h : ProcessAckCall a g f m n c)
   in-range e =
       let q : flat_to f 12 ≡ true = both_left _ _ e in
       let l : get_or f saved-at 0 ≤ 12 = leb-true (get_or f saved-at 0) 12 (both_right _ _ e) in
-      let d : (acked (flight_of f n) c).answer ≡ Done = ap (λ (t : Acked). t.answer) (if_false _ _ (le-ltb _ _ l)) in
+      let d : (acked (flight_of f n) c).answer ≡ Ok tt = ap (λ (t : Acted). t.answer) (if_false _ _ (le-ltb _ _ l)) in
       (h.0 ∙ if_true _ _ q, ap (λ (z : HuskAcked). z.refusal) (h.0 ∙ if_true _ _ q ∙ if_true _ _ (ap is_done d)), h.1 ∙ if_true _ _ q)
 
   out_of_range : in_range f ≡ false → (a.refusal ≡ 12) × (flight_of g m ≡ flight_of f n)
@@ -123,9 +123,9 @@ module _ (a : HuskAcked) (g f m n c : List ℕ) (h : ProcessAckCall a g f m n c)
   out_of_range e =
       test_cases (flat_to f 12)
       (λ q. let l : 12 < get_or f saved-at 0 = leb-false (get_or f saved-at 0) 12 (sym (both_true q) ∙ e) in
-      let k : acked (flight_of f n) c ≡ record { answer = OutOfRange; flight = flight_of f n } = if_true _ _ (lt-ltb _ _ l) in (
-        ap (λ (z : HuskAcked). z.refusal) (h.0 ∙ if_true _ _ q ∙ ap (λ (z : Acked). acked_told z (newly_marked (flight_of f n) c)) k ∙ if_false _ _ refl),
-        h.1 ∙ if_true _ _ q ∙ ap (λ (z : Acked). z.flight) k,
+      let k : acked (flight_of f n) c ≡ record { answer = Err OutOfRange; flight = flight_of f n } = if_true _ _ (lt-ltb _ _ l) in (
+        ap (λ (z : HuskAcked). z.refusal) (h.0 ∙ if_true _ _ q ∙ ap (λ (z : Acted). acked_told z (newly_marked (flight_of f n) c)) k ∙ if_false _ _ refl),
+        h.1 ∙ if_true _ _ q ∙ ap (λ (z : Acted). z.flight) k,
       ))
       (λ q. (ap (λ (z : HuskAcked). z.refusal) (h.0 ∙ if_false _ _ q), h.1 ∙ if_false _ _ q))
 

@@ -7,6 +7,7 @@ ghost use Rattle.std.specs.Prelude.{List, ◌≡◌, true, ℕ, leb};
 ghost use Rattle.base.specs.Choose.{both};
 ghost use Rattle.recv_words.specs.Words.{is_flat};
 ghost use Rattle.recv_key_steps.specs.Kept.{state_of};
+ghost use Rattle.recv_calls.specs.Flat.{number_of};
 ghost use Rattle.classify.specs.declared.Class.TheVariants as class;
 ghost use Rattle.classify.specs.Classify.{plaintext-kind, opened-kind, is_inside, is_sound, cleared, closing, is_after, is_beyond, is_guarded, alert_as, by_type, class_of, classified, finished};
 ghost use Rattle.classify_calls.specs.Calls.{
@@ -27,6 +28,7 @@ ghost use Rattle.classify_calls.specs.Calls.{
 
 use ack_calls::HuskAcked;
 use classify::Class;
+use receiving::Refusal;
 use recv_calls::HuskReading;
 use recv_words::{ENCRYPTED, QUESTION, READINGS, SIZE, WORDS};
 
@@ -89,7 +91,7 @@ const USER_CANCELED: u8 = 90;
 //   9 application data;
 //   10 another type;
 //   11 unopened.
-// Start and length are where its content is, 0 for kinds 0 and 1. Fields that a kind does not use are zeros.
+// Start and length are where its content is, 0 for kinds 0 and 1. Fields that a kind does not use are zeros. The C interface has numbers.
 #[repr(C)]
 #[derive(Clone, Copy)]
 pub struct HuskClass {
@@ -427,14 +429,14 @@ fn deal(
 fn note(x: &mut [u64; PENDING], r: HuskReading)
     ensures { x.new ≡ noted_by r x.old }
 {
-    let kind = base::wide(r.kind);
+    let kind = u64::from(r.kind);
     if kind == 0 {
         return;
     }
     if is_content(kind) {
         x[KIND] = kind;
-        x[TYPE] = base::wide(r.content_type);
-        x[EPOCH] = words::wide(r.epoch);
+        x[TYPE] = u64::from(r.content_type);
+        x[EPOCH] = u64::from(r.epoch);
         x[NUMBER] = r.number;
         x[START] = r.start as u64;
         x[LENGTH] = r.length as u64;
@@ -446,23 +448,24 @@ fn note(x: &mut [u64; PENDING], r: HuskReading)
 // ---- the calls
 
 // `recv_calls::fresh`; no reading waits and no close is remembered, whatever stood in the words.
-pub fn fresh(w: &mut [u64; WORDS], x: &mut [u64; PENDING], min_protected: usize) -> u8
-    ensures { FreshCall result w.new x.new min_protected }
+pub fn fresh(
+    w: &mut [u64; WORDS],
+    x: &mut [u64; PENDING],
+    min_protected: usize,
+) -> Result<(), Refusal>
+    ensures { FreshCall (number_of result) w.new x.new min_protected }
 {
     *x = [0u64; PENDING];
     recv_calls::fresh(w, min_protected)
 }
 
 // `recv_calls::begin`; with a datagram begun no reading waits.
-pub fn begin(w: &mut [u64; WORDS], x: &mut [u64; PENDING], n: usize) -> u8
-    ensures { BeginCall result w.new w.old x.new x.old n }
+pub fn begin(w: &mut [u64; WORDS], x: &mut [u64; PENDING], n: usize) -> Result<(), Refusal>
+    ensures { BeginCall (number_of result) w.new w.old x.new x.old n }
 {
-    let a = recv_calls::begin(w, n);
-    if a == 0 {
-        clear(x);
-        return a;
-    }
-    a
+    recv_calls::begin(w, n)?;
+    clear(x);
+    Ok(())
 }
 
 // `recv_calls::read`, noted.

@@ -1,5 +1,6 @@
 -- Every receiving call keeps what holds between the words, the account and the history. Assumes nothing.
-use Rattle.std.specs.Prelude.{Bool, ◌≡◌, ℕ, ◌≤◌, length}
+use Rattle.recv_keys.specs.Keys.{Found}
+use Rattle.std.specs.Prelude.{Bool, ◌≡◌, ℕ, ◌≤◌, length, Some, None}
 use Rattle.std.proofs.Math.Bool.{true, false}
 use Rattle.std.proofs.lemmas.Bool.{false≢true}
 use mathlib.Core.List.Memᴰ.{head as here}
@@ -20,15 +21,12 @@ use Rattle.datagram.specs.declared.Reading.{Reading}
 use Rattle.datagram.specs.declared.Step.{Step}
 use Rattle.mask_reply.proofs.Leads.{by-judged}
 use Rattle.mask_reply.specs.Mask.{judged, masked_at, masked_by, masking, mask_step}
-use Rattle.opening_reply.specs.Opening.{shown_by}
-use Rattle.opening_reply.specs.declared.Opening.{Opening}
+use Rattle.opening_reply.specs.Opening.{shown_by, Opening}
 use Rattle.receiving.specs.Laws.{mask-writes_not}
 use Rattle.receiving.specs.Receiving.{answer_number, key_of, begin_of, mask_of}
 use Rattle.receiving.specs.Within.{Within, read-within, opened-within}
 use Rattle.receiving.specs.declared.Receiving.{Receiving}
 use Rattle.records.specs.Records.{opening_asked}
-use Rattle.recv_keys.specs.declared.Found.TheVariants as found
-use Rattle.recv_keys.specs.declared.Found.{Found}
 use Rattle.recv_keys.specs.declared.RecvEpochEntry.{RecvEpochEntry}
 use Rattle.recv_keys.specs.declared.RecvKeys.{RecvKeys}
 use Rattle.classify.specs.Classify.{plaintext-kind, unopened-kind, opened-kind, cleared, noted}
@@ -56,8 +54,8 @@ judged-none e b a n = by-judged e b a n NoReading (λ r. refl) (λ small fresh. 
 
 masked-none : (f : Found) (k : RecvKeys) (b : Datagram) (a : Ask) (m d : List ℕ) → NoReading (masked_by f k b a m d).0
 unfolding masked_by masked_at
-masked-none found.Nothing k b a m d = refl
-masked-none (found.At i) k b a m d = judged-none _ b a _
+masked-none None k b a m d = refl
+masked-none (Some i) k b a m d = judged-none _ b a _
 
 masking-none : (q : Question) (k : RecvKeys) (b : Datagram) (m d : List ℕ) → NoReading (masking q k b m d).0
 unfolding masking

@@ -17,7 +17,7 @@ use Rattle.history_theorem.proofs.Lists.{some≢none}
 use Rattle.history_theorem.specs.Receiver.{Sealed, Handed, Tried, Inbound}
 use Rattle.classify_theorem.specs.Account.{alert_type, ack_type, close_notify, user_canceled, Pending, Place, Verdict, turned, noneWaits, beyond, unprotected, ignored, marks, closes, tells, handshake, application_data, other, unopened, is_past, first_only, alert_owed, type_owed, sealed_owed, is_dropped, plain_owed, place_of, kind_owed, reading_owed, Reply}
 use Rattle.classify_theorem.specs.Claim.{Dealt, Dealings, is_reading, Is, Kept, was-dealt, was-missed, still-waits, Classified}
-use Rattle.classify_theorem.specs.Rules.{Delivered, Handled, due_owed, delivered, left-behind, waits}
+use Rattle.classify_theorem.specs.Rules.{Delivered, Handled, delivered, left-behind, waits}
 
 -- ---- beyond the close
 

@@ -101,6 +101,7 @@ pub struct Step {
 
 // ---- ranges
 
+#[tactic(auto, unfolding(crate::specs::Datagram::ask_sound, base::specs::Choose::both))]
 pub fn ask_sound(a: Ask, room: usize) -> bool
     ensures { result ≡ ask_sound a room }
 {
@@ -158,6 +159,7 @@ pub fn pass(b: Datagram, next: usize, r: Reason) -> Step
 }
 
 // A reading, or one too many.
+#[tactic(auto, unfolding(crate::specs::Datagram::counted, base::specs::Choose::choose))]
 pub fn count(b: Datagram, next: usize, r: Reading) -> Step
     ensures { result ≡ counted b next r }
 {

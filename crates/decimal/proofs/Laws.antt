@@ -1,7 +1,8 @@
 -- What a number in decimal is: how long, which characters, no leading zero, and read back it is the number. Assumes nothing.
 use Rattle.std.specs.Prelude.{List, [], ◌∷◌, ◌++◌, ◌≡◌, refl, ℕ, zero, suc, ◌+◌, ◌-◌, ◌*◌, ◌/◌, ◌^◌, ◌<◌, ◌≤◌, length, get_or, take, drop}
-use Rattle.std.proofs.Common.{append_assoc, ⊎_elim, sym, ap, ◌∙◌, pow-suc, mul_assoc, arith, length-append, take-append-drop, length-take-le, take-take, drop-drop, drop_at}
+use Rattle.std.proofs.Common.{add-one, append_assoc, ⊎_elim, sym, ap, ◌∙◌, pow-suc, mul_assoc, arith, length-append, take-append-drop, length-take-le, take-take, drop-drop, drop_at}
 use Rattle.std.proofs.Math.ListN.{get_or-append}
+use Rattle.std.proofs.Math.Nat.{pow-le-pow_right}
 use Rattle.std.proofs.lemmas.List.{take-append-le, get_or_at}
 use Rattle.base.specs.Choose.{lt-or_ge}
 use Rattle.base.specs.Parts.{splice}
@@ -42,6 +43,22 @@ unfolding places_up_to
 places_hold zero n h = h
 places_hold (suc k) n h =
     places_cases (λ (x : ℕ). n < 10 ^ x) k n (λ l. l) (λ _. tenfold (places_up_to k (n / 10)) n (places_hold k (n / 10) (tenth (suc k) n h)))
+
+-- a number that reaches 10 ^ k and not ten times as much has one digit more than k
+pub places_reached : (k n : ℕ) → k < 20 → 10 ^ k ≤ n → n < 10 * 10 ^ k → k + 1 ≡ places_of n
+unfolding places_of
+places_reached k n l a b =
+    let below : n < 10 ^ (k + 1) = rw (add-one k, pow-suc 10 k) (omega arith) in
+    let most : places_up_to 19 n ≤ k + 1 = places_short 19 (k + 1) n (omega arith) below in
+    let ten : 0 < 10 = omega arith in
+    let top : 10 ^ (k + 1) ≤ 10 ^ 20 = pow-le-pow_right ten {i = k + 1} {j = 20} (omega arith) in
+    let held : n < 10 ^ places_up_to 19 n = places_hold 19 n (omega arith) in
+    ⊎_elim (λ (s : places_up_to 19 n < k + 1). let low : 10 ^ places_up_to 19 n ≤ 10 ^ k = pow-le-pow_right ten {i = places_up_to 19 n} {j = k} (omega arith) in absurd (omega arith))
+    (λ g. omega arith) (lt-or_ge (places_up_to 19 n) (k + 1))
+
+pub places_none : places_of 0 ≡ 1
+unfolding places_of
+places_none = places_last 19 0 (omega arith)
 
 pub length_digits : (k n : ℕ) → length (digits k n) ≡ k
 unfolding digits

@@ -6,16 +6,14 @@ ghost use Rattle.base.specs.Parts.{splice};
 ghost use Rattle.decimal.specs.Decimal.{digits, places_of, decimal};
 
 // How many digits n has, without leading zeros.
+#[tactic(auto, using(crate::proofs::Laws::places_reached, crate::proofs::Laws::places_none))]
 pub fn places(n: u64) -> usize
     ensures { (result ≡ places_of n) × (0 < result) × (result ≤ 20) }
 {
-    let mut k = 1;
-    let mut rest = n;
-    while 10 <= rest {
-        rest = rest / 10;
-        k += 1;
+    match n.checked_ilog10() {
+        Some(k) => k as usize + 1,
+        None => 1,
     }
-    k
 }
 
 // The last k digits of n, written from place `at` on: the last one first.
@@ -24,11 +22,9 @@ pub fn put_digits(out: &mut [u8], at: usize, k: usize, n: u64)
     ensures { out.new ≡ splice at (digits k n) out.old }
 {
     let mut rest = n;
-    let mut i = k;
-    while 0 < i {
-        i -= 1;
-        out[at + i] = 48 + (rest % 10) as u8;
-        rest = rest / 10;
+    for i in (0..k).rev() {
+        out[at + i] = b'0' + (rest % 10) as u8;
+        rest /= 10;
     }
 }
 

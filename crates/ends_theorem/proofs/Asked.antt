@@ -15,8 +15,7 @@ use Rattle.record.specs.Record.{sealed_tail, unified_header}
 use Rattle.queue.specs.Laid.{trailer_of}
 use Rattle.send_keys.specs.Keys.{iv_of}
 use Rattle.outgoing.specs.declared.Sending.{Sending}
-use Rattle.sealing.specs.declared.Question.{Question}
-use Rattle.sealing.specs.Sealing.{is_asked, part_start, question_of, part_of}
+use Rattle.sealing.specs.Sealing.{Asked, is_asked, part_start, question_of, part_of}
 use Rattle.waiting_laws.proofs.Effects.{Waited, longer, written, answered}
 use Rattle.waiting_laws.proofs.Facts.{Apart, Once, each_as_laid, waits-once}
 use Rattle.waiting_laws.proofs.First.{put_with}
@@ -110,13 +109,13 @@ module _ (s : Sending) (q : List ℕ) (ds : List (List Queued)) (h : Holds s q d
   lends-is old k =
       waiting-cases (flat ds) (waiting_of (flat ds)) refl
       (λ z.
-      subst (LentIs s (lent_by (question_of s).question (question_of s).nonce (question_of s).header old q)) (sym z)
-      (ap (λ (r : Question). lent_by r.question r.nonce r.header old q) (question-none s q ds h z)))
+      subst (LentIs s (lent_by (question_of s) old q)) (sym z)
+      (ap (λ (r : Asked). lent_by r old q) (question-none s q ds h z)))
       (λ e t n x p us y z.
       let b : first_bytes old e n (part (part_start s) (length x + sealed_tail) q) ≡ x ++ trailer_of t e n =
       ap (first_bytes old e n) (part-is e t n x p us y) ∙ subst (Shows old) z k in
-      subst (LentIs s (lent_by (question_of s).question (question_of s).nonce (question_of s).header old q)) (sym z)
-      (ap (λ (r : Question). lent_by r.question r.nonce r.header old q) (question-shows s q ds h e t n x p us y)
+      subst (LentIs s (lent_by (question_of s) old q)) (sym z)
+      (ap (λ (r : Asked). lent_by r old q) (question-shows s q ds h e t n x p us y)
       ∙ ap (λ (l : List ℕ). some (record {
         epoch = e;
         num = n;

@@ -3,7 +3,6 @@
 use Rattle.std.specs.Prelude.{ℕ, zero, suc, ◌+◌, ◌-◌, eqb, length, List}
 use Rattle.base.specs.Choose.{choose}
 use Rattle.send_keys.specs.Keys.{next_of}
-use Rattle.send_keys.specs.declared.SendAnswer.{SendAnswer}
 use Rattle.outgoing.specs.declared.Sending.{Sending}
 use Rattle.outgoing.specs.Send.{send_answer}
 use Rattle.flight.specs.Flight.{entry_at}
@@ -14,7 +13,7 @@ use Rattle.acks.specs.Acks.{ack_epoch, ack_content, ack_len, ack_answer}
 use Rattle.resend.specs.Resend.{Laying as Again, content_at, again_answer, again_after}
 use Rattle.resend.specs.Tests.{closed_state, resend_answer}
 use Rattle.waiting_laws.specs.Calls.{Stores, SendCall, key_send·, send·, save·, message·, begin_flight·, resend·, note·, send_ack·, ack·, fill·, sealed·, take·}
-use Rattle.send_keys.specs.Answer.{is_done}
+use Rattle.send_keys.specs.Answer.{SendAnswer, is_done}
 use Rattle.ends_theorem.specs.Sender.{Books, Sender, enters, sends_with}
 
 -- a record sent: under the number that was next in its epoch, with the type and content that the host gave

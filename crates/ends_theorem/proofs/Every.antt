@@ -3,7 +3,6 @@ use Rattle.std.specs.Prelude.{ℕ, List, ◌≡◌, refl}
 use Rattle.std.proofs.Math.Option.{Option, none, some}
 use Rattle.std.proofs.Common.{ap}
 use Rattle.base.specs.Choose.{by_test}
-use Rattle.sealing.specs.declared.SealAnswer.{SealAnswer}
 use Rattle.waiting_laws.specs.Calls.{SendCall, key_send·, send·, save·, message·, begin_flight·, resend·, note·, send_ack·, ack·, fill·, sealed·, take·, stored}
 use Rattle.history_theorem.specs.Claim.{Masks}
 use Rattle.ends_theorem.proofs.Books.{books_by, sends_by}
@@ -14,6 +13,7 @@ use Rattle.ends_theorem.proofs.Posting.{message-does}
 use Rattle.ends_theorem.proofs.Resending.{resend_does}
 use Rattle.ends_theorem.specs.Sender.{Books, enters_all, Lent, Sender, finished_by, sends_with, sends, FairSend}
 use Rattle.ends_theorem.proofs.Settling.{key_does, fill_does, sealed-does, take-does}
+use Rattle.sealing.specs.Sealing.{SealAnswer}
 use Rattle.ends_theorem.proofs.Single.{send_does, save_does, note_does, send_ack_does}
 
 pub every-does : (m : Masks) (x : Sender) (l : Ledger) (c : SendCall) → Matches x.stores l → FairSend m x c → Does x.stores l c

@@ -1,6 +1,6 @@
 -- Worked lists on two ends whose premises are met, computed: both directions, a saved record sent twice and its old number acknowledged; a message cut
 -- in two; calls refused by each number that a short list can reach; readings dealt with, an alert, a close and what lies beyond it. Assumes nothing.
-use Rattle.std.specs.Prelude.{ℕ, ◌+◌, ◌*◌, length, replicate, true, false, ◌≡◌, refl}
+use Rattle.std.specs.Prelude.{ℕ, ◌+◌, ◌*◌, length, replicate, true, false, ◌≡◌, refl, Some}
 use Rattle.std.proofs.Common.{leb-true, sym, subst, arith}
 use mathlib.Core.List.Memᴰ.{head as here}
 use mathlib.Core.List.Memᴰ.{tail as there}
@@ -43,7 +43,6 @@ use Rattle.process_ack.specs.Status as process-ack-status
 use Rattle.acks.specs.Acks as acks-acks
 use Rattle.resend.specs.Resend as resend-resend
 use Rattle.resend.specs.Tests as resend-tests
-use Rattle.opening_reply.specs.declared.Opening.TheVariants as reply
 use Rattle.sealing.specs.Sealing.{masked_header}
 use Rattle.record.specs.Record.{unified_header}
 use Rattle.classify.specs.Classify as classify-classify
@@ -65,7 +64,7 @@ use Rattle.ends_theorem.specs.World.{Side, post, gateway, Said, sending, receivi
 
 -- every definition that a list computes with
 opened : Unit {0}
-unfolding classify-classify.is_inside classify-classify.is_sound classify-classify.is_after classify-classify.is_beyond classify-classify.is_guarded classify-classify.alert_as classify-classify.by_type classify-classify.class_of classify-classify.classified classify-account.is_past classify-account.alert_owed classify-account.type_owed classify-account.sealed_owed classify-account.is_dropped classify-account.plain_owed classify-account.reading_owed history-receiver.begin_owed base-bits.bit base-choose.choose base-choose.both base-choose.either base-parts.splice window-used.expected window-window.verdict window-window.marking sequence-sequence.own sequence-sequence.below sequence-sequence.above sequence-sequence.nearest record-record.header_length record-record.fragment_len record-record.partial_of record-record.parse_ciphertext record-record.is_type record-record.is_version record-record.is_plaintext record-record.parse_plaintext record-record.parsed record-record.plaintext_header record-record.unified_header dtls-aead-nonce.nonce_of incoming-inner.inner_of recv-keys-keys.fits recv-keys-keys.last_fit recv-keys-keys.find recv-keys-keys.or_else recv-keys-keys.two recv-keys-keys.resolve recv-keys-keys.was_found recv-keys-keys.is_keyed recv-keys-keys.marked recv-keys-keys.app_one recv-keys-keys.apps recv-keys-keys.windows_sound recv-keys-keys.keys_sound recv-keys-keys.is_full recv-keys-keys.installed recv-keys-keys.left_at recv-keys-keys.left datagram-datagram.ask_sound datagram-datagram.ask_keyed datagram-datagram.opening_sound datagram-datagram.question_sound datagram-datagram.is_sound datagram-datagram.counted records-records.locked_step records-records.sealed_step records-records.step_of records-records.opening_asked records-records.asked_again records-records.asking records-records.read_step mask-reply-mask.unmasked mask-reply-mask.rebuilt mask-reply-mask.judged mask-reply-mask.masked_at mask-reply-mask.masked_by mask-reply-mask.masking mask-reply-mask.mask_step opening-reply-opening.typed opening-reply-opening.opened_at opening-reply-opening.opened_by opening-reply-opening.openings opening-reply-opening.opened_step opening-reply-opening.cancelled_ask opening-reply-opening.cancelled receiving-receiving.fresh_of receiving-receiving.key_of receiving-receiving.leaving receiving-receiving.removed_by receiving-receiving.remove_of receiving-receiving.encrypt_of receiving-receiving.release_of receiving-receiving.begin_of queue-laid.trailer_of queue-laid.record_len queue-laid.record_bytes queue-queue.is_setting queue-queue.is_sound queue-queue.is_ready queue-queue.slot_of queue-queue.last_len queue-queue.tail_of queue-queue.place_of queue-queue.grown queue-queue.laid queue-queue.start_of send-keys-keys.no_epoch send-keys-keys.no_keys send-keys-keys.is_usable send-keys-keys.is_keyed send-keys-keys.next_of send-keys-keys.iv_of send-keys-keys.used send-keys-keys.sealed_up_to send-keys-keys.key_answer send-keys-keys.keyed outgoing-send.waits_behind outgoing-send.laid_state outgoing-send.laid_memory outgoing-send.send_answer outgoing-send.send_state outgoing-send.send_memory outgoing-state.no_waiting outgoing-state.fresh_sending outgoing-state.started outgoing-state.is_content_type outgoing-state.is_allowed outgoing-state.keying_state sealing-sealing.is_span sealing-sealing.is_held sealing-sealing.is_asked sealing-sealing.part_start sealing-sealing.question_of sealing-sealing.part_of sealing-sealing.is_put sealing-sealing.put_memory sealing-sealing.masked_header sealing-sealing.behind_oldest sealing-sealing.seal_answer sealing-sealing.sealed_state sealing-sealing.sealed_memory sealing-seek.nth_of sealing-seek.beyond sealing-seek.passed sealing-seek.found_at sealing-seek.step_of sealing-seek.seek_step sealing-seek.seek sealing-take.next_slot sealing-take.take_answer sealing-take.take_state sealing-take.take_buffer flight-flight.entry_of flight-flight.fresh_flight flight-flight.is_kept flight-flight.begun flight-flight.saved_with flight-flight.saved_memory flight-save.save_answer flight-save.save_state flight-save.save_queue flight-save.save_kept flight-status.unmarked_after history-account.upd history-account.key_owed history-account.keys history-account.resolves_to history-account.sealed_size history-account.plain_size history-account.record_size history-account.good_plain history-receiver.removed_from history-receiver.removed history-receiver.begun history-receiver.after_read history-receiver.after_mask history-receiver.after_open history-receiver.verdict_of process-ack-ack.is_formed process-ack-ack.is_pair process-ack-ack.is_named process-ack-ack.is_remembered process-ack-ack.is_acked process-ack-ack.with_mark process-ack-ack.mark_at process-ack-ack.marks_after process-ack-ack.tally_with process-ack-ack.tally_after process-ack-ack.emptied process-ack-ack.acked process-ack-status.newly_marked acks-acks.fresh_notes acks-acks.noted acks-acks.forgotten acks-acks.ack_epoch acks-acks.pair_of acks-acks.pairs_of acks-acks.ack_content acks-acks.notice_state acks-acks.notice_memory acks-acks.ack_answer acks-acks.ack_sent acks-acks.sent_ack acks-acks.ack_memory resend-resend.with_number resend-resend.can_remember resend-resend.renewed resend-resend.renewed_if resend-resend.sent_again resend-resend.again_at resend-resend.again_after resend-resend.resend_state resend-resend.resend_queue resend-tests.remembers resend-tests.has_room resend-tests.passes resend-tests.all_pass resend-tests.joined resend-tests.tail_after resend-tests.count_after resend-tests.is_over resend-tests.is_spent resend-tests.any_spent resend-tests.closed_state resend-tests.fit_answer resend-tests.resend_answer ends-sender.lends messages-cut.epoch_of messages-cut.piece_size messages-cut.cut_next messages-cut.pieces messages-cut.plan_reach messages-message.content_of messages-message.piece_of messages-message.send_all messages-message.message_answer messages-message.message_state messages-message.message_queue messages-message.message_kept handshake-header.header_bytes ends-ledger.joins ends-ledger.lays ends-ledger.is_old ends-ledger.key_number ends-ledger.keyed ends-ledger.is_usable ends-ledger.is_type ends-ledger.is_allowed ends-ledger.has_keys ends-ledger.has_room ends-ledger.queue_number ends-ledger.flight_number ends-ledger.send_number ends-ledger.saves ends-ledger.save_number ends-ledger.piece_size ends-ledger.saves_on ends-ledger.pieces ends-ledger.posted ends-ledger.message_number ends-ledger.known ends-ledger.sends_again ends-ledger.again ends-ledger.resent ends-ledger.is_spent ends-ledger.resend_number ends-ledger.is_formed ends-ledger.names_in ends-ledger.is_over ends-ledger.acked_by ends-ledger.cleared ends-ledger.ack_reply ends-ledger.acking ends-ledger.after ends-ledger.sent_by
+unfolding classify-classify.is_inside classify-classify.is_sound classify-classify.is_after classify-classify.is_beyond classify-classify.is_guarded classify-classify.alert_as classify-classify.by_type classify-classify.class_of classify-classify.classified classify-account.is_past classify-account.alert_owed classify-account.type_owed classify-account.sealed_owed classify-account.is_dropped classify-account.plain_owed classify-account.reading_owed history-receiver.begin_owed base-bits.bit base-choose.choose base-choose.both base-choose.either base-parts.splice window-used.expected window-window.verdict window-window.marking sequence-sequence.own sequence-sequence.below sequence-sequence.above sequence-sequence.nearest record-record.header_length record-record.fragment_len record-record.partial_of record-record.parse_ciphertext record-record.is_type record-record.is_version record-record.is_plaintext record-record.parse_plaintext record-record.parsed record-record.plaintext_header record-record.unified_header dtls-aead-nonce.nonce_of incoming-inner.inner_of recv-keys-keys.fits recv-keys-keys.last_fit recv-keys-keys.find recv-keys-keys.two recv-keys-keys.resolve recv-keys-keys.was_found recv-keys-keys.is_keyed recv-keys-keys.marked recv-keys-keys.app_one recv-keys-keys.apps recv-keys-keys.windows_sound recv-keys-keys.keys_sound recv-keys-keys.is_full recv-keys-keys.installed recv-keys-keys.left_at recv-keys-keys.left datagram-datagram.ask_sound datagram-datagram.ask_keyed datagram-datagram.opening_sound datagram-datagram.question_sound datagram-datagram.is_sound datagram-datagram.counted records-records.locked_step records-records.sealed_step records-records.step_of records-records.opening_asked records-records.asked_again records-records.asking records-records.read_step mask-reply-mask.unmasked mask-reply-mask.rebuilt mask-reply-mask.judged mask-reply-mask.masked_at mask-reply-mask.masked_by mask-reply-mask.masking mask-reply-mask.mask_step opening-reply-opening.typed opening-reply-opening.opened_at opening-reply-opening.opened_by opening-reply-opening.openings opening-reply-opening.opened_step opening-reply-opening.cancelled_ask opening-reply-opening.cancelled receiving-receiving.fresh_of receiving-receiving.key_of receiving-receiving.leaving receiving-receiving.removed_by receiving-receiving.remove_of receiving-receiving.encrypt_of receiving-receiving.release_of receiving-receiving.begin_of queue-laid.trailer_of queue-laid.record_len queue-laid.record_bytes queue-queue.is_setting queue-queue.is_sound queue-queue.is_ready queue-queue.slot_of queue-queue.last_len queue-queue.tail_of queue-queue.place_of queue-queue.grown queue-queue.laid queue-queue.start_of send-keys-keys.no_epoch send-keys-keys.no_keys send-keys-keys.is_usable send-keys-keys.is_keyed send-keys-keys.next_of send-keys-keys.iv_of send-keys-keys.used send-keys-keys.sealed_up_to send-keys-keys.key_answer send-keys-keys.keyed outgoing-send.waits_behind outgoing-send.laid_state outgoing-send.laid_memory outgoing-send.send_answer outgoing-send.send_state outgoing-send.send_memory outgoing-state.no_waiting outgoing-state.fresh_sending outgoing-state.started outgoing-state.is_content_type outgoing-state.is_allowed outgoing-state.keying_state sealing-sealing.is_span sealing-sealing.is_held sealing-sealing.is_asked sealing-sealing.part_start sealing-sealing.question_of sealing-sealing.part_of sealing-sealing.is_put sealing-sealing.put_memory sealing-sealing.masked_header sealing-sealing.behind_oldest sealing-sealing.seal_answer sealing-sealing.sealed_state sealing-sealing.sealed_memory sealing-seek.nth_of sealing-seek.beyond sealing-seek.passed sealing-seek.found_at sealing-seek.step_of sealing-seek.seek_step sealing-seek.seek sealing-take.next_slot sealing-take.take_answer sealing-take.take_state sealing-take.take_buffer flight-flight.entry_of flight-flight.fresh_flight flight-flight.is_kept flight-flight.begun flight-flight.saved_with flight-flight.saved_memory flight-save.save_answer flight-save.save_state flight-save.save_queue flight-save.save_kept flight-status.unmarked_after history-account.upd history-account.key_owed history-account.keys history-account.resolves_to history-account.sealed_size history-account.plain_size history-account.record_size history-account.good_plain history-receiver.removed_from history-receiver.removed history-receiver.begun history-receiver.after_read history-receiver.after_mask history-receiver.after_open history-receiver.verdict_of process-ack-ack.is_formed process-ack-ack.is_pair process-ack-ack.is_named process-ack-ack.is_remembered process-ack-ack.is_acked process-ack-ack.with_mark process-ack-ack.mark_at process-ack-ack.marks_after process-ack-ack.tally_with process-ack-ack.tally_after process-ack-ack.emptied process-ack-ack.acked process-ack-status.newly_marked acks-acks.fresh_notes acks-acks.noted acks-acks.forgotten acks-acks.ack_epoch acks-acks.pair_of acks-acks.pairs_of acks-acks.ack_content acks-acks.notice_state acks-acks.notice_memory acks-acks.ack_answer acks-acks.ack_sent acks-acks.sent_ack acks-acks.ack_memory resend-resend.with_number resend-resend.can_remember resend-resend.renewed resend-resend.renewed_if resend-resend.sent_again resend-resend.again_at resend-resend.again_after resend-resend.resend_state resend-resend.resend_queue resend-tests.remembers resend-tests.has_room resend-tests.passes resend-tests.all_pass resend-tests.joined resend-tests.tail_after resend-tests.count_after resend-tests.is_over resend-tests.is_spent resend-tests.any_spent resend-tests.closed_state resend-tests.fit_answer resend-tests.resend_answer ends-sender.lends messages-cut.epoch_of messages-cut.piece_size messages-cut.cut_next messages-cut.pieces messages-cut.plan_reach messages-message.content_of messages-message.piece_of messages-message.send_all messages-message.message_answer messages-message.message_state messages-message.message_queue messages-message.message_kept handshake-header.header_bytes ends-ledger.joins ends-ledger.lays ends-ledger.is_old ends-ledger.key_number ends-ledger.keyed ends-ledger.is_usable ends-ledger.is_type ends-ledger.is_allowed ends-ledger.has_keys ends-ledger.has_room ends-ledger.queue_number ends-ledger.flight_number ends-ledger.send_number ends-ledger.saves ends-ledger.save_number ends-ledger.piece_size ends-ledger.saves_on ends-ledger.pieces ends-ledger.posted ends-ledger.message_number ends-ledger.known ends-ledger.sends_again ends-ledger.again ends-ledger.resent ends-ledger.is_spent ends-ledger.resend_number ends-ledger.is_formed ends-ledger.names_in ends-ledger.is_over ends-ledger.acked_by ends-ledger.cleared ends-ledger.ack_reply ends-ledger.acking ends-ledger.after ends-ledger.sent_by
 opened = tt
 
 settings : Side → Setting
@@ -89,7 +88,7 @@ wire n x = masked_header 2 n (length x + tag_size) (1 ∷ 2 ∷ []) ++ (x ++ rep
 -- it arrives, is unmasked and opened
 abbrev arrives : Side → ℕ → List ℕ → List Event → List Event
 arrives s n x rest =
-    hears s (begin· (wire n x)) ∷ hears s read· ∷ hears s (mask· (1 ∷ 2 ∷ [])) ∷ hears s (write· x) ∷ hears s (open· (reply.Yes (length x))) ∷ rest
+    hears s (begin· (wire n x)) ∷ hears s read· ∷ hears s (mask· (1 ∷ 2 ∷ [])) ∷ hears s (write· x) ∷ hears s (open· (Some (length x))) ∷ rest
 
 -- an ACK of number 0 in epoch 2
 abbrev ack_of : List ℕ

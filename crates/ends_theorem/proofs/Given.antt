@@ -1,6 +1,6 @@
 -- What the host wrote into the part lent for a sealing lies there until its reply, and a take changes the host's buffer by the datagram alone. Assumes
 -- nothing.
-use Rattle.std.specs.Prelude.{ℕ, ◌*◌, length, drop, true, ◌≡◌, refl}
+use Rattle.std.specs.Prelude.{ℕ, ◌*◌, length, drop, true, ◌≡◌, refl, Ok, Err}
 use Rattle.std.proofs.Math.Dec.{eqb}
 use Rattle.std.proofs.Common.{length-take, length-drop, sym, subst, ◌∙◌, arith}
 use Rattle.std.proofs.lemmas.Bool.{false≢true}
@@ -10,14 +10,11 @@ use Rattle.std.proofs.Math.Path.{ap}
 use Rattle.base.specs.Choose.{if_true, by_test, test_cases}
 use Rattle.base.specs.Parts.{part, splice, length-splice}
 use Rattle.outgoing.specs.declared.Sending.{Sending}
-use Rattle.sealing.specs.declared.Question.{Question}
-use Rattle.sealing.specs.declared.SealAnswer.TheVariants as replied
-use Rattle.sealing.specs.declared.SealAnswer.{SealAnswer}
+use Rattle.sealing.specs.declared.SealError.TheVariants as replied
 use Rattle.sealing.specs.Sealing as sealing
-use Rattle.sealing.specs.Sealing.{part_start, question_of, is_put, seal_answer, is_sealed}
-use Rattle.taking.specs.declared.TakeAnswer.{TakeAnswer}
+use Rattle.sealing.specs.Sealing.{SealAnswer, Asked, part_start, question_of, is_put, seal_answer, is_sealed}
 use Rattle.taking.specs.Laws.{kept_buffer}
-use Rattle.taking.specs.Take.{front_len, take_answer, is_taken, take_buffer, takes, front_fits}
+use Rattle.taking.specs.Take.{TakeAnswer, front_len, take_answer, is_taken, take_buffer, takes, front_fits}
 use Rattle.waiting_laws.specs.Answers.{take_reply, answered}
 use Rattle.waiting_laws.specs.Calls.{Stores, SendCall, key_send·, send·, save·, message·, begin_flight·, resend·, note·, send_ack·, ack·, fill·, sealed·, take·, stored, Reply}
 use Rattle.waiting_laws.proofs.Effects.{Effect, stays, adds, writes, seals, takes as taken}
@@ -33,7 +30,7 @@ use Rattle.history_theorem.proofs.Lists.{by_both, mem-by, some_inj, some≢none,
 use Rattle.ends_theorem.proofs.Asked.{LentIs, lent_for, part-is}
 use Rattle.ends_theorem.specs.Sender.{Lent}
 use Rattle.ends_theorem.specs.Claim.{TookOnly}
-use Rattle.ends_theorem.proofs.Sends.{taken-length}
+use Rattle.taking.specs.Laws.{taken-length}
 use Rattle.ends_theorem.specs.World.{Took, given_in, given_by, took_by}
 
 -- ---- the first that waits has the host's bytes
@@ -78,28 +75,28 @@ pub record Given (s : Sending) (q : List ℕ) (o : Option (List ℕ)) : Type 0 w
 -- ---- through every call
 
 sealed-zero : (a : SealAnswer) → eqb (sealing.refusal a) 0 ≡ is_sealed a
-sealed-zero replied.Done = refl
-sealed-zero replied.OutOfRange = refl
-sealed-zero replied.NoQuestion = refl
+sealed-zero (Ok u) = refl
+sealed-zero (Err replied.OutOfRange) = refl
+sealed-zero (Err replied.NoQuestion) = refl
 
 -- the host's writing takes place where a record waits and the length is its part's
 module _ (s : Sending) (q : List ℕ) (ds : List (List Queued)) (h : Holds s q ds) (v : List ℕ) where
   abbrev put_ds : List (List Queued)
   put_ds = after_put (is_put s (length v) (length q)) v ds
 
-  none-put : waiting_of (flat ds) ≡ [] → (o : Option (List ℕ)) → GivenIs o (waiting_of (flat ds)) → GivenIs (given_in (question_of s).question v o) (waiting_of (flat put_ds))
+  none-put : waiting_of (flat ds) ≡ [] → (o : Option (List ℕ)) → GivenIs o (waiting_of (flat ds)) → GivenIs (given_in (question_of s) v o) (waiting_of (flat put_ds))
   none-put z o g =
-      subst (λ (r : Question). GivenIs (given_in r.question v o) (waiting_of (flat put_ds))) (sym (question-none s q ds h z))
+      subst (λ (r : Asked). GivenIs (given_in r v o) (waiting_of (flat put_ds))) (sym (question-none s q ds h z))
       (by_test (λ (us : List (List Queued)). GivenIs o (waiting_of (flat us))) (λ y. absurd (false≢true (sym (not_put s q ds h z v) ∙ y))) (λ y. g))
 
   one-put : (e t n : ℕ) (x p : List ℕ) (us : List Queued) → waiting_of (flat ds) ≡ waits e t n x p ∷ us → (o : Option (List ℕ)) → GivenIs o (waiting_of (flat ds))
-      → GivenIs (given_in (question_of s).question v o) (waiting_of (flat put_ds))
+      → GivenIs (given_in (question_of s) v o) (waiting_of (flat put_ds))
   one-put e t n x p us y o g =
-      subst (λ (r : Question). GivenIs (given_in r.question v o) (waiting_of (flat put_ds))) (sym (question-shows s q ds h e t n x p us y))
+      subst (λ (r : Asked). GivenIs (given_in r v o) (waiting_of (flat put_ds))) (sym (question-shows s q ds h e t n x p us y))
       (by_both (λ (a : Option (List ℕ)) (ws : List (List Queued)). GivenIs a (waiting_of (flat ws))) (put_test s q ds h e t n x p us y v)
       (λ z. subst (GivenIs (some v)) (sym (ap waiting_of (flat-first (put_with v) ds) ∙ waiting-put v (flat ds) (waits e t n x p) us y)) refl) (λ z. g))
 
-  pub given-put : (o : Option (List ℕ)) → GivenIs o (waiting_of (flat ds)) → GivenIs (given_in (question_of s).question v o) (waiting_of (flat put_ds))
+  pub given-put : (o : Option (List ℕ)) → GivenIs o (waiting_of (flat ds)) → GivenIs (given_in (question_of s) v o) (waiting_of (flat put_ds))
   given-put o g = waiting-cases (flat ds) (waiting_of (flat ds)) refl (λ z. none-put z o g) (λ e t n x p us y z. one-put e t n x p us y o g)
 
 module _ (w : Stores) (o : Option (List ℕ)) (g : Given w.state w.queue o) where

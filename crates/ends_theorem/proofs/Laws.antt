@@ -7,10 +7,9 @@ use mathlib.Core.List.{List, [], ◌∷◌, ◌++◌, Memᴰ as Mem}
 use Rattle.std.proofs.Math.Path.{refl}
 use Rattle.std.proofs.Common.{sym, ap, subst, ◌∙◌}
 use Rattle.base.specs.Choose.{choose, either}
-use Rattle.send_keys.specs.declared.SendAnswer.{SendAnswer}
 use Rattle.history_theorem.specs.Account.{upd}
 use Rattle.history_theorem.proofs.Lists.{upd-by}
-use Rattle.send_keys.specs.Answer.{is_done, refusal, done-number}
+use Rattle.send_keys.specs.Answer.{SendAnswer, is_done, refusal, done-number}
 use Rattle.ends_theorem.specs.Ledger.{Sent, Kept, Name, is_named}
 use Rattle.ends_theorem.specs.Sender.{Books, enters, enters_all}
 

@@ -15,7 +15,6 @@ use Rattle.queue.specs.Laid.{bytes-plaintext, trailer_of}
 use Rattle.queue.specs.Queue.{last_len}
 use Rattle.send_keys.specs.declared.SendKeys.{SendKeys}
 use Rattle.send_keys.specs.Keys.{next_of}
-use Rattle.send_keys.specs.declared.SendAnswer.{SendAnswer}
 use Rattle.outgoing.specs.declared.Sending.{Sending}
 use Rattle.outgoing.specs.Send.{laid_state, laid_memory, send_answer, send_state, send_memory}
 use Rattle.flight.specs.declared.Flight.{Flight}
@@ -31,7 +30,7 @@ use Rattle.waiting_laws.proofs.Sends.{Sent, sent, saved, record_of, sent_to, lai
 use Rattle.history_theorem.specs.Claim.{as_handed}
 use Rattle.history_theorem.proofs.Lists.{upd_same}
 use Rattle.history_theorem.specs.Receiver.{Sealed, Handed}
-use Rattle.send_keys.specs.Answer.{is_done}
+use Rattle.send_keys.specs.Answer.{SendAnswer, is_done}
 use Rattle.ends_theorem.proofs.Books.{written, lays, piece_size, piece, piece_books, lays_all, message_books}
 use Rattle.ends_theorem.proofs.Laws.{upd-grows, by_three, by-four}
 use Rattle.ends_theorem.proofs.Numbers.{Numbers, sent-numbers, Ivs, used-ivs}

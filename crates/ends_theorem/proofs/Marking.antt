@@ -2,7 +2,7 @@
 use Prim.Native.Nat.{ℕ, zero, suc, ◌+◌, ◌*◌, ◌<◌, ◌≤◌, min}
 use Rattle.std.proofs.Common.{eqb-true, eq-eqb, ne_eqb, ltb-true, ltb-false, le-ltb, le-leb, get_or-set_same, ◌∙◌}
 use Rattle.std.proofs.lemmas.Bool.{eqb-false, lt-leb}
-use Rattle.std.specs.Prelude.{ltb, eqb, length, get_or, Bool, true, false, not, ◌≡◌}
+use Rattle.std.specs.Prelude.{ltb, eqb, length, get_or, Bool, true, false, not, ◌≡◌, Ok}
 use Rattle.std.proofs.Math.ListN.{length-set}
 use Rattle.std.proofs.Math.Seq.{get_or-set_other}
 use mathlib.Core.List.{List, [], ◌∷◌}
@@ -11,12 +11,10 @@ use Rattle.std.proofs.Math.Path.{refl, sym, ap, subst}
 use native.Mathlib.Omega.{arith}
 use Rattle.base.specs.Bytes.{be_at}
 use Rattle.base.specs.Choose.{choose, both, either, if_true, if_false, test_cases, both_true, both_false, eq-or_ne}
-use Rattle.send_keys.specs.declared.SendAnswer.TheVariants.{Done}
-use Rattle.flight.specs.declared.Begun.{Begun}
+use Rattle.flight.specs.declared.Acted.{Acted}
 use Rattle.flight.specs.declared.Entry.{Entry}
 use Rattle.flight.specs.declared.Flight.{Flight}
 use Rattle.flight.specs.Flight.{no_entry, entry_at, with_saved, begun}
-use Rattle.process_ack.specs.declared.Acked.{Acked}
 use Rattle.process_ack.specs.declared.Tally.{Tally}
 use Rattle.process_ack.specs.Ack as program
 use Rattle.process_ack.specs.Ack.{pairs_in, is_pair, is_remembered, is_acked, with_mark, mark_at, marks_after, tally_with, tally_after, emptied, acked}
@@ -286,7 +284,7 @@ formed-names d t = if_true _ _ t
 
 module _ (w : Stores) (l : Ledger) (m : Matches w l) where
   acked-done : (d : List ℕ) → acked w.flight d ≡ record {
-    answer = Done;
+    answer = Ok tt;
     flight = choose (program.is_formed d) (emptied (marks_after d (pairs_in d) w.flight w.flight.saved)) w.flight;
   }
   unfolding acked
@@ -295,7 +293,7 @@ module _ (w : Stores) (l : Ledger) (m : Matches w l) where
   ack-leaves : (d : List ℕ) → Matches (with_flight w (acked w.flight d).flight) (acked_by l d)
   unfolding acked_by
   ack-leaves d =
-      subst (λ (r : Acked). Matches (with_flight w r.flight) (acked_by l d)) (sym (acked-done d))
+      subst (λ (r : Acted). Matches (with_flight w r.flight) (acked_by l d)) (sym (acked-done d))
       (by_both (λ (f : Flight) (j : Ledger). Matches (with_flight w f) j) (sym (formed-is d))
       (λ t.
       subst (λ (ns : List Name). Matches (with_flight w (emptied (marks_after d (pairs_in d) w.flight w.flight.saved)))
@@ -328,15 +326,15 @@ module _ (w : Stores) (l : Ledger) (m : Matches w l) where
     books = λ b. refl;
   }
 
-  begun-done : begun w.flight ≡ record { answer = Done; flight = with_saved w.flight w.flight.entries 0 }
+  begun-done : begun w.flight ≡ record { answer = Ok tt; flight = with_saved w.flight w.flight.entries 0 }
   unfolding begun
   begun-done = if_true _ _ (le-leb w.flight.saved 12 m.flight.most)
 
   pub begin_does : Does w l begin_flight·
   unfolding after sent_by choose
   begin_does = record {
-    reply = ap (λ (r : Begun). only (refusal r.answer)) begun-done;
-    leaves = subst (λ (r : Begun). Matches (with_flight w r.flight) (ledger.with_saved l [])) (sym begun-done)
+    reply = ap (λ (r : Acted). only (refusal r.answer)) begun-done;
+    leaves = subst (λ (r : Acted). Matches (with_flight w r.flight) (ledger.with_saved l [])) (sym begun-done)
         (beside w l m _ w.kept w.notes [] l.noted refl (empty-flight l.mtu w.flight w.kept l.saved m.flight) m.noted);
     books = λ b. refl;
   }

@@ -1,6 +1,6 @@
 -- One record more in the queue, the keys and the flight, against the account; the tests on it; and what a call done wholly or not at all shows.
 -- Assumes nothing.
-use Rattle.std.specs.Prelude.{ℕ, suc, ◌+◌, ◌-◌, ◌*◌, ◌<◌, ◌≤◌, eqb, leb, ltb, length, get_or, Bool, true, false, not, List, [], ◌∷◌, ◌++◌, ◌≡◌, refl}
+use Rattle.std.specs.Prelude.{ℕ, suc, ◌+◌, ◌-◌, ◌*◌, ◌<◌, ◌≤◌, eqb, leb, ltb, length, get_or, Bool, true, false, not, List, [], ◌∷◌, ◌++◌, ◌≡◌, refl, Ok, Err}
 use Rattle.std.proofs.Common.{eqb-true, ltb-true, leb-true, leb-false, le-leb, lt-ltb, le-ltb, get_or-set_same, get_or-set_other, sym, ap, ◌∙◌}
 use Rattle.std.proofs.lemmas.Bool.{eqb-false, false≢true}
 use Rattle.std.proofs.Math.ListN.{length-append, length-set}
@@ -17,7 +17,7 @@ use Rattle.queue.specs.Laid.{record_len}
 use Rattle.queue.specs.Queue.{is_ready, slot_of, last_len, tail_of, joins, place_of, grown, laid}
 use Rattle.send_keys.specs.declared.SendKeys.{SendKeys}
 use Rattle.send_keys.specs.Keys.{is_usable, is_keyed, next_of, used, used-next}
-use Rattle.send_keys.specs.declared.SendAnswer.TheVariants.{Done, QueueFull, NumbersSpent}
+use Rattle.send_keys.specs.declared.SendError.TheVariants.{QueueFull, NumbersSpent}
 use Rattle.outgoing.specs.declared.Sending.{Sending}
 use Rattle.outgoing.specs.Send.{spot_of, is_full, is_spent, laid_state, laid_memory}
 use Rattle.outgoing.specs.State.{is_allowed, is_content_type}
@@ -222,7 +222,7 @@ over-is a b =
 
 -- 19, 20 of one record
 pub queue-number : (w : Stores) (l : Ledger) → Matches w l → (e n : ℕ) → is_usable w.state.keys e ≡ true
-    → refusal (choose (is_full w.state e n) QueueFull (choose (is_spent w.state e) NumbersSpent Done)) ≡ queue_number (lays l e n) e
+    → refusal (choose (is_full w.state e n) (Err QueueFull) (choose (is_spent w.state e) (Err NumbersSpent) (Ok tt))) ≡ queue_number (lays l e n) e
 unfolding queue_number lays grown
 queue-number w l i e n u =
     let s : Sending = w.state in

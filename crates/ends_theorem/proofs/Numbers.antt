@@ -6,14 +6,13 @@ use Rattle.std.proofs.lemmas.Bool.{eqb-false, false≢true}
 use mathlib.Core.List.{List, ◌∷◌, Memᴰ as Mem}
 use Rattle.std.proofs.Math.Logic.{inl, inr, ⊎_elim}
 use Rattle.base.specs.Choose.{choose, both, either, if_true, if_false, by_test, test_cases, either_true, either-false}
-use Rattle.send_keys.specs.declared.SendAnswer.{SendAnswer}
 use Rattle.send_keys.specs.declared.SendKeys.{SendKeys}
 use Rattle.send_keys.specs.Keys.{is_usable, is_keyed, next_of, used, sealed_up_to, key_answer, begun, keyed, next-plaintext, next-handshake, next-application, used-next, with_handshake, with_application}
 use Rattle.history_theorem.specs.Account.{upd}
 use Rattle.history_theorem.specs.Claim.{Once}
 use Rattle.history_theorem.proofs.Lists.{upd_same, upd_other, upd-by, mem-by, either-cases, both-cases}
 use Rattle.history_theorem.specs.Receiver.{Handed}
-use Rattle.send_keys.specs.Answer.{is_done}
+use Rattle.send_keys.specs.Answer.{SendAnswer, is_done}
 
 -- at or below an epoch that was keyed
 abbrev pub Reached : SendKeys → ℕ → Type 0

@@ -14,7 +14,6 @@ use Rattle.queue.specs.declared.Tail.{Tail}
 use Rattle.queue.specs.Laid.{record_len}
 use Rattle.queue.specs.Queue.{tail_of, place_of, grown}
 use Rattle.send_keys.specs.Keys.{next_of}
-use Rattle.send_keys.specs.declared.SendAnswer.{SendAnswer}
 use Rattle.outgoing.specs.declared.Sending.{Sending}
 use Rattle.outgoing.specs.Send.{laid_state, laid_memory}
 use Rattle.flight.specs.Flight.{saved_with, saved_memory}
@@ -33,7 +32,7 @@ use Rattle.whole_laws.proofs.Lay.{len_more, usable, ends, piece-done, piece-laid
 use Rattle.whole_laws.proofs.Leaves.{tail_behind}
 use Rattle.whole_laws.proofs.Whole.{done-able, reach-is}
 use Rattle.history_theorem.proofs.Lists.{upd_same, by_both}
-use Rattle.send_keys.specs.Answer.{is_done, refusal}
+use Rattle.send_keys.specs.Answer.{SendAnswer, is_done, refusal}
 use Rattle.ends_theorem.proofs.Books as books
 use Rattle.ends_theorem.proofs.Books.{piece_books, lays_all, message_books}
 use Rattle.ends_theorem.proofs.Cuts.{next, behind, size-rest, content-long, pieces-last, pieces_more}

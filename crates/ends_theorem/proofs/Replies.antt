@@ -18,9 +18,8 @@ use Rattle.send_keys.specs.declared.SendKeys.{SendKeys}
 use Rattle.send_keys.specs.Keys.{next_of, sealed_up_to}
 use Rattle.outgoing.specs.declared.Sending.{Sending}
 use Rattle.outgoing.specs.State.{is_content_type}
-use Rattle.sealing.specs.declared.SealAnswer.{SealAnswer}
 use Rattle.sealing.specs.Laws.{sealed-after}
-use Rattle.sealing.specs.Sealing.{part_start, masked_header, seal_answer, is_sealed, after_sealing, sealed_state, sealed_memory, length-masked, sealed-held, part-fits}
+use Rattle.sealing.specs.Sealing.{SealAnswer, part_start, masked_header, seal_answer, is_sealed, after_sealing, sealed_state, sealed_memory, length-masked, sealed-held, part-fits}
 use Rattle.waiting_laws.proofs.Facts.{each-lies, waits-once}
 use Rattle.waiting_laws.proofs.First.{seal_with, first_in, flat-first}
 use Rattle.waiting_laws.proofs.Oldest.{Names, names-first, waiting-sealed}

@@ -1,7 +1,7 @@
 -- A resend does what the account says: it is answered so, leaves that, and sends those records. Assumes nothing.
 use Prim.Native.Nat.{ℕ, zero, suc, ◌+◌, ◌*◌, ◌<◌, ◌≤◌}
 use borrow.Author.Tests.{eqb-true, eq-eqb, ne_eqb, ltb-true, ltb-false, le-leb, lt-leb, le-ltb}
-use Rattle.std.specs.Prelude.{eqb, leb, Bool}
+use Rattle.std.specs.Prelude.{eqb, leb, Bool, Ok}
 use Rattle.std.proofs.Math.Dec.{ltb}
 use Rattle.std.proofs.Math.ListN.{length, get_or}
 use Rattle.std.proofs.Common.{length-append, ◌∙◌}
@@ -17,13 +17,10 @@ use Rattle.queue.specs.Laid.{record_len}
 use Rattle.queue.specs.Queue.{tail_of, place_of, grown}
 use Rattle.send_keys.specs.declared.SendKeys.{SendKeys}
 use Rattle.send_keys.specs.Keys.{is_usable, next_of}
-use Rattle.send_keys.specs.declared.SendAnswer.TheVariants as send
 use Rattle.outgoing.specs.Send.{laid_state, laid_memory, send_answer}
 use Rattle.flight.specs.declared.Entry.{Entry}
 use Rattle.flight.specs.declared.Flight.{Flight}
 use Rattle.flight.specs.Flight.{entry_at}
-use Rattle.send_keys.specs.declared.SendAnswer.{SendAnswer}
-use Rattle.send_keys.specs.declared.SendAnswer.TheVariants.{Done}
 use Rattle.resend.specs.Resend.{with_number, can_remember, renewed, Laying, content_at, again_answer, again_at, again_after, resend_state, resend_queue}
 use Rattle.resend.proofs.Resend.{can-few}
 use Rattle.resend.specs.Tests.{remembers, has_room, passes, all_pass, joined, tail_after, count_after, is_over, is_spent, any_spent, closed_state, fit_answer, resend_answer}
@@ -36,7 +33,7 @@ use Rattle.waiting_laws.specs.Calls.{Stores, resend·, stored}
 use Rattle.waiting_laws.proofs.Resends.{closed-holds}
 use Rattle.waiting_laws.proofs.Sends as sends
 use Rattle.history_theorem.proofs.Lists.{upd-by, by_both}
-use Rattle.send_keys.specs.Answer.{is_done, refusal, done-number}
+use Rattle.send_keys.specs.Answer.{SendAnswer, is_done, refusal, done-number}
 use Rattle.ends_theorem.proofs.Books.{lays, again_books, closing, resend_books}
 use Rattle.ends_theorem.proofs.Counting.{unacked-is}
 use Rattle.ends_theorem.proofs.Laws.{enters-append, under, or_is}
@@ -442,7 +439,7 @@ module _ (w : Stores) (a : Able w.state w.flight w.kept w.queue) (t : Tables w.s
       content-is = ap (λ (u : ℕ). part (n * u) (entry_at r.flight n).length w.kept) o.matches.mtu ∙ here.content
 
       -- it is sent
-      done : again_answer w.kept n r ≡ send.Done
+      done : again_answer w.kept n r ≡ Ok tt
       done = again-done w.state w.flight w.kept w.queue a n below unmarked r still
 
       accepted : sends.Sent r.state (length r.queue) k.epoch k.type (length k.content)
@@ -495,7 +492,7 @@ module _ (w : Stores) (a : Able w.state w.flight w.kept w.queue) (t : Tables w.s
             count = one-more (under k number);
           }
         where
-          lays-done : (b : Books) → lays send.Done r.state k.epoch k.type k.content b
+          lays-done : (b : Books) → lays (Ok tt) r.state k.epoch k.type k.content b
               ≡ enters (record { epoch = k.epoch; num = number; type = k.type; content = k.content }) b
           lays-done b =
               unfold lays choose in

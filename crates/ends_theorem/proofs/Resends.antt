@@ -9,8 +9,7 @@ use Rattle.flight.specs.Flight.{entry_at}
 use Rattle.acks.specs.declared.AckSent.{AckSent}
 use Rattle.acks.specs.Acks.{ack_epoch, ack_content, ack_len, notice_state, notice_memory, ack_answer, ack_sent, sent_ack, ack_memory}
 use Rattle.acks.proofs.Acks.{length-content}
-use Rattle.send_keys.specs.declared.SendAnswer.{SendAnswer}
-use Rattle.resend.specs.declared.Resent.{Resent}
+use Rattle.flight.specs.declared.Saved.{Saved}
 use Rattle.resend.specs.Resend.{Laying as Again, content_at, sent_again, again_at, again_after, resend_state, resend_queue}
 use Rattle.resend.specs.Tests.{closed_state}
 use Rattle.waiting_laws.specs.Calls.{Stores}
@@ -18,7 +17,7 @@ use Rattle.waiting_laws.specs.Queued.{Queued}
 use Rattle.waiting_laws.proofs.Resends.{closed-holds, again_sent, after_resend, after_ack}
 use Rattle.waiting_laws.proofs.Sends.{after_send}
 use Rattle.history_theorem.specs.Receiver.{Sealed}
-use Rattle.send_keys.specs.Answer.{is_done}
+use Rattle.send_keys.specs.Answer.{SendAnswer, is_done}
 use Rattle.ends_theorem.proofs.Books.{lays, again_books, closing, resend_books, ack_books}
 use Rattle.ends_theorem.proofs.Laws.{by_three, by-four}
 use Rattle.ends_theorem.proofs.Laying.{Laying, alike-lays, send_lays}
@@ -40,7 +39,7 @@ module _ (log : ℕ → List Sealed) (gone : List Line) (ivs : ℕ → List ℕ)
       (after_resend a w.state w.flight w.kept w.queue ds) (resend_books a w b)
   unfolding resend_state resend_queue resend_books closed_state
   resend_lays a w ds b i =
-      by-four (λ (r : Resent) (q : List ℕ) (us : List (List Queued)) (c : Books). Laying log gone ivs r.state q us c) (is_done a)
+      by-four (λ (r : Saved) (q : List ℕ) (us : List (List Queued)) (c : Books). Laying log gone ivs r.state q us c) (is_done a)
       (λ z. again-lays w.kept (closing w) w.flight.saved ds b (alike-lays i (closed-holds w.state w.queue ds i.holds) refl)) (λ z. i)
 
   -- ---- an ACK

@@ -1,7 +1,7 @@
 -- The sending half through each of its calls: what waits, what was sent, sealed and taken. Assumes nothing.
 use Prim.Native.Nat.{ℕ, ◌+◌, ◌*◌, ◌<◌, ◌≤◌}
 use Rattle.std.proofs.Common.{eq-eqb, ne_eqb, true≢false, sym, subst, ◌∙◌, arith}
-use Rattle.std.specs.Prelude.{length, take, get_or, true, false, ◌⊎◌, ◌≡◌}
+use Rattle.std.specs.Prelude.{length, take, get_or, true, false, ◌⊎◌, ◌≡◌, Some, None, Ok, Err}
 use Rattle.std.proofs.lemmas.Bool.{false≢true}
 use mathlib.Core.List.Memᴰ.{append_right as mem-right}
 use mathlib.Core.List.Memᴰ.{head as here}
@@ -14,18 +14,17 @@ use Rattle.base.specs.Choose.{if_true, if_false, by_test, test_cases, eq-or_ne}
 use Rattle.base.specs.Parts.{part, part-first, splice, splice-here}
 use Rattle.dtls_aead.specs.Nonce.{nonce_of}
 use Rattle.queue.specs.Queue.{is_setting, is_sound}
-use Rattle.send_keys.specs.declared.SendAnswer.{SendAnswer}
+use Rattle.send_keys.specs.Answer.{SendAnswer}
 use Rattle.send_keys.specs.declared.SendKeys.{SendKeys}
 use Rattle.send_keys.specs.Keys.{next_of, next-handshake, iv_of, key_answer, no_epoch, no_keys}
 use Rattle.outgoing.specs.declared.Sending.{Sending}
 use Rattle.outgoing.specs.State.{fresh_sending, keying_state}
-use Rattle.sealing.specs.declared.SealAnswer.{SealAnswer}
 use Rattle.sealing.specs.Laws.{refused-state, refused-memory}
-use Rattle.sealing.specs.Sealing.{part_start, masked_header, seal_answer, is_sealed, sealed_memory}
-use Rattle.taking.specs.declared.TakeAnswer.{TakeAnswer}
-use Rattle.taking.specs.declared.TakeAnswer.TheVariants as took
+use Rattle.sealing.specs.Sealing.{SealAnswer, part_start, masked_header, seal_answer, is_sealed, sealed_memory}
+use Rattle.taking.specs.declared.TakeError.TheVariants as took
 use Rattle.taking.specs.Laws.{kept-state}
-use Rattle.taking.specs.Take.{front_len, take_answer, is_taken, take_state, take_buffer, takes}
+use Rattle.taking.specs.Laws.{taken-length}
+use Rattle.taking.specs.Take.{TakeAnswer, front_len, take_answer, is_taken, take_state, take_buffer, takes}
 use Rattle.messages.specs.Message.{message_answer}
 use Rattle.resend.specs.Tests.{resend_answer}
 use Rattle.waiting_laws.specs.Calls.{Stores, SendCall, key_send·, send·, save·, message·, begin_flight·, resend·, note·, send_ack·, ack·, fill·, sealed·, take·, stored}
@@ -99,24 +98,15 @@ datagrams-more (h ∷ gs) g = ap (λ (l : List (List ℕ)). finished h ∷ l) (d
 -- ---- what is taken
 
 untaken : (a : TakeAnswer) (buffer : List ℕ) (ts : List (List ℕ)) → is_taken a ≡ false → taken_by a buffer ts ≡ ts
-untaken (took.Taken n) buffer ts f = absurd (true≢false f)
-untaken took.OutOfRange buffer ts f = refl
-untaken took.Nothing buffer ts f = refl
-untaken took.Unsealed buffer ts f = refl
-untaken (took.Short n) buffer ts f = refl
+untaken (Ok (Some n)) buffer ts f = absurd (true≢false f)
+untaken (Err took.OutOfRange) buffer ts f = refl
+untaken (Ok None) buffer ts f = refl
+untaken (Err took.Unsealed) buffer ts f = refl
+untaken (Err (took.Short n)) buffer ts f = refl
 
 untaken-ds : (a : TakeAnswer) (ds : List (List Queued)) → is_taken a ≡ false → after_taken a ds ≡ ds
 untaken-ds a [] f = refl
 untaken-ds a (d ∷ ds) f = if_false _ _ f
-
-pub taken-length : (s : Sending) (room have : ℕ) → is_taken (take_answer s room have) ≡ true → take_answer s room have ≡ took.Taken (front_len s)
-unfolding take_answer
-taken-length s room have =
-    let P : TakeAnswer → Type 0 = λ a. is_taken a ≡ true → a ≡ took.Taken (front_len s) in
-    by_test P
-    (λ a. by_test P (λ b z. absurd (false≢true z))
-    (λ b. by_test P (λ c. by_test P (λ f z. absurd (false≢true z)) (λ f. by_test P (λ g z. absurd (false≢true z)) (λ g z. refl))) (λ c z. absurd (false≢true z))))
-    (λ a z. absurd (false≢true z))
 
 -- ---- the log
 

@@ -1,23 +1,20 @@
 -- Keying, the host's bytes, a sealing reply, taking, and a fresh end: each does what the account says. Assumes nothing.
-use Rattle.std.specs.Prelude.{ℕ, ◌+◌, ◌-◌, ◌*◌, ◌<◌, ◌≤◌, eqb, leb, ltb, length, Bool, true, false, List, [], ◌∷◌, ◌≡◌, refl}
+use Rattle.std.specs.Prelude.{ℕ, ◌+◌, ◌-◌, ◌*◌, ◌<◌, ◌≤◌, eqb, leb, ltb, length, Bool, true, false, List, [], ◌∷◌, ◌≡◌, refl, Ok, Err}
 use Rattle.std.proofs.Common.{eqb-true, lt-ltb, true≢false, ⊎_elim, sym, ap, ◌∙◌, arith}
 use Rattle.std.proofs.lemmas.Bool.{false≢true}
 use Rattle.std.proofs.Math.Option.{Option, none, some}
 use Rattle.base.specs.Choose.{choose, both, either, if_true, if_false, by_test, test_cases}
 use Rattle.queue.specs.Queue.{is_setting, is_sound}
-use Rattle.send_keys.specs.declared.SendAnswer.{SendAnswer}
-use Rattle.send_keys.specs.declared.SendAnswer.TheVariants as key
+use Rattle.send_keys.specs.declared.SendError.TheVariants as key
 use Rattle.send_keys.specs.declared.SendKeys.{SendKeys}
 use Rattle.send_keys.specs.Keys as keys
 use Rattle.send_keys.specs.Keys.{is_usable, next_of, sealed_up_to, key_answer, no_epoch, no_keys}
 use Rattle.outgoing.specs.declared.Sending.{Sending}
 use Rattle.outgoing.specs.State.{keying_state, fresh_sending}
-use Rattle.sealing.specs.declared.SealAnswer.{SealAnswer}
-use Rattle.sealing.specs.declared.SealAnswer.TheVariants as seal
+use Rattle.sealing.specs.declared.SealError.TheVariants as seal
 use Rattle.sealing.specs.Sealing as sealing
-use Rattle.sealing.specs.Sealing.{seal_answer, is_sealed, sealed_state, sealed_memory}
-use Rattle.taking.specs.declared.TakeAnswer.{TakeAnswer}
-use Rattle.taking.specs.Take.{is_taken, take_answer, take_state}
+use Rattle.sealing.specs.Sealing.{SealAnswer, seal_answer, is_sealed, sealed_state, sealed_memory}
+use Rattle.taking.specs.Take.{TakeAnswer, is_taken, take_answer, take_state}
 use Rattle.flight.specs.Flight.{fresh_flight}
 use Rattle.acks.specs.Acks.{fresh_notes, pairs_of}
 use Rattle.waiting_laws.specs.Answers as answers
@@ -32,7 +29,7 @@ use Rattle.waiting_laws.specs.Takes.{take_told, after_taken}
 use Rattle.waiting_laws.proofs.Takes.{take-told, take-holds}
 use Rattle.history_theorem.specs.Account.{sealed_head, sealed_over, upd}
 use Rattle.history_theorem.proofs.Lists.{upd_same, upd_other, by_both}
-use Rattle.send_keys.specs.Answer.{is_done, refusal, done-number}
+use Rattle.send_keys.specs.Answer.{SendAnswer, is_done, refusal, done-number}
 use Rattle.ends_theorem.specs.Ledger.{
   Item,
   Ledger,
@@ -187,9 +184,9 @@ sealed-steady a s q =
 
 -- only a reply that is done is answered 0
 seal_zero : (a : SealAnswer) → eqb (sealing.refusal a) 0 ≡ is_sealed a
-seal_zero seal.Done = refl
-seal_zero seal.OutOfRange = refl
-seal_zero seal.NoQuestion = refl
+seal_zero (Ok u) = refl
+seal_zero (Err seal.OutOfRange) = refl
+seal_zero (Err seal.NoQuestion) = refl
 
 -- 15 but for as many bytes as the oldest that waits has behind its header
 seal_number : (s : Sending) (mem : List ℕ) (ds : List (List Queued)) → Holds s mem ds → (n : ℕ)
@@ -201,7 +198,7 @@ seal_number s mem ds h n =
     let f = first-of (flat ds) z in
     let size : s.waiting.length ≡ length f.content + sealed_over - sealed_head = (names-first s mem ds h _ _ _ _ _ _ f.is).size ∙ omega arith in
     ap sealing.refusal (if_true _ _ z)
-    ∙ ap (λ (k : ℕ). sealing.refusal (choose (eqb n k) seal.Done seal.NoQuestion)) size
+    ∙ ap (λ (k : ℕ). sealing.refusal (choose (eqb n k) (Ok tt) (Err seal.NoQuestion))) size
     ∙ through sealing.refusal (eqb n (length f.content + sealed_over - sealed_head)) _ _
     ∙ sym (ap (λ (o : Option Item). seal_reply o n) (oldest-some (flat ds) _ _ f.is)))
     (λ z. ap sealing.refusal (if_false _ _ z) ∙ sym (ap (λ (o : Option Item). seal_reply o n) (oldest-none (flat ds) z)))
@@ -294,7 +291,7 @@ keyed-keys k l e iv new i = record {
 }
 
 key-tests : (a b c d : Bool)
-    → refusal (choose a key.BadEpoch (choose b key.BadEpoch (choose c key.BadEpoch (choose d key.SealingWaits key.Done))))
+    → refusal (choose a (Err key.BadEpoch) (choose b (Err key.BadEpoch) (choose c (Err key.BadEpoch) (choose d (Err key.SealingWaits) (Ok tt)))))
     ≡ choose (either a (either b c)) 13 (choose d 23 0)
 unfolding choose either
 key-tests true b c d = refl

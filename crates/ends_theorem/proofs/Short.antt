@@ -1,5 +1,5 @@
 -- A sending call over memory that is too short is answered 12, and state, flight and notes stay. Assumes nothing.
-use Rattle.std.specs.Prelude.{ℕ, ◌*◌, ◌<◌, leb, length, Bool, false, ◌⊎◌, ◌≡◌, refl}
+use Rattle.std.specs.Prelude.{ℕ, ◌*◌, ◌<◌, leb, length, Bool, false, ◌⊎◌, ◌≡◌, refl, Err}
 use Rattle.std.proofs.lemmas.Bool.{lt-leb}
 use mathlib.Core.List.{List, ◌∷◌, Memᴰ as Mem}
 use Rattle.std.proofs.Common.{inl, inr, ⊎_elim, sym, subst, ◌∙◌}
@@ -8,14 +8,13 @@ use Rattle.base.specs.Choose.{choose, if_false, by_test, test_cases, both_true, 
 use Rattle.queue.specs.declared.Queue.{Queue}
 use Rattle.queue.specs.Queue.{is_sound, is_ready}
 use Rattle.send_keys.specs.Keys.{next_of}
-use Rattle.send_keys.specs.declared.SendAnswer.{SendAnswer}
-use Rattle.send_keys.specs.declared.SendAnswer.TheVariants as send
+use Rattle.send_keys.specs.declared.SendError.TheVariants as send
 use Rattle.outgoing.specs.declared.Sending.{Sending}
 use Rattle.outgoing.specs.Send.{laid_state, send_answer, send_state, send_memory}
-use Rattle.sealing.specs.declared.SealAnswer.TheVariants as seal
+use Rattle.sealing.specs.declared.SealError.TheVariants as seal
 use Rattle.sealing.specs.Sealing as sealing
 use Rattle.sealing.specs.Sealing.{seal_answer, is_sealed, sealed_state, sealed_memory}
-use Rattle.taking.specs.declared.TakeAnswer.TheVariants as took
+use Rattle.taking.specs.declared.TakeError.TheVariants as took
 use Rattle.taking.specs.Take.{take_answer, is_taken, take_state}
 use Rattle.flight.specs.declared.Flight.{Flight}
 use Rattle.flight.specs.declared.Saved.{Saved}
@@ -26,13 +25,12 @@ use Rattle.messages.specs.Message.{message_answer, message_state, message_queue,
 use Rattle.acks.specs.declared.AckSent.{AckSent}
 use Rattle.acks.specs.declared.Notes.{Notes}
 use Rattle.acks.specs.Acks.{ack_answer, nothing_sent, sent_ack, ack_memory}
-use Rattle.resend.specs.declared.Resent.{Resent}
 use Rattle.resend.specs.Resend.{resend_state, resend_queue}
 use Rattle.resend.specs.Tests.{resend_answer}
 use Rattle.waiting_laws.specs.Answers.{ack_reply, resend_reply, take_reply, answered}
 use Rattle.waiting_laws.specs.Calls.{Stores, SendCall, key_send·, send·, save·, message·, begin_flight·, resend·, note·, send_ack·, ack·, fill·, sealed·, take·, stored, lending, Short, only}
 use Rattle.history_theorem.proofs.Lists.{mem-by}
-use Rattle.send_keys.specs.Answer.{is_done, refusal}
+use Rattle.send_keys.specs.Answer.{SendAnswer, is_done, refusal}
 use Rattle.ends_theorem.specs.Ledger.{short_reply}
 use Rattle.ends_theorem.specs.World.{Over, overs_by}
 
@@ -47,21 +45,21 @@ unkept f mtu room h = test_cases (leb f.saved 12) (λ z. both_true z ∙ lt-leb 
 -- ---- a call that takes the queue
 
 module _ (s : Sending) (q : List ℕ) (h : length q < s.queue.limit * s.queue.mtu) where
-  send_short : (e t n : ℕ) → send_answer s (length q) e t n ≡ send.OutOfRange
+  send_short : (e t n : ℕ) → send_answer s (length q) e t n ≡ Err send.OutOfRange
   unfolding send_answer
   send_short e t n = if_false _ _ (unready s.queue (length q) h)
 
-  seal_short : (n : ℕ) → seal_answer s (length q) n ≡ seal.OutOfRange
+  seal_short : (n : ℕ) → seal_answer s (length q) n ≡ (Err seal.OutOfRange)
   unfolding seal_answer
   seal_short n = if_false _ _ (unready s.queue (length q) h)
 
-  take_short : (have : ℕ) → take_answer s (length q) have ≡ took.OutOfRange
+  take_short : (have : ℕ) → take_answer s (length q) have ≡ Err took.OutOfRange
   unfolding take_answer
   take_short have = if_false _ _ (unready s.queue (length q) h)
 
-  ack-short : (n : Notes) → ack_answer s n (length q) ≡ send.OutOfRange
+  ack-short : (n : Notes) → ack_answer s n (length q) ≡ Err send.OutOfRange
   unfolding ack_answer
-  ack-short n = by_test (λ (a : SendAnswer). a ≡ send.OutOfRange) (λ z. refl) (λ z. if_false _ _ (unready s.queue (length q) h))
+  ack-short n = by_test (λ (a : SendAnswer). a ≡ Err send.OutOfRange) (λ z. refl) (λ z. if_false _ _ (unready s.queue (length q) h))
 
   ack-told : (n : Notes) → ack_reply (sent_ack s n (length q)) ≡ only 12
   unfolding sent_ack choose
@@ -76,15 +74,15 @@ module _ (s : Sending) (f : Flight) (q k : List ℕ) (h : (length q < s.queue.li
   one-fails : (is_ready s.queue (length q) ≡ false) ⊎ (is_kept f s.queue.mtu (length k) ≡ false)
   one-fails = ⊎_elim (λ a. inl (unready s.queue (length q) a)) (λ b. inr (unkept f s.queue.mtu (length k) b)) h
 
-  save_short : (e t n : ℕ) → save_answer s f (length q) (length k) e t n ≡ send.OutOfRange
+  save_short : (e t n : ℕ) → save_answer s f (length q) (length k) e t n ≡ Err send.OutOfRange
   unfolding save_answer
   save_short e t n = refuses _ _ _ _ one-fails
 
-  message-short : (kind n : ℕ) → message_answer s f (length q) (length k) kind n ≡ send.OutOfRange
+  message-short : (kind n : ℕ) → message_answer s f (length q) (length k) kind n ≡ Err send.OutOfRange
   unfolding message_answer
   message-short kind n = refuses _ _ _ _ one-fails
 
-  resend_short : resend_answer s f (length q) (length k) ≡ send.OutOfRange
+  resend_short : resend_answer s f (length q) (length k) ≡ Err send.OutOfRange
   unfolding resend_answer
   resend_short = refuses _ _ _ _ one-fails
 
@@ -123,7 +121,7 @@ short-stays w q k (message· kind body) h =
     ap (λ (r : Saved). with w r.state r.flight w.notes) (if_false _ _ (ap is_done (message-short w.state w.flight q k h kind (length body))))
 short-stays w q k begin_flight· h = absurd h
 short-stays w q k resend· h =
-    ap (λ (r : Resent). with w r.state r.flight w.notes) (if_false _ _ (ap is_done (resend_short w.state w.flight q k h)))
+    ap (λ (r : Saved). with w r.state r.flight w.notes) (if_false _ _ (ap is_done (resend_short w.state w.flight q k h)))
 short-stays w q k (note· e n) h = absurd h
 short-stays w q k send_ack· h = ap (λ (r : AckSent). with w r.state w.flight r.notes) (if_false _ _ (ap is_done (ack-short w.state q h w.notes)))
 short-stays w q k (ack· d) h = absurd h

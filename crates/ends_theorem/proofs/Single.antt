@@ -2,7 +2,7 @@
 use Prim.Native.Nat.{ℕ, zero, suc, ◌+◌, ◌*◌, ◌≤◌, ◌<◌}
 use Rattle.std.proofs.Common.{ltb-true, le-ltb, length-append, length-set, get_or-set_same, get_or-set_other, true≢false, subst, ◌∙◌, arith}
 use Rattle.std.proofs.Math.Dec.{eqb}
-use Rattle.std.specs.Prelude.{leb, ltb, set, ◌≡◌}
+use Rattle.std.specs.Prelude.{leb, ltb, set, ◌≡◌, Ok, Err}
 use Rattle.std.proofs.Math.ListN.{length}
 use Rattle.std.proofs.Math.Bool.{true, false}
 use mathlib.Core.List.{List, [], ◌∷◌, ◌++◌}
@@ -11,8 +11,7 @@ use Rattle.base.specs.Bytes.{be}
 use Rattle.base.specs.Choose.{choose, if_true, if_false, test_cases}
 use Rattle.send_keys.specs.declared.SendKeys.{SendKeys}
 use Rattle.send_keys.specs.Keys.{is_usable, is_keyed}
-use Rattle.send_keys.specs.declared.SendAnswer.{SendAnswer}
-use Rattle.send_keys.specs.declared.SendAnswer.TheVariants as send
+use Rattle.send_keys.specs.declared.SendError.TheVariants as send
 use Rattle.outgoing.specs.declared.Sending.{Sending}
 use Rattle.outgoing.specs.Send.{laid_state, laid_memory, send_answer, send_state, send_memory}
 use Rattle.outgoing.specs.State.{is_allowed}
@@ -25,7 +24,7 @@ use Rattle.waiting_laws.specs.Answers.{note_reply}
 use Rattle.waiting_laws.specs.Calls.{Stores, send·, save·, note·, send_ack·, only}
 use Rattle.waiting_laws.proofs.Sends.{Sent, sent, saved}
 use Rattle.history_theorem.proofs.Lists.{by_both}
-use Rattle.send_keys.specs.Answer.{is_done, refusal}
+use Rattle.send_keys.specs.Answer.{SendAnswer, is_done, refusal}
 use Rattle.ends_theorem.proofs.Books as books
 use Rattle.ends_theorem.proofs.Books.{written, ack_books}
 use Rattle.ends_theorem.proofs.Laws.{Told, done-by}
@@ -56,7 +55,7 @@ use Rattle.ends_theorem.specs.Sender.{Books, enters, enters_all}
 
 -- 13, 14, 17, and what comes behind them
 tests_number : (w : Stores) (l : Ledger) → Matches w l → (e t n : ℕ) (x : SendAnswer) (m : ℕ) → (is_usable w.state.keys e ≡ true → refusal x ≡ m)
-    → refusal (choose (is_usable w.state.keys e) (choose (is_allowed w.state.queue.mtu e t n) (choose (is_keyed w.state.keys e) x send.KeysAbsent) send.BadRecord) send.BadEpoch)
+    → refusal (choose (is_usable w.state.keys e) (choose (is_allowed w.state.queue.mtu e t n) (choose (is_keyed w.state.keys e) x (Err send.KeysAbsent)) (Err send.BadRecord)) (Err send.BadEpoch))
     ≡ choose (ledger.is_usable l e) (choose (ledger.is_allowed l e t n) (choose (ledger.has_keys l e) m 17) 14) 13
 tests_number w l i e t n x m h =
     by_both Told (sym (usable-is i.keys e))
@@ -173,7 +172,7 @@ epoch-is i = ap (λ (a : ℕ). choose (eqb a 0) 2 a) i.application
 
 module _ (w : Stores) (l : Ledger) (i : Matches w l) where
   -- 12 cannot come
-  in-range : ack_answer w.state w.notes (length w.queue) ≡ send.Done
+  in-range : ack_answer w.state w.notes (length w.queue) ≡ Ok tt
   unfolding ack_answer
   in-range = if_false _ _ (le-ltb 32 w.notes.count (omega (arith, i.noted.count, i.noted.most))) ∙ if_true _ _ (ready-is w l i)
 

@@ -15,8 +15,7 @@ use Rattle.assembly_theorem.proofs.Rules.{does-within, new-within}
 use Rattle.assembly_theorem.specs.Rules.{Within}
 use Rattle.ends_theorem.proofs.Given.{Given, given-keeps, given-lies, took-all}
 use Rattle.base.specs.Choose.{by_test}
-use Rattle.opening_reply.specs.declared.Opening.{Opening}
-use Rattle.opening_reply.specs.Opening.{shown_by}
+use Rattle.opening_reply.specs.Opening.{shown_by, Opening}
 use Rattle.receiving.specs.declared.Receiving.{Receiving}
 use Rattle.send_keys.specs.Keys.{next_of}
 use Rattle.outgoing.specs.State.{fresh_sending}

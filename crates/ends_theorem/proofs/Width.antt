@@ -3,7 +3,7 @@ use Rattle.std.specs.Prelude.{ℕ, zero, suc, length, List, ◌≡◌, refl}
 use Rattle.std.proofs.Common.{ap, ◌∙◌}
 use Rattle.base.specs.Choose.{by_test}
 use Rattle.queue.specs.Queue.{laid}
-use Rattle.send_keys.specs.declared.SendAnswer.{SendAnswer}
+use Rattle.send_keys.specs.Answer.{SendAnswer}
 use Rattle.outgoing.specs.declared.Sending.{Sending}
 use Rattle.outgoing.specs.Send.{laid_state, send_state}
 use Rattle.outgoing.specs.State.{keying_state}
@@ -15,7 +15,6 @@ use Rattle.flight.specs.Save.{save_state}
 use Rattle.messages.specs.Message.{Laid, piece_of, send_all, beginning, message_state}
 use Rattle.acks.specs.declared.AckSent.{AckSent}
 use Rattle.acks.specs.Acks.{notice_state, ack_sent, sent_ack}
-use Rattle.resend.specs.declared.Resent.{Resent}
 use Rattle.resend.specs.Resend.{Laying as Again, sent_again, again_answer, again_at, again_after, resend_state}
 use Rattle.resend.specs.Tests.{closed_state}
 use Rattle.waiting_laws.specs.Calls.{Stores, SendCall, key_send·, send·, save·, message·, begin_flight·, resend·, note·, send_ack·, ack·, fill·, sealed·, take·, stored}
@@ -64,7 +63,7 @@ ack-width w =
 
 resend_width : (w : Stores) → width_of (stored w resend·).state ≡ width_of w.state
 unfolding resend_state closed_state
-resend_width w = by_test (λ (r : Resent). width_of r.state ≡ width_of w.state) (λ z. unfold closed_state in (again-width w.kept (closing w) w.flight.saved)) (λ z. refl)
+resend_width w = by_test (λ (r : SavedState). width_of r.state ≡ width_of w.state) (λ z. unfold closed_state in (again-width w.kept (closing w) w.flight.saved)) (λ z. refl)
 
 key_width : (s : Sending) (e : ℕ) (iv : List ℕ) → width_of (keying_state s e iv).state ≡ width_of s
 unfolding keying_state

@@ -1,20 +1,16 @@
 -- A sending end and its history: state, queue and flight as the last call left them, and what the claim speaks of, written from the host's
 -- arguments, the records that the claim's own account has as sent, the bytes and the answers and questions that the host sees.
-use Rattle.std.specs.Prelude.{ℕ, ◌+◌, ◌-◌, ◌<◌, ◌%◌, eqb, length, take, get_or, List, [], ◌∷◌, ◌++◌, ◌≡◌}
+use Rattle.std.specs.Prelude.{ℕ, ◌+◌, ◌-◌, ◌<◌, ◌%◌, eqb, length, take, get_or, List, [], ◌∷◌, ◌++◌, ◌≡◌, Some, None, Ok, Err}
 use Rattle.std.proofs.Math.Option.{Option, none, some}
 use Rattle.base.specs.Bytes.{be}
 use Rattle.base.specs.Choose.{choose, both}
 use Rattle.base.specs.Parts.{part}
-use Rattle.outgoing.specs.declared.Keying.{Keying}
+use Rattle.outgoing.specs.declared.Sent.{Sent as SentState}
 use Rattle.outgoing.specs.declared.Sending.{Sending}
 use Rattle.outgoing.specs.State.{keying_state}
-use Rattle.sealing.specs.declared.SealAnswer.{SealAnswer}
-use Rattle.sealing.specs.declared.SealQuestion.{SealQuestion}
-use Rattle.sealing.specs.declared.SealQuestion.TheVariants as ask
-use Rattle.sealing.specs.Sealing.{question_of, seal_answer, is_sealed}
-use Rattle.taking.specs.declared.TakeAnswer.{TakeAnswer}
-use Rattle.taking.specs.declared.TakeAnswer.TheVariants as took
-use Rattle.taking.specs.Take.{take_answer, take_buffer}
+use Rattle.sealing.specs.Sealing.{SealAnswer, Asked, question_of, seal_answer, is_sealed}
+use Rattle.taking.specs.declared.TakeError.TheVariants as took
+use Rattle.taking.specs.Take.{TakeAnswer, take_answer, take_buffer}
 use Rattle.waiting_laws.specs.Calls.{Stores, SendCall, key_send·, send·, save·, message·, begin_flight·, resend·, note·, send_ack·, ack·, fill·, sealed·, take·, stored, fresh, lending}
 use Rattle.history_theorem.specs.Account.{sealed_head, sealed_tail, upd}
 use Rattle.history_theorem.specs.Claim.{Masks}
@@ -62,14 +58,14 @@ abbrev pub first_bytes : Option Lent → ℕ → ℕ → List ℕ → List ℕ
 first_bytes none e n b = b
 first_bytes (some l) e n b = choose (both (eqb l.epoch e) (eqb l.num n)) l.bytes b
 
-abbrev pub lent_by : SealQuestion → List ℕ → List ℕ → Option Lent → List ℕ → Option Lent
-lent_by (ask.Seal e n p l) nonce header old q =
-    some (record { epoch = e; num = n; nonce = nonce; header = header; place = p; size = l; bytes = first_bytes old e n (part p l q) })
-lent_by ask.Nothing nonce header old q = none
-lent_by ask.OutOfRange nonce header old q = none
+abbrev pub lent_by : Asked → Option Lent → List ℕ → Option Lent
+lent_by (Ok (Some x)) old q =
+    some (record { epoch = x.epoch; num = x.number; nonce = x.nonce; header = x.header; place = x.start; size = x.length; bytes = first_bytes old x.epoch x.number (part x.start x.length q) })
+lent_by (Ok None) old q = none
+lent_by (Err x) old q = none
 
 unfoldable pub lends : Sending → List ℕ → Option Lent → Option Lent
-lends s q old = lent_by (question_of s).question (question_of s).nonce (question_of s).header old q
+lends s q old = lent_by (question_of s) old q
 
 -- the question is shown exactly while a record waits to be sealed, and names the oldest: "Sealings are asked oldest first and never cancelled"; the part
 -- lent is the record behind its header
@@ -166,7 +162,7 @@ turns x w b ivs sealed taken = record {
   taken = taken;
 }
 
-abbrev pub keyed_by : Keying → ℕ → List ℕ → (ℕ → List ℕ) → ℕ → List ℕ
+abbrev pub keyed_by : SentState → ℕ → List ℕ → (ℕ → List ℕ) → ℕ → List ℕ
 keyed_by r e iv f = choose (is_done r.answer) (upd f e iv) f
 
 -- an accepted reply seals what the question showed
@@ -181,11 +177,11 @@ finished_by a (some l) before behind b =
 
 -- a datagram taken is what then stands at the start of the host's buffer
 abbrev pub taken_by : TakeAnswer → List ℕ → List (List ℕ) → List (List ℕ)
-taken_by (took.Taken n) buffer ts = ts ++ (part 0 n buffer ∷ [])
-taken_by took.OutOfRange buffer ts = ts
-taken_by took.Nothing buffer ts = ts
-taken_by took.Unsealed buffer ts = ts
-taken_by (took.Short n) buffer ts = ts
+taken_by (Ok (Some n)) buffer ts = ts ++ (part 0 n buffer ∷ [])
+taken_by (Err took.OutOfRange) buffer ts = ts
+taken_by (Ok None) buffer ts = ts
+taken_by (Err took.Unsealed) buffer ts = ts
+taken_by (Err (took.Short n)) buffer ts = ts
 
 -- the history behind a call that leaves these books before it seals
 abbrev pub sends_with : Sender → Books → SendCall → Sender

@@ -1,12 +1,10 @@
 -- Two ends that talk: each sends, receives, deals with its readings and puts handshake messages together, and each call gets state, queue, flight and
 -- datagram as the last call at its end left them, refused or not.
-use Rattle.std.specs.Prelude.{ℕ, eqb, length, List, [], ◌∷◌, ◌++◌}
+use Rattle.std.specs.Prelude.{ℕ, eqb, length, List, [], ◌∷◌, ◌++◌, Some, None, Ok, Err}
 use Rattle.std.proofs.Math.Option.{Option, none, some}
 use Rattle.base.specs.Choose.{choose}
 use Rattle.send_keys.specs.declared.SendKeys.{SendKeys}
-use Rattle.sealing.specs.declared.SealQuestion.TheVariants as ask
-use Rattle.sealing.specs.declared.SealQuestion.{SealQuestion}
-use Rattle.sealing.specs.Sealing.{question_of}
+use Rattle.sealing.specs.Sealing.{Asked, question_of}
 use Rattle.taking.specs.Take.{take_answer, take_buffer}
 use Rattle.waiting_laws.specs.Answers.{answered}
 use Rattle.waiting_laws.specs.Calls.{Stores, SendCall, key_send·, send·, save·, message·, begin_flight·, resend·, note·, send_ack·, ack·, fill·, sealed·, take·, stored, lending, Short, Reply}
@@ -163,10 +161,10 @@ counts_by e e' (open_over· p d) = counted e e' e.into.serial
 counts_by e e' finish· = counted e e' e.into.serial
 
 -- the host's writing is given, until a sealing reply is accepted
-abbrev pub given_in : SealQuestion → List ℕ → Option (List ℕ) → Option (List ℕ)
-given_in (ask.Seal e n p l) v o = choose (eqb (length v) l) (some v) o
-given_in ask.Nothing v o = o
-given_in ask.OutOfRange v o = o
+abbrev pub given_in : Asked → List ℕ → Option (List ℕ) → Option (List ℕ)
+given_in (Ok (Some x)) v o = choose (eqb (length v) x.length) (some v) o
+given_in (Ok None) v o = o
+given_in (Err x) v o = o
 
 abbrev pub given_by : Stores → Reply → SendCall → Option (List ℕ) → Option (List ℕ)
 given_by w r (key_send· e iv) o = o
@@ -178,7 +176,7 @@ given_by w r resend· o = o
 given_by w r (note· e n) o = o
 given_by w r send_ack· o = o
 given_by w r (ack· d) o = o
-given_by w r (fill· v) o = given_in (question_of w.state).question v o
+given_by w r (fill· v) o = given_in (question_of w.state) v o
 given_by w r (sealed· n m) o = choose (eqb r.number 0) none o
 given_by w r (take· b) o = o
 

@@ -1,5 +1,6 @@
 -- The epochs keyed to receive rise in the order of their entries and are at most the last keyed; every call keeps this. Assumes nothing.
-use Rattle.std.specs.Prelude.{true, false, List, [], ◌∷◌, ◌⊎◌, ◌≡◌, refl, ℕ, zero, suc, ◌+◌, ◌-◌, ◌<◌, ◌≤◌, length, get_or}
+use Rattle.opening_reply.specs.Opening.{Opening}
+use Rattle.std.specs.Prelude.{true, false, List, [], ◌∷◌, ◌⊎◌, ◌≡◌, refl, ℕ, zero, suc, ◌+◌, ◌-◌, ◌<◌, ◌≤◌, length, get_or, Some, None}
 use Rattle.std.proofs.lemmas.Bool.{false≢true}
 use Rattle.std.proofs.Math.Logic.{⊎_elim}
 use Rattle.std.proofs.Common.{sym, ap, subst, ◌∙◌, ltb-false, leb-false}
@@ -8,12 +9,9 @@ use Rattle.base.specs.Choose.{by_test, lt-or_ge}
 use Rattle.datagram.specs.declared.Datagram.{Datagram}
 use Rattle.opening_reply.proofs.Keeps.{opened-effect}
 use Rattle.opening_reply.specs.Keeps.{Marks}
-use Rattle.opening_reply.specs.declared.Opening.{Opening}
 use Rattle.recv_keys.specs.Keeps.{installed-other, installed-last, left-front, left-behind, marked-epoch}
-use Rattle.recv_keys.specs.Keys.{no_entry, entry_at, fits, last_fit, find, fresh, is_full, installed, left, marked}
+use Rattle.recv_keys.specs.Keys.{no_entry, entry_at, fits, last_fit, find, fresh, is_full, installed, left, marked, Found}
 use Rattle.recv_keys.specs.Laws.{found-keyed}
-use Rattle.recv_keys.specs.declared.Found.TheVariants as found
-use Rattle.recv_keys.specs.declared.Found.{Found}
 use Rattle.recv_keys.specs.declared.RecvEpochEntry.{RecvEpochEntry}
 use Rattle.recv_keys.specs.declared.RecvKeys.{RecvKeys}
 use Rattle.receiving.specs.Calls.Call.{keying, removing, encrypting, releasing, beginning, reading, masking, opening}
@@ -108,8 +106,8 @@ key_rising s epoch iv m r =
 removed-rising : (s : Receiving) (epoch : ℕ) → Made s → Rising s.keys → (f : Found) → find s.keys.entries epoch s.keys.count ≡ f
     → Rising (removed_by f s epoch).state.keys
 unfolding removed_by leaving
-removed-rising s epoch m r found.Nothing q = r
-removed-rising s epoch m r (found.At i) q =
+removed-rising s epoch m r None q = r
+removed-rising s epoch m r (Some i) q =
     let l = left_rising s.keys i m.ready.keys.count (found-keyed s.keys.entries epoch s.keys.count i q) r in
     by_test Rises (λ t. l) (λ t. l)
 
@@ -170,13 +168,13 @@ one_entry k r i j hi hj e =
 
 -- the application epoch that bits mean is the highest keyed one with those bits
 abbrev Highest : List RecvEpochEntry → ℕ → ℕ → Found → Type 0
-Highest l bits n (found.At i) = (i < n) × (fits (get_or l i no_entry).epoch bits ≡ true) × ((j : ℕ) → j < n → fits (get_or l j no_entry).epoch bits ≡ true → j ≤ i)
-Highest l bits n found.Nothing = (j : ℕ) → j < n → fits (get_or l j no_entry).epoch bits ≡ true → ⊥
+Highest l bits n (Some i) = (i < n) × (fits (get_or l i no_entry).epoch bits ≡ true) × ((j : ℕ) → j < n → fits (get_or l j no_entry).epoch bits ≡ true → j ≤ i)
+Highest l bits n None = (j : ℕ) → j < n → fits (get_or l j no_entry).epoch bits ≡ true → ⊥
 
 further : (l : List RecvEpochEntry) (bits n : ℕ) → fits (get_or l n no_entry).epoch bits ≡ false → (f : Found) → Highest l bits n f → Highest l bits (suc n) f
-further l bits n t (found.At i) h =
+further l bits n t (Some i) h =
     (omega (arith, h.0), h.1, λ j m g. ⊎_elim (λ a. h.2 j a g) (λ a. let e : j ≡ n = omega arith in absurd (false≢true (sym t ∙ rw e at g))) (lt-or_ge j n))
-further l bits n t found.Nothing h = λ j m g. ⊎_elim (λ a. h j a g) (λ a. let e : j ≡ n = omega arith in false≢true (sym t ∙ rw e at g)) (lt-or_ge j n)
+further l bits n t None h = λ j m g. ⊎_elim (λ a. h j a g) (λ a. let e : j ≡ n = omega arith in false≢true (sym t ∙ rw e at g)) (lt-or_ge j n)
 
 last-highest : (l : List RecvEpochEntry) (bits n : ℕ) → Highest l bits n (last_fit l bits n)
 unfolding last_fit
@@ -184,7 +182,7 @@ last-highest l bits zero = λ j h g. omega arith
 last-highest l bits (suc n) =
     by_test (Highest l bits (suc n)) (λ t. (omega arith, t, λ j h g. omega arith)) (λ t. further l bits n t (last_fit l bits n) (last-highest l bits n))
 
-pub last-is-highest : (k : RecvKeys) → Rising k → (bits i j : ℕ) → last_fit k.entries bits k.count ≡ found.At i
+pub last-is-highest : (k : RecvKeys) → Rising k → (bits i j : ℕ) → last_fit k.entries bits k.count ≡ Some i
     → j < k.count → fits (entry_at k j).epoch bits ≡ true → (entry_at k j).epoch ≤ (entry_at k i).epoch
 last-is-highest k r bits i j q h g =
     let w = subst (Highest k.entries bits k.count) q (last-highest k.entries bits k.count) in
@@ -207,8 +205,8 @@ key_not_below s epoch iv =
 
 removed_not_below : (s : Receiving) (epoch : ℕ) (f : Found) → NotBelow s.keys.highest (removed_by f s epoch)
 unfolding removed_by leaving left
-removed_not_below s epoch found.Nothing = omega arith
-removed_not_below s epoch (found.At i) = by_test (NotBelow s.keys.highest) (λ t. omega arith) (λ t. omega arith)
+removed_not_below s epoch None = omega arith
+removed_not_below s epoch (Some i) = by_test (NotBelow s.keys.highest) (λ t. omega arith) (λ t. omega arith)
 
 remove_not_below : (s : Receiving) (epoch : ℕ) → NotBelow s.keys.highest (remove_of s epoch)
 unfolding remove_of

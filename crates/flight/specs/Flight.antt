@@ -1,11 +1,11 @@
 -- A flight's saved records (01, "Flights acknowledged or sent again"; refusals 12, 18). Assumes nothing.
-use Rattle.std.specs.Prelude.{Bool, false, List, [], ℕ, ◌+◌, ◌*◌, ◌<◌, ◌≤◌, leb, get_or, set, replicate}
+use Rattle.std.specs.Prelude.{Bool, false, List, [], ℕ, ◌+◌, ◌*◌, ◌<◌, ◌≤◌, leb, get_or, set, replicate, Ok, Err}
 use Rattle.base.specs.Choose.{choose, both}
 use Rattle.base.specs.Parts.{splice}
-use Rattle.send_keys.specs.declared.SendAnswer.TheVariants.{Done, OutOfRange}
+use Rattle.send_keys.specs.declared.SendError.TheVariants.{OutOfRange}
 use Rattle.flight.specs.declared.Entry.{Entry}
 use Rattle.flight.specs.declared.Flight.{Flight}
-use Rattle.flight.specs.declared.Begun.{Begun}
+use Rattle.flight.specs.declared.Acted.{Acted}
 use Rattle.flight.specs.declared.SavedRecords.{SavedRecords}
 
 unfoldable pub entry_of : ℕ → ℕ → ℕ → ℕ → Entry
@@ -39,8 +39,8 @@ abbrev pub with_saved : Flight → List Entry → ℕ → Flight
 with_saved f es n = record { entries = es; saved = n; numbers = f.numbers }
 
 -- "Beginning a flight empties it"
-unfoldable pub begun : Flight → Begun
-begun f = choose (leb f.saved 12) (record { answer = Done; flight = with_saved f f.entries 0 }) (record { answer = OutOfRange; flight = f })
+unfoldable pub begun : Flight → Acted
+begun f = choose (leb f.saved 12) (record { answer = Ok tt; flight = with_saved f f.entries 0 }) (record { answer = Err OutOfRange; flight = f })
 
 -- a record more: not acknowledged, no earlier number
 unfoldable pub saved_with : Flight → ℕ → ℕ → ℕ → ℕ → Flight

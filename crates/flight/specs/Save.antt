@@ -1,5 +1,5 @@
 -- Sending a record and saving it in the flight (01, refusals 12, 13, 14, 17, 18, 19, 20). Assumes nothing.
-use Rattle.std.specs.Prelude.{true, List, ◌≡◌, refl, ℕ, ◌+◌, ◌*◌, ◌≤◌, leb, length}
+use Rattle.std.specs.Prelude.{true, List, ◌≡◌, refl, ℕ, ◌+◌, ◌*◌, ◌≤◌, leb, length, Ok, Err}
 use Rattle.std.proofs.lemmas.Bool.{false≢true}
 use Rattle.std.proofs.Common.{mul-le-mul_right, arith, leb-true, leb-false}
 use Rattle.base.specs.Choose.{choose, by_test, both_right}
@@ -7,12 +7,11 @@ use Rattle.queue.specs.Queue.{is_ready, InRange, ready, laid-range}
 use Rattle.queue.specs.Laid.{len_over}
 use Rattle.send_keys.specs.Keys.{is_usable, is_keyed, next_of}
 use Rattle.outgoing.specs.declared.Sending.{Sending}
-use Rattle.send_keys.specs.declared.SendAnswer.{SendAnswer}
-use Rattle.send_keys.specs.declared.SendAnswer.TheVariants.{Done, OutOfRange, BadEpoch, BadRecord, KeysAbsent, FlightFull, QueueFull, NumbersSpent}
+use Rattle.send_keys.specs.declared.SendError.TheVariants.{OutOfRange, BadEpoch, BadRecord, KeysAbsent, FlightFull, QueueFull, NumbersSpent}
 use Rattle.outgoing.specs.State.{is_allowed}
 use Rattle.outgoing.specs.Send.{spot_of, is_full, is_spent, laid_state, laid_memory, Clear}
 use Rattle.outgoing.proofs.Send.{allowed-fits, clear-fits}
-use Rattle.send_keys.specs.Answer.{is_done}
+use Rattle.send_keys.specs.Answer.{SendAnswer, is_done}
 use Rattle.flight.specs.declared.Flight.{Flight}
 use Rattle.flight.specs.declared.Saved.{Saved}
 use Rattle.flight.specs.Flight.{counted, is_kept, saved_with, saved_memory, Keeps}
@@ -25,14 +24,14 @@ save_answer s f room kept e t n =
     (choose (is_usable s.keys e)
     (choose (is_allowed s.queue.mtu e t n)
     (choose (is_keyed s.keys e)
-    (choose (leb 12 f.saved) FlightFull
-    (choose (is_full s e n) QueueFull
-    (choose (is_spent s e) NumbersSpent Done)))
-    KeysAbsent)
-    BadRecord)
-    BadEpoch)
-    OutOfRange)
-    OutOfRange
+    (choose (leb 12 f.saved) (Err FlightFull)
+    (choose (is_full s e n) (Err QueueFull)
+    (choose (is_spent s e) (Err NumbersSpent) (Ok tt))))
+    (Err KeysAbsent))
+    (Err BadRecord))
+    (Err BadEpoch))
+    (Err OutOfRange))
+    (Err OutOfRange)
 
 -- wholly or not at all: state and flight, queue, and the flight's buffer
 unfoldable pub save_state : Sending → Flight → ℕ → ℕ → ℕ → ℕ → ℕ → Saved

@@ -3,8 +3,7 @@
 use Rattle.std.specs.Prelude.{Bool, true, false, List, ◌≡◌, refl, ℕ, leb, length, set, replicate}
 use Rattle.std.proofs.Common.{sym, ap, ◌∙◌}
 use Rattle.base.specs.Choose.{choose, both, if_true, if_false, both_true}
-use Rattle.send_keys.specs.declared.SendAnswer.{SendAnswer}
-use Rattle.flight.specs.declared.Begun.{Begun}
+use Rattle.flight.specs.declared.Acted.{Acted}
 use Rattle.flight.specs.declared.Saved.{Saved}
 use Rattle.flight.specs.Flight.{begun, fresh_flight}
 use Rattle.flight.specs.Save.{save_state, save_queue, save_kept}
@@ -12,7 +11,7 @@ use Rattle.messages.specs.Message.{message_answer, message_state, message_queue,
 use Rattle.send_words.specs.Words.{state_of, is_flat}
 use Rattle.flight_words.specs.Words.{words, saved-at, entries_of, flight_of, flat_to}
 use Rattle.flight_words.specs.Laws.{begins}
-use Rattle.send_keys.specs.Answer.{refusal}
+use Rattle.send_keys.specs.Answer.{SendAnswer, refusal}
 
 -- both words stand for something
 abbrev pub are_flat : List ℕ → List ℕ → Bool
@@ -76,16 +75,16 @@ pub begins-to : (f n : List ℕ) → length f ≡ words → flat_to f 12 ≡ tru
 unfolding begun
 begins-to f n h p l =
     let b = begins f n 0 h in (
-      ap refusal (sym (ap (λ (y : Begun). y.answer) (if_true _ _ l))) ∙ sym (if_true _ _ p),
-      b.0 ∙ sym (ap (λ (y : Begun). y.flight) (if_true _ _ l)) ∙ sym (if_true _ _ p),
+      ap refusal (sym (ap (λ (y : Acted). y.answer) (if_true _ _ l))) ∙ sym (if_true _ _ p),
+      b.0 ∙ sym (ap (λ (y : Acted). y.flight) (if_true _ _ l)) ∙ sym (if_true _ _ p),
       b.1,
     )
 
 pub begins_not : (f n : List ℕ) → flat_to f 12 ≡ true → leb (flight_of f n).saved 12 ≡ false → Begins 12 f f n
 unfolding begun
 begins_not f n p l = (
-  ap refusal (sym (ap (λ (y : Begun). y.answer) (if_false _ _ l))) ∙ sym (if_true _ _ p),
-  sym (ap (λ (y : Begun). y.flight) (if_false _ _ l)) ∙ sym (if_true _ _ p),
+  ap refusal (sym (ap (λ (y : Acted). y.answer) (if_false _ _ l))) ∙ sym (if_true _ _ p),
+  sym (ap (λ (y : Acted). y.flight) (if_false _ _ l)) ∙ sym (if_true _ _ p),
   refl,
 )
 

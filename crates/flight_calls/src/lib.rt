@@ -3,8 +3,10 @@
 #![tactic(auto)]
 
 ghost use Rattle.flight_calls.specs.Calls.{FreshCall, BeginFlightCall, SendSavedCall, CreateHandshakeCall};
+ghost use Rattle.send_keys.specs.Answer.{refusal};
 
 use flight_words::SAVED;
+use send_keys::SendError;
 
 // Nothing saved, whatever stood in the words.
 pub fn fresh(f: &mut [u64; flight_words::WORDS], numbers: &mut [u64; 384])
@@ -15,22 +17,20 @@ pub fn fresh(f: &mut [u64; flight_words::WORDS], numbers: &mut [u64; 384])
 }
 
 // A new flight: it is empty.
-pub fn begin_flight(f: &mut [u64; flight_words::WORDS]) -> u8
-    ensures { BeginFlightCall result f.new f.old }
+#[tactic(auto, unfolding(flight::specs::Flight::begun, base::specs::Choose::choose))]
+pub fn begin_flight(f: &mut [u64; flight_words::WORDS]) -> Result<(), SendError>
+    ensures { BeginFlightCall (refusal result) f.new f.old }
 {
-    flight_words::sized(f);
-    if flight_words::is_flat(f) {
-        let fits = f[SAVED] <= 12;
-        if fits {
-            f[SAVED] = 0;
-            return 0;
-        }
-        return 12;
+    let fits = f[SAVED] <= 12;
+    if flight_words::is_flat(f) && fits {
+        f[SAVED] = 0;
+        return Ok(());
     }
-    12
+    Err(SendError::OutOfRange)
 }
 
 // A record sent and saved.
+#[tactic(auto, unfolding(base::specs::Choose::choose, base::specs::Choose::both))]
 pub fn send_saved(
     w: &mut [u64; send_words::WORDS],
     f: &mut [u64; flight_words::WORDS],
@@ -40,20 +40,17 @@ pub fn send_saved(
     content: &[u8],
     queue: &mut [u8],
     kept: &mut [u8],
-) -> u8
-    ensures { SendSavedCall result w.new w.old f.new f.old numbers.new numbers.old epoch content_type content.now queue.new queue.old kept.new kept.old }
+) -> Result<(), SendError>
+    ensures { SendSavedCall (refusal result) w.new w.old f.new f.old numbers.new numbers.old epoch content_type content.now queue.new queue.old kept.new kept.old }
 {
-    if send_words::is_flat(w) {
-        if flight_words::is_flat(f) {
-            let a = save_steps::send_saved(w, f, epoch, content_type, content, queue, kept);
-            return send_keys::refusal(a);
-        }
-        return 12;
+    if send_words::is_flat(w) && flight_words::is_flat(f) {
+        return save_steps::send_saved(w, f, epoch, content_type, content, queue, kept);
     }
-    12
+    Err(SendError::OutOfRange)
 }
 
 // A handshake message sent and saved, wholly or not at all.
+#[tactic(auto, unfolding(base::specs::Choose::choose, base::specs::Choose::both))]
 pub fn create_handshake(
     w: &mut [u64; send_words::WORDS],
     f: &mut [u64; flight_words::WORDS],
@@ -62,15 +59,11 @@ pub fn create_handshake(
     body: &[u8],
     queue: &mut [u8],
     kept: &mut [u8],
-) -> u8
-    ensures { CreateHandshakeCall result w.new w.old f.new f.old numbers.new numbers.old kind body.now queue.new queue.old kept.new kept.old }
+) -> Result<(), SendError>
+    ensures { CreateHandshakeCall (refusal result) w.new w.old f.new f.old numbers.new numbers.old kind body.now queue.new queue.old kept.new kept.old }
 {
-    if send_words::is_flat(w) {
-        if flight_words::is_flat(f) {
-            let a = message_steps::create_handshake(w, f, kind, body, queue, kept);
-            return send_keys::refusal(a);
-        }
-        return 12;
+    if send_words::is_flat(w) && flight_words::is_flat(f) {
+        return message_steps::create_handshake(w, f, kind, body, queue, kept);
     }
-    12
+    Err(SendError::OutOfRange)
 }

@@ -5,12 +5,12 @@ ghost use Rattle.std.specs.Prelude.{◌≡◌, ◌≤◌, ◌<◌, length};
 ghost use Rattle.flight_words.specs.Words.{words, entry_at, flat_to, put_entry, LowEntry};
 ghost use Rattle.flight_words.specs.Entries.{Entered, with_marked, with_numbers};
 
-use flight::Entry;
+use flight::{Entry, RECORDS};
 
 // ---- which word is which
 
 pub const WORDS: usize = 73;
-// Six words an entry, twelve entries.
+// Six words an entry.
 const ROW: usize = 6;
 // Of an entry, behind its content type: its epoch, its number, the length of its content, whether it is acknowledged, how many earlier
 // numbers it remembers.
@@ -26,25 +26,7 @@ const REMEMBERED: usize = 5;
 // How many are saved.
 pub const SAVED: usize = 72;
 
-fn count_of(w: &[u64]) -> usize
-    ensures { result ≡ length w.now }
-{
-    w.len()
-}
-
-// How many words there are.
-pub fn sized(w: &[u64; WORDS]) -> usize
-    ensures { length w.now ≡ words }
-{
-    count_of(w)
-}
-
-fn byte(x: u8) -> u64
-    ensures { (result ≡ x) × (result ≤ 255) }
-{
-    x as u64
-}
-
+// Which saved record is a number below 12, no type of its own: loops count it, and a type would be made in each round from the same bound.
 // A saved record.
 pub fn entry_of(w: &[u64; WORDS], i: usize) -> Entry
     requires { i < 12 }
@@ -70,15 +52,7 @@ pub fn entry_of(w: &[u64; WORDS], i: usize) -> Entry
 pub fn is_flat(w: &[u64; WORDS]) -> bool
     ensures { result ≡ flat_to w.now 12 }
 {
-    let mut i: usize = 12;
-    while 0 < i {
-        let marked = ROW * (i - 1) + MARKED;
-        if 1 < w[marked] {
-            return false;
-        }
-        i = i - 1;
-    }
-    true
+    (0..RECORDS).all(|i| w[ROW * i + MARKED] <= 1)
 }
 
 pub fn put_entry(w: &mut [u64; WORDS], i: usize, e: Entry)
@@ -91,8 +65,8 @@ pub fn put_entry(w: &mut [u64; WORDS], i: usize, e: Entry)
     let length = row + LENGTH;
     let marked = row + MARKED;
     let remembered = row + REMEMBERED;
-    w[row] = byte(e.content_type);
-    w[epoch] = words::wide(e.epoch);
+    w[row] = u64::from(e.content_type);
+    w[epoch] = u64::from(e.epoch);
     w[number] = e.number;
     w[length] = e.length as u64;
     w[marked] = e.marked as u64;
@@ -106,7 +80,6 @@ pub fn put_mark(w: &mut [u64; WORDS], i: usize, m: bool)
     requires { i < 12 }
     ensures { Entered i (with_marked (entry_at w.old i) m) w.old w.new }
 {
-    sized(w);
     let marked = ROW * i + MARKED;
     w[marked] = m as u64;
 }
@@ -116,7 +89,6 @@ pub fn put_numbers(w: &mut [u64; WORDS], i: usize, number: u64, remembered: usiz
     requires { i < 12 }
     ensures { Entered i (with_numbers (entry_at w.old i) number remembered) w.old w.new }
 {
-    sized(w);
     let at = ROW * i + NUMBER;
     let count = ROW * i + REMEMBERED;
     w[at] = number;

@@ -1,11 +1,9 @@
 -- The 12-byte handshake header (RFC 9147, section 5.2): written, read, and read back. Assumes nothing.
-use Rattle.std.specs.Prelude.{List, [], ◌∷◌, ◌++◌, ◌≡◌, refl, ℕ, ◌%◌, ◌^◌, ltb, length, get_or}
+use Rattle.std.specs.Prelude.{Option, Some, None, List, [], ◌∷◌, ◌++◌, ◌≡◌, refl, ℕ, ◌%◌, ◌^◌, ltb, length, get_or}
 use Rattle.base.specs.Bytes.{be, be_at}
 use Rattle.base.proofs.Bytes.{be_at-be}
 use Rattle.base.specs.Choose.{choose}
 use Rattle.handshake.specs.declared.Header.{Header}
-use Rattle.handshake.specs.declared.ParsedHeader.{ParsedHeader}
-use Rattle.handshake.specs.declared.ParsedHeader.TheVariants as parsed
 
 -- type, length of the message in 3 bytes, its number in 2, offset of the piece in 3, length of the piece in 3
 unfoldable pub header_bytes : Header → List ℕ
@@ -21,8 +19,8 @@ header_at d = record {
   fragment_length = be_at 3 d 9;
 }
 
-unfoldable pub parse_header : List ℕ → ParsedHeader
-parse_header d = choose (ltb (length d) 12) parsed.Incomplete (parsed.Read (header_at d))
+unfoldable pub parse_header : List ℕ → Option Header
+parse_header d = choose (ltb (length d) 12) None (Some (header_at d))
 
 pub length-header : (h : Header) → length (header_bytes h) ≡ 12
 unfolding header_bytes

@@ -13,50 +13,33 @@ pub struct Header {
     pub fragment_length: u32,
 }
 
-// What the front of a slice holds: a header, or too few bytes for one.
-#[derive(Clone, Copy)]
-pub enum ParsedHeader {
-    Incomplete,
-    Read(Header),
-}
-
 impl Header {
     // The 12 bytes. Of the three lengths the low 24 bits are written.
+    #[tactic(auto, unfolding(crate::specs::Header::header_bytes))]
     pub fn serialize(self) -> [u8; 12]
         ensures { result ≡ header_bytes self }
     {
-        let length = self.length;
-        let seq = self.message_seq;
-        let offset = self.fragment_offset;
-        let piece = self.fragment_length;
-        [
-            self.msg_type,
-            (length / 65536 % 256) as u8,
-            (length / 256 % 256) as u8,
-            (length % 256) as u8,
-            (seq / 256 % 256) as u8,
-            (seq % 256) as u8,
-            (offset / 65536 % 256) as u8,
-            (offset / 256 % 256) as u8,
-            (offset % 256) as u8,
-            (piece / 65536 % 256) as u8,
-            (piece / 256 % 256) as u8,
-            (piece % 256) as u8,
-        ]
+        let [_, l0, l1, l2] = self.length.to_be_bytes();
+        let [s0, s1] = self.message_seq.to_be_bytes();
+        let [_, o0, o1, o2] = self.fragment_offset.to_be_bytes();
+        let [_, p0, p1, p2] = self.fragment_length.to_be_bytes();
+        [self.msg_type, l0, l1, l2, s0, s1, o0, o1, o2, p0, p1, p2]
     }
 
-    pub fn parse_header(input: &[u8]) -> ParsedHeader
+    // The header at the front of a slice, if there are bytes enough for one.
+    #[tactic(auto, unfolding(crate::specs::Header::parse_header, crate::specs::Header::header_at, base::specs::Choose::choose))]
+    pub fn parse_header(input: &[u8]) -> Option<Header>
         ensures { result ≡ parse_header input.now }
     {
         if input.len() < 12 {
-            return ParsedHeader::Incomplete;
+            return None;
         }
-        ParsedHeader::Read(Header {
+        Some(Header {
             msg_type: input[0],
-            length: base::be24(input, 1) as u32,
-            message_seq: base::be16(input, 4) as u16,
-            fragment_offset: base::be24(input, 6) as u32,
-            fragment_length: base::be24(input, 9) as u32,
+            length: base::be::<3>(input, 1) as u32,
+            message_seq: base::be::<2>(input, 4) as u16,
+            fragment_offset: base::be::<3>(input, 6) as u32,
+            fragment_length: base::be::<3>(input, 9) as u32,
         })
     }
 }

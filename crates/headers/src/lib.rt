@@ -14,20 +14,23 @@ pub fn plaintext_header(
 ) -> [u8; PLAINTEXT_HEADER_LEN]
     ensures { result ≡ plaintext_header content_type sequence_number length }
 {
+    let [major, minor] = record::DTLS1_2;
+    let [_, _, n0, n1, n2, n3, n4, n5] = sequence_number.to_be_bytes();
+    let [l0, l1] = length.to_be_bytes();
     [
         content_type,
-        record::DTLS1_2[0],
-        record::DTLS1_2[1],
+        major,
+        minor,
         0,
         0,
-        (sequence_number / 0x100_0000_0000 % 256) as u8,
-        (sequence_number / 0x1_0000_0000 % 256) as u8,
-        (sequence_number / 0x100_0000 % 256) as u8,
-        (sequence_number / 0x1_0000 % 256) as u8,
-        (sequence_number / 0x100 % 256) as u8,
-        (sequence_number % 256) as u8,
-        (length / 256 % 256) as u8,
-        (length % 256) as u8,
+        n0,
+        n1,
+        n2,
+        n3,
+        n4,
+        n5,
+        l0,
+        l1,
     ]
 }
 
@@ -35,11 +38,7 @@ pub fn plaintext_header(
 pub fn unified_header(epoch: u16, sequence_number: u64, length: u16) -> [u8; SEALED_HEADER_LEN]
     ensures { result ≡ unified_header epoch sequence_number length }
 {
-    [
-        0x2C + (epoch % 4) as u8,
-        (sequence_number / 256 % 256) as u8,
-        (sequence_number % 256) as u8,
-        (length / 256 % 256) as u8,
-        (length % 256) as u8,
-    ]
+    let [_, _, _, _, _, _, n0, n1] = sequence_number.to_be_bytes();
+    let [l0, l1] = length.to_be_bytes();
+    [0x2C + (epoch % 4) as u8, n0, n1, l0, l1]
 }

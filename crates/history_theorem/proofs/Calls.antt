@@ -1,6 +1,6 @@
 -- Keying, removing, the flags, beginning, leaving the rest of a datagram, the host's writing and calls over other bytes keep what holds between
 -- state, account and history, and are told the numbers that the account owes them; a fresh end has it. Assumes nothing.
-use Rattle.std.specs.Prelude.{ℕ, zero, suc, ◌+◌, ◌-◌, ◌<◌, ◌≤◌, eqb, leb, ltb, length, get_or, Bool, true, false, ◌≡◌}
+use Rattle.std.specs.Prelude.{ℕ, zero, suc, ◌+◌, ◌-◌, ◌<◌, ◌≤◌, eqb, leb, ltb, length, get_or, Bool, true, false, ◌≡◌, Some, None, Ok, Err}
 use borrow.Author.Tests.{eqb-true, eqb-false, leb-true, leb-false, ltb-false, eq-eqb, ne_eqb}
 use mathlib.Core.List.{List, ◌∷◌}
 use Rattle.std.proofs.Math.Option.{Option, none, some}
@@ -22,16 +22,14 @@ use Rattle.opening_reply.specs.declared.Cancelled.{Cancelled}
 use Rattle.receiving.specs.Calls.Call.{keying, removing, encrypting, releasing, beginning}
 use Rattle.receiving.specs.Laws.{Made, fresh-made, after-made, made-sound}
 use Rattle.receiving.specs.Leads.{remove_none, remove_at}
-use Rattle.receiving.specs.Receiving.{answer_number, sound, kept, made, fresh_of, key_of, leaving, remove_of, encrypt_of, release_of, begin_of}
-use Rattle.receiving.specs.declared.Answer.TheVariants as answers
-use Rattle.receiving.specs.declared.Answer.{Answer}
+use Rattle.receiving.specs.Receiving.{answer_number, sound, kept, made, fresh_of, key_of, leaving, remove_of, encrypt_of, release_of, begin_of, Answer}
+use Rattle.receiving.specs.declared.Done.TheVariants as done
+use Rattle.receiving.specs.declared.Refusal.TheVariants as refusal
 use Rattle.receiving.specs.declared.Kept.{Kept}
 use Rattle.receiving.specs.declared.Receiving.{Receiving}
 use Rattle.recv_keys.specs.Keeps.{found-epoch, installed-other, installed-last, left-keyed}
-use Rattle.recv_keys.specs.Keys.{no_entry, entry_at, find, was_found, is_keyed, fresh, is_full, installed, left}
+use Rattle.recv_keys.specs.Keys.{no_entry, entry_at, find, was_found, is_keyed, fresh, is_full, installed, left, Found}
 use Rattle.recv_keys.specs.Laws.{found-keyed}
-use Rattle.recv_keys.specs.declared.Found.TheVariants as found
-use Rattle.recv_keys.specs.declared.Found.{Found}
 use Rattle.recv_keys.specs.declared.RecvEpochEntry.{RecvEpochEntry}
 use Rattle.recv_keys.specs.declared.RecvKeys.{RecvKeys}
 use Rattle.window.specs.Window.{verdict}
@@ -53,8 +51,8 @@ abbrev pub Fine : Receiver → Receiver → Type 0
 Fine y z = Sound z × Leaves y z
 
 -- the fresh number under an opening question, in a table that keeps its window
-pub fresh_keeps : (k l : RecvKeys) → ((x j : ℕ) → find k.entries x k.count ≡ found.At j
-    → (m : ℕ) × (find l.entries x l.count ≡ found.At m) × (entry_at l m ≡ entry_at k j)) → (q : Question) → FreshAsked k q → FreshAsked l q
+pub fresh_keeps : (k l : RecvKeys) → ((x j : ℕ) → find k.entries x k.count ≡ Some j
+    → (m : ℕ) × (find l.entries x l.count ≡ Some m) × (entry_at l m ≡ entry_at k j)) → (q : Question) → FreshAsked k q → FreshAsked l q
 fresh_keeps k l f question.Nothing a = tt
 fresh_keeps k l f (question.Mask x) a = tt
 fresh_keeps k l f (question.Opening x n) a =
@@ -67,8 +65,8 @@ find-same : (l m : List RecvEpochEntry) (x n : ℕ) → ((j : ℕ) → j < n →
 unfolding find
 find-same l m x zero f = refl
 find-same l m x (suc n) f =
-    ap (λ (e : RecvEpochEntry). choose (eqb e.epoch x) (found.At n) (find l x n)) (f n (omega arith))
-    ∙ ap (λ (r : Found). choose (eqb (get_or m n no_entry).epoch x) (found.At n) r) (find-same l m x n (λ j h. f j (omega arith)))
+    ap (λ (e : RecvEpochEntry). choose (eqb e.epoch x) (Some n) (find l x n)) (f n (omega arith))
+    ∙ ap (λ (r : Found). choose (eqb (get_or m n no_entry).epoch x) (Some n) r) (find-same l m x n (λ j h. f j (omega arith)))
 
 find-step : (l : List RecvEpochEntry) (x n : ℕ) → ((get_or l n no_entry).epoch ≡ x → ⊥) → find l x (suc n) ≡ find l x n
 unfolding find
@@ -97,21 +95,21 @@ module _ (y : Receiver) (i : Sound y) where
     pub key_cases : {C : Type 0}
         → ((a : Answer) → key_of y.state e iv ≡ kept y.state a → key_owed y.account e ≡ answer_number a → (answer_number a ≡ 0 → ⊥) → C)
         → (2 ≤ e → k.highest < e → is_full k e ≡ false → key_owed y.account e ≡ 0
-        → key_of y.state e iv ≡ made answers.Done (installed k e iv) b → C)
+        → key_of y.state e iv ≡ made (Ok done.Asked) (installed k e iv) b → C)
         → C
     unfolding key_of
     key_cases refuses keyed =
         test_cases (ltb e 2)
-        (λ t. refuses answers.Unusable (if_true _ _ in-range ∙ if_true _ _ t) (owed-is 13 (if_true _ _ (either_true _ t))) (λ z. omega arith))
+        (λ t. refuses (Err refusal.Unusable) (if_true _ _ in-range ∙ if_true _ _ t) (owed-is 13 (if_true _ _ (either_true _ t))) (λ z. omega arith))
         (λ t. test_cases (leb e k.highest)
         (λ u.
-        refuses answers.Unusable (if_true _ _ in-range ∙ if_false _ _ t ∙ if_true _ _ u) (owed-is 13 (if_true _ _ (either-false t ∙ u))) (λ z. omega arith))
+        refuses (Err refusal.Unusable) (if_true _ _ in-range ∙ if_false _ _ t ∙ if_true _ _ u) (owed-is 13 (if_true _ _ (either-false t ∙ u))) (λ z. omega arith))
         (λ u.
         let new = leb-false e k.highest u in
         let full = full_same k y.used y.account.ivs i.table e new in
         test_cases (is_full k e)
         (λ v.
-        refuses answers.Full (if_true _ _ in-range ∙ if_false _ _ t ∙ if_false _ _ u ∙ if_true _ _ v)
+        refuses (Err refusal.Full) (if_true _ _ in-range ∙ if_false _ _ t ∙ if_false _ _ u ∙ if_true _ _ v)
         (owed-is 23 (if_false _ _ (either-false t ∙ u) ∙ if_true _ _ (sym full ∙ v))) (λ z. omega arith))
         (λ v.
         keyed (ltb-false e 2 t) new v (owed-is 0 (if_false _ _ (either-false t ∙ u) ∙ if_false _ _ (sym full ∙ v)))
@@ -126,8 +124,8 @@ module _ (y : Receiver) (i : Sound y) where
     unfolding keys
     refused_key u s = same-sound _ _ s (if_false _ _ u)
 
-    find-new : k.highest < e → is_full k e ≡ false → (x j : ℕ) → find k.entries x k.count ≡ found.At j
-        → (m : ℕ) × (find (installed k e iv).entries x (installed k e iv).count ≡ found.At m) × (entry_at (installed k e iv) m ≡ entry_at k j)
+    find-new : k.highest < e → is_full k e ≡ false → (x j : ℕ) → find k.entries x k.count ≡ Some j
+        → (m : ℕ) × (find (installed k e iv).entries x (installed k e iv).count ≡ Some m) × (entry_at (installed k e iv) m ≡ entry_at k j)
     unfolding installed
     find-new new room x j f =
         let long = i.made.long in
@@ -350,7 +348,7 @@ module _ (y : Receiver) (i : Sound y) where
 
   -- ---- removing
 
-  module _ (e j : ℕ) (f : find k.entries e k.count ≡ found.At j) where
+  module _ (e j : ℕ) (f : find k.entries e k.count ≡ Some j) where
     count : k.count ≤ 5
     count = i.made.ready.keys.count
 
@@ -366,8 +364,8 @@ module _ (y : Receiver) (i : Sound y) where
         ∙ sym (keyed-left k y.used y.account.ivs i.table j count within)
 
     -- the other epochs are found with their windows
-    find-left : (x h : ℕ) → (x ≡ e → ⊥) → find k.entries x k.count ≡ found.At h
-        → (m : ℕ) × (find (left k j).entries x (left k j).count ≡ found.At m) × (entry_at (left k j) m ≡ entry_at k h)
+    find-left : (x h : ℕ) → (x ≡ e → ⊥) → find k.entries x k.count ≡ Some h
+        → (m : ℕ) × (find (left k j).entries x (left k j).count ≡ Some m) × (entry_at (left k j) m ≡ entry_at k h)
     find-left x h ne g =
         is_found (left k j) x _ refl
         (left-keyed k j count within x (λ z. ne (sym z ∙ is-e)) (unfold is_keyed was_found in (ap was_found g)))
@@ -536,25 +534,25 @@ module _ (y : Receiver) (i : Sound y) where
 
   told-by : (e : ℕ) (f : Found) → find k.entries e k.count ≡ f → answer_number (remove_of y.state e).answer ≡ remove_owed y e
   unfolding remove_owed was_found
-  told-by e found.Nothing f =
-      ap (λ (r : Kept). answer_number r.answer) (remove_none y.state e in-range f) ∙ sym (if_false _ _ (keyed-is e found.Nothing f))
-  told-by e (found.At j) f =
+  told-by e None f =
+      ap (λ (r : Kept). answer_number r.answer) (remove_none y.state e in-range f) ∙ sym (if_false _ _ (keyed-is e None f))
+  told-by e (Some j) f =
       ap (λ (r : Kept). answer_number r.answer) (remove_at y.state e j in-range f) ∙ leaves-number e j f _
-      ∙ under-number e j f b.question i.under ∙ sym (if_true _ _ (keyed-is e (found.At j) f))
+      ∙ under-number e j f b.question i.under ∙ sym (if_true _ _ (keyed-is e (Some j) f))
 
   pub remove_told : (e : ℕ) → answer_number (remove_of y.state e).answer ≡ remove_owed y e
   remove_told e = told-by e _ refl
 
   removed-by : (e : ℕ) (f : Found) → find k.entries e k.count ≡ f → Fine y (removed y e)
   unfolding removed was_found
-  removed-by e found.Nothing f =
+  removed-by e None f =
       let is : (remove_of y.state e).state ≡ y.state = ap (λ (r : Kept). r.state) (remove_none y.state e in-range f) in
       subst (Fine y)
-      (sym (if_false _ _ (keyed-is e found.Nothing f)))
+      (sym (if_false _ _ (keyed-is e None f)))
       (same-sound _ _ is refl, as_was _ _ (ap (λ (x : Receiving). x.datagram) is) refl)
-  removed-by e (found.At j) f =
+  removed-by e (Some j) f =
       subst (Fine y)
-      (sym (if_true _ _ (keyed-is e (found.At j) f)))
+      (sym (if_true _ _ (keyed-is e (Some j) f)))
       (under-removed e j f b.question refl i.under)
 
   pub remove_fine : (e : ℕ) → Fine y (removed y e)

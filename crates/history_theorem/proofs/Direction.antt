@@ -1,5 +1,5 @@
 -- One direction: what an end hands over against what the far end sealed, and a record that is due through its questions. Assumes nothing.
-use Rattle.std.specs.Prelude.{ℕ, ◌+◌, ◌-◌, ◌/◌, ◌%◌, ◌≤◌, ◌<◌, eqb, take, get_or, ◌⊎◌, ◌≡◌}
+use Rattle.std.specs.Prelude.{ℕ, ◌+◌, ◌-◌, ◌/◌, ◌%◌, ◌≤◌, ◌<◌, eqb, take, get_or, ◌⊎◌, ◌≡◌, Some, None}
 use borrow.Author.Tests.{eqb-true, eqb-false, eq-eqb, ne_eqb, lt-leb, le-leb}
 use Rattle.std.proofs.Math.ListN.{length}
 use Rattle.std.proofs.Common.{length-append, length-take, inl, inr, ◌∙◌, arith}
@@ -24,14 +24,12 @@ use Rattle.datagram.specs.declared.Reading.{Reading}
 use Rattle.datagram.specs.declared.Reason.TheVariants as reason
 use Rattle.datagram.specs.declared.Reason.{Reason}
 use Rattle.datagram.specs.declared.Step.{Step}
-use Rattle.incoming.specs.Inner.{inner_of, inner_type}
-use Rattle.incoming.specs.declared.Inner.TheVariants as inner
+use Rattle.incoming.specs.Inner.{inner_of, inner_type, holding}
+use Rattle.std.specs.declared.option.Option as code
 use Rattle.incoming.specs.declared.Inner.{Inner}
 use Rattle.mask_reply.specs.Mask.{unmasked, ruled}
-use Rattle.opening_reply.specs.Opening.{still, typed, opened_at, opened_step, shown_by}
+use Rattle.opening_reply.specs.Opening.{still, typed, opened_at, opened_step, shown_by, Opening}
 use Rattle.opening_reply.specs.declared.Marked.{Marked}
-use Rattle.opening_reply.specs.declared.Opening.TheVariants as reply
-use Rattle.opening_reply.specs.declared.Opening.{Opening}
 use Rattle.datagram.specs.Keeps.{refused}
 use Rattle.receiving.specs.Calls.Call.{masking as answering, opening}
 use Rattle.receiving.specs.Laws.{made-sound, refused-stays}
@@ -40,7 +38,6 @@ use Rattle.records.specs.Records.{opening_asked}
 use Rattle.recv_keys.specs.Keeps.{found-epoch}
 use Rattle.recv_keys.specs.Keys.{entry_at, find, marked}
 use Rattle.recv_keys.specs.Laws.{found-keyed}
-use Rattle.recv_keys.specs.declared.Found.TheVariants as found
 use Rattle.recv_keys.specs.declared.RecvKeys.{RecvKeys}
 use Rattle.window.specs.Used.{above, Agrees}
 use Rattle.window.proofs.Used.{tells}
@@ -476,22 +473,22 @@ module _ (masks : Masks) (sealed : ℕ → List Sealed) (shaped : Shaped masks s
   opens_to x = out_by x.keys x.step d
 
   -- a yes of another length
-  open_wrong : (a : Ask) (n len h : ℕ) → b.question ≡ question.Opening a n → find k.entries a.epoch k.count ≡ found.At h
-      → (len + tag_size ≡ a.length → ⊥) → opened_step k b (reply.Yes len) d ≡ still k (told b says.Reply)
+  open_wrong : (a : Ask) (n len h : ℕ) → b.question ≡ question.Opening a n → find k.entries a.epoch k.count ≡ Some h
+      → (len + tag_size ≡ a.length → ⊥) → opened_step k b (Some len) d ≡ still k (told b says.Reply)
   unfolding opened_at
   open_wrong a n len h q f ne =
-      opened-is y i a n q (subst (λ v. UnderWay v b.at y.account.waits y.trial) q i.under) (reply.Yes len) h f
+      opened-is y i a n q (subst (λ v. UnderWay v b.at y.account.waits y.trial) q i.under) (Some len) h f
       ∙ if_false _ _ (ne_eqb len (a.length - tag_size) (λ z. ne (omega (arith, (held_open k b in-range a n q).1.tag))))
 
   -- a yes of the right length, over a plaintext that was sealed
-  open_right : (a : Ask) (n len h : ℕ) → b.question ≡ question.Opening a n → find k.entries a.epoch k.count ≡ found.At h
+  open_right : (a : Ask) (n len h : ℕ) → b.question ≡ question.Opening a n → find k.entries a.epoch k.count ≡ Some h
       → len + tag_size ≡ a.length → (c : List ℕ) (t : ℕ) → part (b.at + a.header_len) len d ≡ c ++ (t ∷ []) → (t ≡ 0 → ⊥)
-      → opened_step k b (reply.Yes len) d ≡ still (marked k h n) (typed b a n (inner.Found t (length c)))
+      → opened_step k b (Some len) d ≡ still (marked k h n) (typed b a n (holding t (length c)))
   unfolding opened_at
   open_right a n len h q f right c t plain Typed-Byte =
-      opened-is y i a n q (subst (λ v. UnderWay v b.at y.account.waits y.trial) q i.under) (reply.Yes len) h f
+      opened-is y i a n q (subst (λ v. UnderWay v b.at y.account.waits y.trial) q i.under) (Some len) h f
       ∙ if_true _ _ (eq-eqb len (a.length - tag_size) (omega arith))
-      ∙ ap (λ (v : Inner). still (marked k h n) (typed b a n v)) (ap inner_of plain ∙ inner_type c t Typed-Byte)
+      ∙ ap (λ (v : code.Option Inner). still (marked k h n) (typed b a n v)) (ap inner_of plain ∙ inner_type c t Typed-Byte)
 
   -- the content that is then shown
   content-is : (at len : ℕ) (c : List ℕ) (t : ℕ) → part at len d ≡ c ++ (t ∷ []) → part at (length c) d ≡ c
@@ -520,7 +517,7 @@ module _ (masks : Masks) (sealed : ℕ → List Sealed) (shaped : Shaped masks s
 
   typed-sealed : AsSealed sealed y.handed → (l : RecvKeys) (a : Ask) (n : ℕ) (r : Sealed) → Mem r (sealed a.epoch) → r.num ≡ n
       → part (b.at + a.header_len) (length r.content) d ≡ r.content
-      → Kept (out_by l (typed b a n (inner.Found r.type (length r.content))) d)
+      → Kept (out_by l (typed b a n (holding r.type (length r.content))) d)
   unfolding typed counted
   typed-sealed j l a n r m num c =
       by_test (λ (t : Step). AsSealed sealed (handed_by t.reading (shown_by t.reading d) y.handed)) (λ f. j)
@@ -531,16 +528,16 @@ module _ (masks : Masks) (sealed : ℕ → List Sealed) (shaped : Shaped masks s
   module _ (j : AsSealed sealed y.handed) where
     open-by : (p : Opening) (a : Ask) (n : ℕ) → b.question ≡ question.Opening a n
         → (z : UnderWay (question.Opening a n) b.at y.account.waits y.trial) → FairOpen sealed y.account.waits d p
-        → (h : ℕ) → find k.entries a.epoch k.count ≡ found.At h → Kept (open_out y.state p d)
-    open-by reply.No a n q z fair h f =
-        subst (λ x. Kept (opens_to x)) (sym (opened-is y i a n q z reply.No h f)) (unfold opened_at in j)
-    open-by (reply.Yes len) a n q z fair h f =
+        → (h : ℕ) → find k.entries a.epoch k.count ≡ Some h → Kept (open_out y.state p d)
+    open-by None a n q z fair h f =
+        subst (λ x. Kept (opens_to x)) (sym (opened-is y i a n q z None h f)) (unfold opened_at in j)
+    open-by (Some len) a n q z fair h f =
         let u = z.2 in
         test_cases (eqb (len + tag_size) a.length)
         (λ t.
         let right : len + tag_size ≡ a.length = eqb-true _ _ t in
-        let fair' : FairOpen sealed (an_opening a.epoch n b.at u.0 u.1) d (reply.Yes len) =
-        subst (λ w. FairOpen sealed w d (reply.Yes len)) u.2 fair in
+        let fair' : FairOpen sealed (an_opening a.epoch n b.at u.0 u.1) d (Some len) =
+        subst (λ w. FairOpen sealed w d (Some len)) u.2 fair in
         let g = (fair' (right ∙ sym u.4) (part (b.at + length u.0) len d)).0 refl in
         let r = g.0 in
         let plain : part (b.at + a.header_len) len d ≡ r.content ++ (r.type ∷ []) =
@@ -563,21 +560,21 @@ module _ (masks : Masks) (sealed : ℕ → List Sealed) (shaped : Shaped masks s
   -- ---- a record that is due is handed over
 
   typed-opened : (l : RecvKeys) (a : Ask) (n : ℕ) (c : List ℕ) (t : ℕ) → b.readings ≤ 15 → part (b.at + a.header_len) (length c) d ≡ c
-      → let o = out_by l (typed b a n (inner.Found t (length c))) d in
+      → let o = out_by l (typed b a n (holding t (length c))) d in
       SaysOpened o.reading (shown_by o.reading o.datagram) a.epoch (record { num = n; type = t; content = c })
   unfolding typed counted
   typed-opened l a n c t low shown =
       subst (λ (s : Step). SaysOpened s.reading (shown_by s.reading d) a.epoch (record { num = n; type = t; content = c }))
       (sym (if_false _ _ (lt-leb 16 b.readings (omega arith)))) (refl, ap (λ (x : List ℕ). record { num = n; type = t; content = x }) shown)
 
-  typed-over : (l : RecvKeys) (a : Ask) (n t len : ℕ) → 15 < b.readings → (out_by l (typed b a n (inner.Found t len)) d).reading ≡ says.TooMany
+  typed-over : (l : RecvKeys) (a : Ask) (n t len : ℕ) → 15 < b.readings → (out_by l (typed b a n (holding t len)) d).reading ≡ says.TooMany
   unfolding typed counted
   typed-over l a n t len high = ap (λ (s : Step). s.reading) (if_true _ _ (le-leb 16 b.readings (omega arith)))
 
-  typed-fate : (l : RecvKeys) (a : Ask) (n : ℕ) (v : Inner) → fate_of (out_by l (typed b a n v) d).reading ≡ settled
+  typed-fate : (l : RecvKeys) (a : Ask) (n : ℕ) (v : code.Option Inner) → fate_of (out_by l (typed b a n v) d).reading ≡ settled
   unfolding typed counted
-  typed-fate l a n inner.Nothing = refl
-  typed-fate l a n (inner.Found t len) = by_test (λ (s : Step). fate_of s.reading ≡ settled) (λ f. refl) (λ f. refl)
+  typed-fate l a n None = refl
+  typed-fate l a n (Some held) = by_test (λ (s : Step). fate_of s.reading ≡ settled) (λ f. refl) (λ f. refl)
 
   abbrev Last : Trial → ℕ → Sealed → Out → Type 0
   Last a e x o =
@@ -601,9 +598,9 @@ module _ (masks : Masks) (sealed : ℕ → List Sealed) (shaped : Shaped masks s
 
       by : (p : Opening) → b.question ≡ question.Opening (ask_for e x) x.num → IsNew a e x
           → FairOpen sealed (an_opening e x.num b.at x.header x.cipher) d p → Last a e x (open_out y.state p d)
-      by reply.No q new fair =
+      by None q new fair =
           some≢none (sym ((fair tt inside).1 (x, u.mem, record { number = refl; header = refl; cipher = refl; plaintext = refl })))
-      by (reply.Yes len) q new fair =
+      by (Some len) q new fair =
           is_found k e _ refl (held_open k b in-range (ask_for e x) x.num q).1.installed λ h f.
           test_cases (eqb (len + tag_size) (length x.cipher))
           (λ t.
@@ -614,7 +611,7 @@ module _ (masks : Masks) (sealed : ℕ → List Sealed) (shaped : Shaped masks s
           subst (λ m. Last a e x (opens_to m))
           (sym (open_right (ask_for e x) x.num len h q f right x.content x.type plain (shaped e x u.mem).typed))
           (inr (
-            typed-fate (marked k h x.num) (ask_for e x) x.num (inner.Found x.type (length x.content)),
+            typed-fate (marked k h x.num) (ask_for e x) x.num (holding x.type (length x.content)),
             as_new new
                 (λ l. typed-opened (marked k h x.num) (ask_for e x) x.num x.content x.type (low l) (content-is (b.at + sealed_head) len x.content x.type plain))
                 (λ l. typed-over (marked k h x.num) (ask_for e x) x.num x.type (length x.content) (high l)),

@@ -1,7 +1,7 @@
 -- Worked lists whose premises are met, computed: records out of order, doubled and forged; a doubled record in front of a new one; a removal
 -- under a question; a sixteenth and a seventeenth reading; a plaintext record and an unopened one; an alert that is told; keys refused; the edges
 -- of the reach, and of that of an epoch of which nothing was used. Assumes nothing.
-use Rattle.std.specs.Prelude.{ℕ, zero, suc, ◌+◌, ◌≤◌, ◌<◌, eqb, length, replicate, take, Bool, true, false, ◌↔◌, ◌≡◌, refl}
+use Rattle.std.specs.Prelude.{ℕ, zero, suc, ◌+◌, ◌≤◌, ◌<◌, eqb, length, replicate, take, Bool, true, false, ◌↔◌, ◌≡◌, refl, Some, None}
 use Rattle.std.proofs.lemmas.Bool.{eqb-false, false≢true}
 use mathlib.Core.List.Memᴰ.{head as here}
 use mathlib.Core.List.Memᴰ.{tail as there}
@@ -19,11 +19,10 @@ use Rattle.dtls_aead.specs.Nonce.{nonce_of}
 use Rattle.incoming.specs.Inner.{inner_of}
 use Rattle.mask_reply.specs.Mask.{unmasked, rebuilt, judged, masked_at, masked_by, masking, mask_step}
 use Rattle.opening_reply.specs.Opening.{typed, opened_at, opened_by, openings, opened_step, cancelled_ask, cancelled}
-use Rattle.opening_reply.specs.declared.Opening.TheVariants as reply
 use Rattle.receiving.specs.Receiving.{fresh_of, key_of, leaving, removed_by, remove_of, encrypt_of, release_of, begin_of}
 use Rattle.record.specs.Record.{header_length, fragment_len, partial_of, parse_ciphertext, is_type, is_version, is_plaintext, plaintext_header, parse_plaintext, parsed, unified_header}
 use Rattle.records.specs.Records.{locked_step, sealed_step, step_of, opening_asked, asked_again, asking, read_step}
-use Rattle.recv_keys.specs.Keys.{fits, last_fit, find, or_else, two, resolve, was_found, is_keyed, marked, app_one, apps, windows_sound, keys_sound, is_full, installed, left_at, left}
+use Rattle.recv_keys.specs.Keys.{fits, last_fit, find, two, resolve, was_found, is_keyed, marked, app_one, apps, windows_sound, keys_sound, is_full, installed, left_at, left}
 use Rattle.sealing.specs.Sealing.{masked_header}
 use Rattle.sequence.specs.Sequence.{own, below, above, nearest}
 use Rattle.window.specs.Used.{expected, above as aboveUsed}
@@ -48,7 +47,7 @@ sealed_as e n c = record {
 -- one record in a datagram of its own, read, unmasked and opened
 arrives : Sealed → ℕ → List Event → List Event
 arrives r c rest =
-    here· (begin· r.wire) ∷ here· read· ∷ here· (mask· (1 ∷ 2 ∷ [])) ∷ here· (write· (c ∷ 23 ∷ [])) ∷ here· (open· (reply.Yes 2)) ∷ rest
+    here· (begin· r.wire) ∷ here· read· ∷ here· (mask· (1 ∷ 2 ∷ [])) ∷ here· (write· (c ∷ 23 ∷ [])) ∷ here· (open· (Some 2)) ∷ rest
 
 -- the same bytes once more: dropped when the mask shows the number
 doubled : Sealed → List Event → List Event
@@ -59,7 +58,7 @@ invented : ℕ → List Event → List Event
 invented n rest = here· (begin· (masked_header 2 n 18 (1 ∷ 2 ∷ []) ++ replicate 18 5)) ∷ here· read· ∷ here· (mask· (1 ∷ 2 ∷ [])) ∷ rest
 
 forged : List Event → List Event
-forged rest = invented 9 (here· (open· reply.No) ∷ rest)
+forged rest = invented 9 (here· (open· None) ∷ rest)
 
 -- ---- premises that are met
 
@@ -156,11 +155,11 @@ mixed =
 -- handed over in the order of arrival (the last first), each once
 mixed-hands : (run (fresh_half 16) mixed).end.into.handed 2
     ≡ record { num = 1; type = 23; content = 11 ∷ [] } ∷ record { num = 0; type = 23; content = 10 ∷ [] } ∷ record { num = 2; type = 23; content = 12 ∷ [] } ∷ []
-unfolding mixed sealed_as arrives doubled invented forged choose both either splice bit ask_sound ask_keyed opening_sound question_sound is_sound counted nonce_of inner_of unmasked rebuilt judged masked_at masked_by masking mask_step typed opened_at opened_by openings opened_step cancelled_ask cancelled fresh_of key_of leaving removed_by remove_of encrypt_of release_of begin_of header_length fragment_len partial_of parse_ciphertext is_type is_version is_plaintext plaintext_header parse_plaintext parsed unified_header locked_step sealed_step step_of opening_asked asked_again asking read_step fits last_fit find or_else two resolve was_found is_keyed marked app_one apps windows_sound keys_sound is_full installed left_at left masked_header own below above nearest expected verdict marking upd key_owed keys resolves_to sealed_size plain_size record_size good_plain removed_from removed remove_owed begun begin_owed after_read after_mask after_open
+unfolding mixed sealed_as arrives doubled invented forged choose both either splice bit ask_sound ask_keyed opening_sound question_sound is_sound counted nonce_of inner_of unmasked rebuilt judged masked_at masked_by masking mask_step typed opened_at opened_by openings opened_step cancelled_ask cancelled fresh_of key_of leaving removed_by remove_of encrypt_of release_of begin_of header_length fragment_len partial_of parse_ciphertext is_type is_version is_plaintext plaintext_header parse_plaintext parsed unified_header locked_step sealed_step step_of opening_asked asked_again asking read_step fits last_fit find two resolve was_found is_keyed marked app_one apps windows_sound keys_sound is_full installed left_at left masked_header own below above nearest expected verdict marking upd key_owed keys resolves_to sealed_size plain_size record_size good_plain removed_from removed remove_owed begun begin_owed after_read after_mask after_open
 mixed-hands = refl
 
 mixed-honest : Honest one_mask (fresh_half 16) mixed
-unfolding one_mask mixed sealed_as arrives doubled invented forged choose both either splice bit ask_sound ask_keyed opening_sound question_sound is_sound counted nonce_of inner_of unmasked rebuilt judged masked_at masked_by masking mask_step typed opened_at opened_by openings opened_step cancelled_ask cancelled fresh_of key_of leaving removed_by remove_of encrypt_of release_of begin_of header_length fragment_len partial_of parse_ciphertext is_type is_version is_plaintext plaintext_header parse_plaintext parsed unified_header locked_step sealed_step step_of opening_asked asked_again asking read_step fits last_fit find or_else two resolve was_found is_keyed marked app_one apps windows_sound keys_sound is_full installed left_at left masked_header own below above nearest expected verdict marking upd key_owed keys resolves_to sealed_size plain_size record_size good_plain removed_from removed remove_owed begun begin_owed after_read after_mask after_open
+unfolding one_mask mixed sealed_as arrives doubled invented forged choose both either splice bit ask_sound ask_keyed opening_sound question_sound is_sound counted nonce_of inner_of unmasked rebuilt judged masked_at masked_by masking mask_step typed opened_at opened_by openings opened_step cancelled_ask cancelled fresh_of key_of leaving removed_by remove_of encrypt_of release_of begin_of header_length fragment_len partial_of parse_ciphertext is_type is_version is_plaintext plaintext_header parse_plaintext parsed unified_header locked_step sealed_step step_of opening_asked asked_again asking read_step fits last_fit find two resolve was_found is_keyed marked app_one apps windows_sound keys_sound is_full installed left_at left masked_header own below above nearest expected verdict marking upd key_owed keys resolves_to sealed_size plain_size record_size good_plain removed_from removed remove_owed begun begin_owed after_read after_mask after_open
 mixed-honest = (tt, (tt, (shape 2 0 10 (omega arith), (shape 2 1 11 (omega arith), (shape 2 2 12 (omega arith), (tt, (tt, ((refl, λ s. refl), (tt, (λ right. yes_fair (sealed_as 2 2 12 ∷ sealed_as 2 1 11 ∷ sealed_as 2 0 10 ∷ []) (sealed_as 2 2 12) (here refl) refl _ refl, (tt, (tt, ((refl, λ s. refl), (tt, (λ right. yes_fair (sealed_as 2 2 12 ∷ sealed_as 2 1 11 ∷ sealed_as 2 0 10 ∷ []) (sealed_as 2 0 10) (there (there (here refl))) refl _ refl, (tt, (tt, ((refl, λ s. refl), (tt, (tt, ((refl, λ s. refl), (λ right. no_fair (sealed_as 2 2 12 ∷ sealed_as 2 1 11 ∷ sealed_as 2 0 10 ∷ []) 9 _ _ refl, (tt, (tt, ((refl, λ s. refl), (tt, (λ right. yes_fair (sealed_as 2 2 12 ∷ sealed_as 2 1 11 ∷ sealed_as 2 0 10 ∷ []) (sealed_as 2 1 11) (there (here refl)) refl _ refl, tt)))))))))))))))))))))))))))
 
 -- ---- a doubled record in front of a new one
@@ -171,12 +170,12 @@ behind =
     here· (key· 2 (replicate 12 0)) ∷ here· encrypt· ∷ far· 2 (sealed_as 2 0 10) ∷ far· 2 (sealed_as 2 1 11)
     ∷ arrives (sealed_as 2 0 10) 10
     (here· (begin· ((sealed_as 2 0 10).wire ++ (sealed_as 2 1 11).wire)) ∷ here· read· ∷ here· (mask· (1 ∷ 2 ∷ [])) ∷ here· read· ∷ here· (mask· (1 ∷ 2 ∷ []))
-    ∷ here· (write· (11 ∷ 23 ∷ [])) ∷ here· (open· (reply.Yes 2)) ∷ [])
+    ∷ here· (write· (11 ∷ 23 ∷ [])) ∷ here· (open· (Some 2)) ∷ [])
 
 -- the mask reply that shows 0 as doubled leaves 1 as it arrived, and 1 is handed over
 behind-hands : (run (fresh_half 16) behind).end.into.handed 2
     ≡ record { num = 1; type = 23; content = 11 ∷ [] } ∷ record { num = 0; type = 23; content = 10 ∷ [] } ∷ []
-unfolding behind arrives sealed_as choose both either splice bit ask_sound ask_keyed opening_sound question_sound is_sound counted nonce_of inner_of unmasked rebuilt judged masked_at masked_by masking mask_step typed opened_at opened_by openings opened_step cancelled_ask cancelled fresh_of key_of leaving removed_by remove_of encrypt_of release_of begin_of header_length fragment_len partial_of parse_ciphertext is_type is_version is_plaintext plaintext_header parse_plaintext parsed unified_header locked_step sealed_step step_of opening_asked asked_again asking read_step fits last_fit find or_else two resolve was_found is_keyed marked app_one apps windows_sound keys_sound is_full installed left_at left masked_header own below above nearest expected verdict marking upd key_owed keys resolves_to sealed_size plain_size record_size good_plain removed_from removed remove_owed begun begin_owed after_read after_mask after_open
+unfolding behind arrives sealed_as choose both either splice bit ask_sound ask_keyed opening_sound question_sound is_sound counted nonce_of inner_of unmasked rebuilt judged masked_at masked_by masking mask_step typed opened_at opened_by openings opened_step cancelled_ask cancelled fresh_of key_of leaving removed_by remove_of encrypt_of release_of begin_of header_length fragment_len partial_of parse_ciphertext is_type is_version is_plaintext plaintext_header parse_plaintext parsed unified_header locked_step sealed_step step_of opening_asked asked_again asking read_step fits last_fit find two resolve was_found is_keyed marked app_one apps windows_sound keys_sound is_full installed left_at left masked_header own below above nearest expected verdict marking upd key_owed keys resolves_to sealed_size plain_size record_size good_plain removed_from removed remove_owed begun begin_owed after_read after_mask after_open
 behind-hands = refl
 
 -- and 1 was due: the last record that the cut came to
@@ -185,11 +184,11 @@ last_of [] z = z
 last_of (t ∷ ts) z = t
 
 behind-due : (z : Tried) → Due (last_of (run (fresh_half 16) behind).end.into.tried z).trial 2 (sealed_as 2 1 11)
-unfolding behind arrives sealed_as choose both either splice bit ask_sound ask_keyed opening_sound question_sound is_sound counted nonce_of inner_of unmasked rebuilt judged masked_at masked_by masking mask_step typed opened_at opened_by openings opened_step cancelled_ask cancelled fresh_of key_of leaving removed_by remove_of encrypt_of release_of begin_of header_length fragment_len partial_of parse_ciphertext is_type is_version is_plaintext plaintext_header parse_plaintext parsed unified_header locked_step sealed_step step_of opening_asked asked_again asking read_step fits last_fit find or_else two resolve was_found is_keyed marked app_one apps windows_sound keys_sound is_full installed left_at left masked_header own below above nearest expected verdict marking upd key_owed keys resolves_to sealed_size plain_size record_size good_plain removed_from removed remove_owed begun begin_owed after_read after_mask after_open
+unfolding behind arrives sealed_as choose both either splice bit ask_sound ask_keyed opening_sound question_sound is_sound counted nonce_of inner_of unmasked rebuilt judged masked_at masked_by masking mask_step typed opened_at opened_by openings opened_step cancelled_ask cancelled fresh_of key_of leaving removed_by remove_of encrypt_of release_of begin_of header_length fragment_len partial_of parse_ciphertext is_type is_version is_plaintext plaintext_header parse_plaintext parsed unified_header locked_step sealed_step step_of opening_asked asked_again asking read_step fits last_fit find two resolve was_found is_keyed marked app_one apps windows_sound keys_sound is_full installed left_at left masked_header own below above nearest expected verdict marking upd key_owed keys resolves_to sealed_size plain_size record_size good_plain removed_from removed remove_owed begun begin_owed after_read after_mask after_open
 behind-due z = due-after (0 ∷ []) _ 2 (sealed_as 2 1 11) refl (here refl) refl refl (omega arith) refl refl (omega arith) (omega arith)
 
 behind-honest : Honest one_mask (fresh_half 16) behind
-unfolding one_mask behind arrives sealed_as choose both either splice bit ask_sound ask_keyed opening_sound question_sound is_sound counted nonce_of inner_of unmasked rebuilt judged masked_at masked_by masking mask_step typed opened_at opened_by openings opened_step cancelled_ask cancelled fresh_of key_of leaving removed_by remove_of encrypt_of release_of begin_of header_length fragment_len partial_of parse_ciphertext is_type is_version is_plaintext plaintext_header parse_plaintext parsed unified_header locked_step sealed_step step_of opening_asked asked_again asking read_step fits last_fit find or_else two resolve was_found is_keyed marked app_one apps windows_sound keys_sound is_full installed left_at left masked_header own below above nearest expected verdict marking upd key_owed keys resolves_to sealed_size plain_size record_size good_plain removed_from removed remove_owed begun begin_owed after_read after_mask after_open
+unfolding one_mask behind arrives sealed_as choose both either splice bit ask_sound ask_keyed opening_sound question_sound is_sound counted nonce_of inner_of unmasked rebuilt judged masked_at masked_by masking mask_step typed opened_at opened_by openings opened_step cancelled_ask cancelled fresh_of key_of leaving removed_by remove_of encrypt_of release_of begin_of header_length fragment_len partial_of parse_ciphertext is_type is_version is_plaintext plaintext_header parse_plaintext parsed unified_header locked_step sealed_step step_of opening_asked asked_again asking read_step fits last_fit find two resolve was_found is_keyed marked app_one apps windows_sound keys_sound is_full installed left_at left masked_header own below above nearest expected verdict marking upd key_owed keys resolves_to sealed_size plain_size record_size good_plain removed_from removed remove_owed begun begin_owed after_read after_mask after_open
 behind-honest = (tt, (tt, (shape 2 0 10 (omega arith), (shape 2 1 11 (omega arith), (tt, (tt, ((refl, λ s. refl), (tt, (λ right. yes_fair (sealed_as 2 1 11 ∷ sealed_as 2 0 10 ∷ []) (sealed_as 2 0 10) (there (here refl)) refl _ refl, (tt, (tt, ((refl, λ s. refl), (tt, ((refl, λ s. refl), (tt, (λ right. yes_fair (sealed_as 2 1 11 ∷ sealed_as 2 0 10 ∷ []) (sealed_as 2 1 11) (here refl) refl _ refl, tt))))))))))))))))
 
 -- ---- a removal under a question
@@ -199,18 +198,18 @@ removal : List Event
 removal =
     here· (key· 3 (replicate 12 0)) ∷ here· (key· 7 (replicate 12 0)) ∷ here· encrypt· ∷ far· 7 (sealed_as 7 0 20) ∷ far· 3 (sealed_as 3 0 30)
     ∷ here· (begin· ((sealed_as 7 0 20).wire ++ (sealed_as 3 0 30).wire)) ∷ here· read· ∷ here· (remove· 7) ∷ here· read· ∷ here· (mask· (1 ∷ 2 ∷ []))
-    ∷ here· (write· (30 ∷ 23 ∷ [])) ∷ here· (open· (reply.Yes 2)) ∷ []
+    ∷ here· (write· (30 ∷ 23 ∷ [])) ∷ here· (open· (Some 2)) ∷ []
 
 removal-hands : ((run (fresh_half 16) removal).end.into.handed 7 ≡ [])
     × ((run (fresh_half 16) removal).end.into.handed 3 ≡ record { num = 0; type = 23; content = 30 ∷ [] } ∷ [])
     × (epochs_of (run (fresh_half 16) removal).end.into.lost ≡ 7 ∷ [])
     × (answers_of (run (fresh_half 16) removal).end.told ≡ 6 ∷ 0 ∷ 0 ∷ 0 ∷ 0 ∷ [])
     × (owed_of (run (fresh_half 16) removal).end.told ≡ 6 ∷ 0 ∷ 0 ∷ 0 ∷ 0 ∷ [])
-unfolding removal sealed_as choose both either splice bit ask_sound ask_keyed opening_sound question_sound is_sound counted nonce_of inner_of unmasked rebuilt judged masked_at masked_by masking mask_step typed opened_at opened_by openings opened_step cancelled_ask cancelled fresh_of key_of leaving removed_by remove_of encrypt_of release_of begin_of header_length fragment_len partial_of parse_ciphertext is_type is_version is_plaintext plaintext_header parse_plaintext parsed unified_header locked_step sealed_step step_of opening_asked asked_again asking read_step fits last_fit find or_else two resolve was_found is_keyed marked app_one apps windows_sound keys_sound is_full installed left_at left masked_header own below above nearest expected verdict marking upd key_owed keys resolves_to sealed_size plain_size record_size good_plain removed_from removed remove_owed begun begin_owed after_read after_mask after_open
+unfolding removal sealed_as choose both either splice bit ask_sound ask_keyed opening_sound question_sound is_sound counted nonce_of inner_of unmasked rebuilt judged masked_at masked_by masking mask_step typed opened_at opened_by openings opened_step cancelled_ask cancelled fresh_of key_of leaving removed_by remove_of encrypt_of release_of begin_of header_length fragment_len partial_of parse_ciphertext is_type is_version is_plaintext plaintext_header parse_plaintext parsed unified_header locked_step sealed_step step_of opening_asked asked_again asking read_step fits last_fit find two resolve was_found is_keyed marked app_one apps windows_sound keys_sound is_full installed left_at left masked_header own below above nearest expected verdict marking upd key_owed keys resolves_to sealed_size plain_size record_size good_plain removed_from removed remove_owed begun begin_owed after_read after_mask after_open
 removal-hands = (refl, refl, refl, refl, refl)
 
 removal-honest : Honest one_mask (fresh_half 16) removal
-unfolding one_mask removal sealed_as choose both either splice bit ask_sound ask_keyed opening_sound question_sound is_sound counted nonce_of inner_of unmasked rebuilt judged masked_at masked_by masking mask_step typed opened_at opened_by openings opened_step cancelled_ask cancelled fresh_of key_of leaving removed_by remove_of encrypt_of release_of begin_of header_length fragment_len partial_of parse_ciphertext is_type is_version is_plaintext plaintext_header parse_plaintext parsed unified_header locked_step sealed_step step_of opening_asked asked_again asking read_step fits last_fit find or_else two resolve was_found is_keyed marked app_one apps windows_sound keys_sound is_full installed left_at left masked_header own below above nearest expected verdict marking upd key_owed keys resolves_to sealed_size plain_size record_size good_plain removed_from removed remove_owed begun begin_owed after_read after_mask after_open
+unfolding one_mask removal sealed_as choose both either splice bit ask_sound ask_keyed opening_sound question_sound is_sound counted nonce_of inner_of unmasked rebuilt judged masked_at masked_by masking mask_step typed opened_at opened_by openings opened_step cancelled_ask cancelled fresh_of key_of leaving removed_by remove_of encrypt_of release_of begin_of header_length fragment_len partial_of parse_ciphertext is_type is_version is_plaintext plaintext_header parse_plaintext parsed unified_header locked_step sealed_step step_of opening_asked asked_again asking read_step fits last_fit find two resolve was_found is_keyed marked app_one apps windows_sound keys_sound is_full installed left_at left masked_header own below above nearest expected verdict marking upd key_owed keys resolves_to sealed_size plain_size record_size good_plain removed_from removed remove_owed begun begin_owed after_read after_mask after_open
 removal-honest = (tt, (tt, (tt, (shape 7 0 20 (omega arith), (shape 3 0 30 (omega arith), (tt, (tt, (tt, (tt, ((refl, λ s. refl), (tt, (λ right. yes_fair (sealed_as 3 0 30 ∷ []) (sealed_as 3 0 30) (here refl) refl _ refl, tt))))))))))))
 
 -- ---- a sixteenth and a seventeenth reading
@@ -229,17 +228,17 @@ seventeen =
     here· (key· 2 (replicate 12 0)) ∷ here· encrypt· ∷ far· 2 (sealed_as 2 0 10) ∷ far· 2 (sealed_as 2 1 11)
     ∷ here· (begin· (plains 15 ++ ((sealed_as 2 0 10).wire ++ (sealed_as 2 1 11).wire)))
     ∷ reads 15
-    (here· read· ∷ here· (mask· (1 ∷ 2 ∷ [])) ∷ here· (write· (10 ∷ 23 ∷ [])) ∷ here· (open· (reply.Yes 2)) ∷ here· read· ∷ here· (mask· (1 ∷ 2 ∷ []))
-    ∷ here· (write· (11 ∷ 23 ∷ [])) ∷ here· (open· (reply.Yes 2)) ∷ [])
+    (here· read· ∷ here· (mask· (1 ∷ 2 ∷ [])) ∷ here· (write· (10 ∷ 23 ∷ [])) ∷ here· (open· (Some 2)) ∷ here· read· ∷ here· (mask· (1 ∷ 2 ∷ []))
+    ∷ here· (write· (11 ∷ 23 ∷ [])) ∷ here· (open· (Some 2)) ∷ [])
 
 -- the sixteenth is handed over; the seventeenth ends the datagram, its number used
 seventeen-hands : ((run (fresh_half 16) seventeen).end.into.handed 2 ≡ record { num = 0; type = 23; content = 10 ∷ [] } ∷ [])
     × ((run (fresh_half 16) seventeen).end.into.used 2 ≡ 1 ∷ 0 ∷ [])
-unfolding seventeen sealed_as choose both either splice bit ask_sound ask_keyed opening_sound question_sound is_sound counted nonce_of inner_of unmasked rebuilt judged masked_at masked_by masking mask_step typed opened_at opened_by openings opened_step cancelled_ask cancelled fresh_of key_of leaving removed_by remove_of encrypt_of release_of begin_of header_length fragment_len partial_of parse_ciphertext is_type is_version is_plaintext plaintext_header parse_plaintext parsed unified_header locked_step sealed_step step_of opening_asked asked_again asking read_step fits last_fit find or_else two resolve was_found is_keyed marked app_one apps windows_sound keys_sound is_full installed left_at left masked_header own below above nearest expected verdict marking upd key_owed keys resolves_to sealed_size plain_size record_size good_plain removed_from removed remove_owed begun begin_owed after_read after_mask after_open
+unfolding seventeen sealed_as choose both either splice bit ask_sound ask_keyed opening_sound question_sound is_sound counted nonce_of inner_of unmasked rebuilt judged masked_at masked_by masking mask_step typed opened_at opened_by openings opened_step cancelled_ask cancelled fresh_of key_of leaving removed_by remove_of encrypt_of release_of begin_of header_length fragment_len partial_of parse_ciphertext is_type is_version is_plaintext plaintext_header parse_plaintext parsed unified_header locked_step sealed_step step_of opening_asked asked_again asking read_step fits last_fit find two resolve was_found is_keyed marked app_one apps windows_sound keys_sound is_full installed left_at left masked_header own below above nearest expected verdict marking upd key_owed keys resolves_to sealed_size plain_size record_size good_plain removed_from removed remove_owed begun begin_owed after_read after_mask after_open
 seventeen-hands = (refl, refl)
 
 seventeen-honest : Honest one_mask (fresh_half 16) seventeen
-unfolding one_mask seventeen sealed_as choose both either splice bit ask_sound ask_keyed opening_sound question_sound is_sound counted nonce_of inner_of unmasked rebuilt judged masked_at masked_by masking mask_step typed opened_at opened_by openings opened_step cancelled_ask cancelled fresh_of key_of leaving removed_by remove_of encrypt_of release_of begin_of header_length fragment_len partial_of parse_ciphertext is_type is_version is_plaintext plaintext_header parse_plaintext parsed unified_header locked_step sealed_step step_of opening_asked asked_again asking read_step fits last_fit find or_else two resolve was_found is_keyed marked app_one apps windows_sound keys_sound is_full installed left_at left masked_header own below above nearest expected verdict marking upd key_owed keys resolves_to sealed_size plain_size record_size good_plain removed_from removed remove_owed begun begin_owed after_read after_mask after_open
+unfolding one_mask seventeen sealed_as choose both either splice bit ask_sound ask_keyed opening_sound question_sound is_sound counted nonce_of inner_of unmasked rebuilt judged masked_at masked_by masking mask_step typed opened_at opened_by openings opened_step cancelled_ask cancelled fresh_of key_of leaving removed_by remove_of encrypt_of release_of begin_of header_length fragment_len partial_of parse_ciphertext is_type is_version is_plaintext plaintext_header parse_plaintext parsed unified_header locked_step sealed_step step_of opening_asked asked_again asking read_step fits last_fit find two resolve was_found is_keyed marked app_one apps windows_sound keys_sound is_full installed left_at left masked_header own below above nearest expected verdict marking upd key_owed keys resolves_to sealed_size plain_size record_size good_plain removed_from removed remove_owed begun begin_owed after_read after_mask after_open
 seventeen-honest = (tt, (tt, (shape 2 0 10 (omega arith), (shape 2 1 11 (omega arith), (tt, (tt, (tt, (tt, (tt, (tt, (tt, (tt, (tt, (tt, (tt, (tt, (tt, (tt, (tt, (tt, (tt, ((refl, λ s. refl), (tt, (λ right. yes_fair (sealed_as 2 1 11 ∷ sealed_as 2 0 10 ∷ []) (sealed_as 2 0 10) (there (here refl)) refl _ refl, (tt, ((refl, λ s. refl), (tt, (λ right. yes_fair (sealed_as 2 1 11 ∷ sealed_as 2 0 10 ∷ []) (sealed_as 2 1 11) (here refl) refl _ refl, tt))))))))))))))))))))))))))))
 
 -- ---- a plaintext record and an unopened one
@@ -255,7 +254,7 @@ earlier (t ∷ ts) = ts
 
 plainly-due : (z : Tried) → PlainDue (last_of (earlier (run (fresh_half 16) plainly).end.into.tried) z).trial
     × UnopenedDue (last_of (run (fresh_half 16) plainly).end.into.tried z).trial
-unfolding plainly sealed_as choose both either splice bit ask_sound ask_keyed opening_sound question_sound is_sound counted nonce_of inner_of unmasked rebuilt judged masked_at masked_by masking mask_step typed opened_at opened_by openings opened_step cancelled_ask cancelled fresh_of key_of leaving removed_by remove_of encrypt_of release_of begin_of header_length fragment_len partial_of parse_ciphertext is_type is_version is_plaintext plaintext_header parse_plaintext parsed unified_header locked_step sealed_step step_of opening_asked asked_again asking read_step fits last_fit find or_else two resolve was_found is_keyed marked app_one apps windows_sound keys_sound is_full installed left_at left masked_header own below above nearest expected verdict marking upd key_owed keys resolves_to sealed_size plain_size record_size good_plain removed_from removed remove_owed begun begin_owed after_read after_mask after_open
+unfolding plainly sealed_as choose both either splice bit ask_sound ask_keyed opening_sound question_sound is_sound counted nonce_of inner_of unmasked rebuilt judged masked_at masked_by masking mask_step typed opened_at opened_by openings opened_step cancelled_ask cancelled fresh_of key_of leaving removed_by remove_of encrypt_of release_of begin_of header_length fragment_len partial_of parse_ciphertext is_type is_version is_plaintext plaintext_header parse_plaintext parsed unified_header locked_step sealed_step step_of opening_asked asked_again asking read_step fits last_fit find two resolve was_found is_keyed marked app_one apps windows_sound keys_sound is_full installed left_at left masked_header own below above nearest expected verdict marking upd key_owed keys resolves_to sealed_size plain_size record_size good_plain removed_from removed remove_owed begun begin_owed after_read after_mask after_open
 plainly-due z = (
   record { in_order = refl; whole = omega arith; among_16 = omega arith },
   record {
@@ -276,11 +275,11 @@ reads_of (t ∷ ts) = (t.reading, t.shown) ∷ reads_of ts
 
 plainly-reads : reads_of (run (fresh_half 16) plainly).end.into.tried
     ≡ (says.Unopened 2 258 21 18, (sealed_as 2 0 10).cipher) ∷ (says.Plaintext 22 5 13 3, 1 ∷ 2 ∷ 3 ∷ []) ∷ []
-unfolding plainly sealed_as choose both either splice bit ask_sound ask_keyed opening_sound question_sound is_sound counted nonce_of inner_of unmasked rebuilt judged masked_at masked_by masking mask_step typed opened_at opened_by openings opened_step cancelled_ask cancelled fresh_of key_of leaving removed_by remove_of encrypt_of release_of begin_of header_length fragment_len partial_of parse_ciphertext is_type is_version is_plaintext plaintext_header parse_plaintext parsed unified_header locked_step sealed_step step_of opening_asked asked_again asking read_step fits last_fit find or_else two resolve was_found is_keyed marked app_one apps windows_sound keys_sound is_full installed left_at left masked_header own below above nearest expected verdict marking upd key_owed keys resolves_to sealed_size plain_size record_size good_plain removed_from removed remove_owed begun begin_owed after_read after_mask after_open
+unfolding plainly sealed_as choose both either splice bit ask_sound ask_keyed opening_sound question_sound is_sound counted nonce_of inner_of unmasked rebuilt judged masked_at masked_by masking mask_step typed opened_at opened_by openings opened_step cancelled_ask cancelled fresh_of key_of leaving removed_by remove_of encrypt_of release_of begin_of header_length fragment_len partial_of parse_ciphertext is_type is_version is_plaintext plaintext_header parse_plaintext parsed unified_header locked_step sealed_step step_of opening_asked asked_again asking read_step fits last_fit find two resolve was_found is_keyed marked app_one apps windows_sound keys_sound is_full installed left_at left masked_header own below above nearest expected verdict marking upd key_owed keys resolves_to sealed_size plain_size record_size good_plain removed_from removed remove_owed begun begin_owed after_read after_mask after_open
 plainly-reads = refl
 
 plainly-honest : Honest one_mask (fresh_half 16) plainly
-unfolding one_mask plainly sealed_as choose both either splice bit ask_sound ask_keyed opening_sound question_sound is_sound counted nonce_of inner_of unmasked rebuilt judged masked_at masked_by masking mask_step typed opened_at opened_by openings opened_step cancelled_ask cancelled fresh_of key_of leaving removed_by remove_of encrypt_of release_of begin_of header_length fragment_len partial_of parse_ciphertext is_type is_version is_plaintext plaintext_header parse_plaintext parsed unified_header locked_step sealed_step step_of opening_asked asked_again asking read_step fits last_fit find or_else two resolve was_found is_keyed marked app_one apps windows_sound keys_sound is_full installed left_at left masked_header own below above nearest expected verdict marking upd key_owed keys resolves_to sealed_size plain_size record_size good_plain removed_from removed remove_owed begun begin_owed after_read after_mask after_open
+unfolding one_mask plainly sealed_as choose both either splice bit ask_sound ask_keyed opening_sound question_sound is_sound counted nonce_of inner_of unmasked rebuilt judged masked_at masked_by masking mask_step typed opened_at opened_by openings opened_step cancelled_ask cancelled fresh_of key_of leaving removed_by remove_of encrypt_of release_of begin_of header_length fragment_len partial_of parse_ciphertext is_type is_version is_plaintext plaintext_header parse_plaintext parsed unified_header locked_step sealed_step step_of opening_asked asked_again asking read_step fits last_fit find two resolve was_found is_keyed marked app_one apps windows_sound keys_sound is_full installed left_at left masked_header own below above nearest expected verdict marking upd key_owed keys resolves_to sealed_size plain_size record_size good_plain removed_from removed remove_owed begun begin_owed after_read after_mask after_open
 plainly-honest = (tt, (tt, (tt, tt)))
 
 -- ---- an alert that is told
@@ -290,16 +289,16 @@ alerted : List Event
 alerted =
     here· (begin· (plaintext_header 21 5 2 ++ (2 ∷ 40 ∷ plaintext_header 22 6 0))) ∷ here· read· ∷ here· finish· ∷ here· read·
     ∷ here· (key· 2 (replicate 12 0)) ∷ here· encrypt· ∷ far· 2 (sealed_as 2 0 10) ∷ here· (begin· (sealed_as 2 0 10).wire) ∷ here· read· ∷ here· finish·
-    ∷ here· (mask· (1 ∷ 2 ∷ [])) ∷ here· finish· ∷ here· (write· (10 ∷ 23 ∷ [])) ∷ here· (open· (reply.Yes 2)) ∷ []
+    ∷ here· (mask· (1 ∷ 2 ∷ [])) ∷ here· finish· ∷ here· (write· (10 ∷ 23 ∷ [])) ∷ here· (open· (Some 2)) ∷ []
 
 -- the read behind the alert finds the end; the sealed record is handed over
 alerted-reads : reads_of (run (fresh_half 16) alerted).end.into.tried
     ≡ (says.Opened 2 0 23 5 1, 10 ∷ []) ∷ (says.End, []) ∷ (says.Plaintext 21 5 13 2, 2 ∷ 40 ∷ []) ∷ []
-unfolding alerted sealed_as choose both either splice bit ask_sound ask_keyed opening_sound question_sound is_sound counted nonce_of inner_of unmasked rebuilt judged masked_at masked_by masking mask_step typed opened_at opened_by openings opened_step cancelled_ask cancelled fresh_of key_of leaving removed_by remove_of encrypt_of release_of begin_of header_length fragment_len partial_of parse_ciphertext is_type is_version is_plaintext plaintext_header parse_plaintext parsed unified_header locked_step sealed_step step_of opening_asked asked_again asking read_step fits last_fit find or_else two resolve was_found is_keyed marked app_one apps windows_sound keys_sound is_full installed left_at left masked_header own below above nearest expected verdict marking upd key_owed keys resolves_to sealed_size plain_size record_size good_plain removed_from removed remove_owed begun begin_owed after_read after_mask after_open
+unfolding alerted sealed_as choose both either splice bit ask_sound ask_keyed opening_sound question_sound is_sound counted nonce_of inner_of unmasked rebuilt judged masked_at masked_by masking mask_step typed opened_at opened_by openings opened_step cancelled_ask cancelled fresh_of key_of leaving removed_by remove_of encrypt_of release_of begin_of header_length fragment_len partial_of parse_ciphertext is_type is_version is_plaintext plaintext_header parse_plaintext parsed unified_header locked_step sealed_step step_of opening_asked asked_again asking read_step fits last_fit find two resolve was_found is_keyed marked app_one apps windows_sound keys_sound is_full installed left_at left masked_header own below above nearest expected verdict marking upd key_owed keys resolves_to sealed_size plain_size record_size good_plain removed_from removed remove_owed begun begin_owed after_read after_mask after_open
 alerted-reads = refl
 
 alerted-honest : Honest one_mask (fresh_half 16) alerted
-unfolding one_mask alerted sealed_as choose both either splice bit ask_sound ask_keyed opening_sound question_sound is_sound counted nonce_of inner_of unmasked rebuilt judged masked_at masked_by masking mask_step typed opened_at opened_by openings opened_step cancelled_ask cancelled fresh_of key_of leaving removed_by remove_of encrypt_of release_of begin_of header_length fragment_len partial_of parse_ciphertext is_type is_version is_plaintext plaintext_header parse_plaintext parsed unified_header locked_step sealed_step step_of opening_asked asked_again asking read_step fits last_fit find or_else two resolve was_found is_keyed marked app_one apps windows_sound keys_sound is_full installed left_at left masked_header own below above nearest expected verdict marking upd key_owed keys resolves_to sealed_size plain_size record_size good_plain removed_from removed remove_owed begun begin_owed after_read after_mask after_open
+unfolding one_mask alerted sealed_as choose both either splice bit ask_sound ask_keyed opening_sound question_sound is_sound counted nonce_of inner_of unmasked rebuilt judged masked_at masked_by masking mask_step typed opened_at opened_by openings opened_step cancelled_ask cancelled fresh_of key_of leaving removed_by remove_of encrypt_of release_of begin_of header_length fragment_len partial_of parse_ciphertext is_type is_version is_plaintext plaintext_header parse_plaintext parsed unified_header locked_step sealed_step step_of opening_asked asked_again asking read_step fits last_fit find two resolve was_found is_keyed marked app_one apps windows_sound keys_sound is_full installed left_at left masked_header own below above nearest expected verdict marking upd key_owed keys resolves_to sealed_size plain_size record_size good_plain removed_from removed remove_owed begun begin_owed after_read after_mask after_open
 alerted-honest = (tt, (tt, (tt, (tt, (tt, (tt, (shape 2 0 10 (omega arith), (tt, (tt, (tt, ((refl, λ s. refl), (tt, (tt, (λ right. yes_fair (sealed_as 2 0 10 ∷ []) (sealed_as 2 0 10) (here refl) refl _ refl, tt))))))))))))))
 
 -- ---- keys refused
@@ -312,11 +311,11 @@ refusals =
 
 refusals-told : (answers_of (run (fresh_half 16) refusals).end.told ≡ 0 ∷ 13 ∷ 0 ∷ 13 ∷ 23 ∷ 0 ∷ 0 ∷ 0 ∷ 0 ∷ 13 ∷ 0 ∷ [])
     × (owed_of (run (fresh_half 16) refusals).end.told ≡ 0 ∷ 13 ∷ 0 ∷ 13 ∷ 23 ∷ 0 ∷ 0 ∷ 0 ∷ 0 ∷ 13 ∷ 0 ∷ [])
-unfolding refusals sealed_as choose both either splice bit ask_sound ask_keyed opening_sound question_sound is_sound counted nonce_of inner_of unmasked rebuilt judged masked_at masked_by masking mask_step typed opened_at opened_by openings opened_step cancelled_ask cancelled fresh_of key_of leaving removed_by remove_of encrypt_of release_of begin_of header_length fragment_len partial_of parse_ciphertext is_type is_version is_plaintext plaintext_header parse_plaintext parsed unified_header locked_step sealed_step step_of opening_asked asked_again asking read_step fits last_fit find or_else two resolve was_found is_keyed marked app_one apps windows_sound keys_sound is_full installed left_at left masked_header own below above nearest expected verdict marking upd key_owed keys resolves_to sealed_size plain_size record_size good_plain removed_from removed remove_owed begun begin_owed after_read after_mask after_open
+unfolding refusals sealed_as choose both either splice bit ask_sound ask_keyed opening_sound question_sound is_sound counted nonce_of inner_of unmasked rebuilt judged masked_at masked_by masking mask_step typed opened_at opened_by openings opened_step cancelled_ask cancelled fresh_of key_of leaving removed_by remove_of encrypt_of release_of begin_of header_length fragment_len partial_of parse_ciphertext is_type is_version is_plaintext plaintext_header parse_plaintext parsed unified_header locked_step sealed_step step_of opening_asked asked_again asking read_step fits last_fit find two resolve was_found is_keyed marked app_one apps windows_sound keys_sound is_full installed left_at left masked_header own below above nearest expected verdict marking upd key_owed keys resolves_to sealed_size plain_size record_size good_plain removed_from removed remove_owed begun begin_owed after_read after_mask after_open
 refusals-told = (refl, refl)
 
 refusals-honest : Honest one_mask (fresh_half 16) refusals
-unfolding one_mask refusals sealed_as choose both either splice bit ask_sound ask_keyed opening_sound question_sound is_sound counted nonce_of inner_of unmasked rebuilt judged masked_at masked_by masking mask_step typed opened_at opened_by openings opened_step cancelled_ask cancelled fresh_of key_of leaving removed_by remove_of encrypt_of release_of begin_of header_length fragment_len partial_of parse_ciphertext is_type is_version is_plaintext plaintext_header parse_plaintext parsed unified_header locked_step sealed_step step_of opening_asked asked_again asking read_step fits last_fit find or_else two resolve was_found is_keyed marked app_one apps windows_sound keys_sound is_full installed left_at left masked_header own below above nearest expected verdict marking upd key_owed keys resolves_to sealed_size plain_size record_size good_plain removed_from removed remove_owed begun begin_owed after_read after_mask after_open
+unfolding one_mask refusals sealed_as choose both either splice bit ask_sound ask_keyed opening_sound question_sound is_sound counted nonce_of inner_of unmasked rebuilt judged masked_at masked_by masking mask_step typed opened_at opened_by openings opened_step cancelled_ask cancelled fresh_of key_of leaving removed_by remove_of encrypt_of release_of begin_of header_length fragment_len partial_of parse_ciphertext is_type is_version is_plaintext plaintext_header parse_plaintext parsed unified_header locked_step sealed_step step_of opening_asked asked_again asking read_step fits last_fit find two resolve was_found is_keyed marked app_one apps windows_sound keys_sound is_full installed left_at left masked_header own below above nearest expected verdict marking upd key_owed keys resolves_to sealed_size plain_size record_size good_plain removed_from removed remove_owed begun begin_owed after_read after_mask after_open
 refusals-honest = (tt, (tt, (tt, (tt, (tt, (tt, (tt, (tt, (tt, (tt, (tt, tt)))))))))))
 
 -- ---- the edges of the reach
@@ -333,7 +332,7 @@ edges =
 edges-hands : (run (fresh_half 16) edges).end.into.handed 2
     ≡ record { num = 65636; type = 23; content = 6 ∷ [] } ∷ record { num = 32868; type = 23; content = 4 ∷ [] }
     ∷ record { num = 37; type = 23; content = 2 ∷ [] } ∷ record { num = 100; type = 23; content = 1 ∷ [] } ∷ []
-unfolding edges sealed_as arrives doubled choose both either splice bit ask_sound ask_keyed opening_sound question_sound is_sound counted nonce_of inner_of unmasked rebuilt judged masked_at masked_by masking mask_step typed opened_at opened_by openings opened_step cancelled_ask cancelled fresh_of key_of leaving removed_by remove_of encrypt_of release_of begin_of header_length fragment_len partial_of parse_ciphertext is_type is_version is_plaintext plaintext_header parse_plaintext parsed unified_header locked_step sealed_step step_of opening_asked asked_again asking read_step fits last_fit find or_else two resolve was_found is_keyed marked app_one apps windows_sound keys_sound is_full installed left_at left masked_header own below above nearest expected verdict marking upd key_owed keys resolves_to sealed_size plain_size record_size good_plain removed_from removed remove_owed begun begin_owed after_read after_mask after_open
+unfolding edges sealed_as arrives doubled choose both either splice bit ask_sound ask_keyed opening_sound question_sound is_sound counted nonce_of inner_of unmasked rebuilt judged masked_at masked_by masking mask_step typed opened_at opened_by openings opened_step cancelled_ask cancelled fresh_of key_of leaving removed_by remove_of encrypt_of release_of begin_of header_length fragment_len partial_of parse_ciphertext is_type is_version is_plaintext plaintext_header parse_plaintext parsed unified_header locked_step sealed_step step_of opening_asked asked_again asking read_step fits last_fit find two resolve was_found is_keyed marked app_one apps windows_sound keys_sound is_full installed left_at left masked_header own below above nearest expected verdict marking upd key_owed keys resolves_to sealed_size plain_size record_size good_plain removed_from removed remove_owed begun begin_owed after_read after_mask after_open
 edges-hands = refl
 
 -- 65,636 and 37 were due; 65,637 would be, were it in reach, and 36, were it not too old
@@ -343,7 +342,7 @@ edges-due : (z : Tried) → Due (last_of (run (fresh_half 16) edges).end.into.tr
     × (aboveUsed (37 ∷ 100 ∷ []) ≤ 36 + window_marks
     → Due (last_of (earlier (earlier (earlier (run (fresh_half 16) edges).end.into.tried))) z).trial 2 (sealed_as 2 36 3))
     × Due (last_of (earlier (earlier (earlier (earlier (run (fresh_half 16) edges).end.into.tried)))) z).trial 2 (sealed_as 2 37 2)
-unfolding edges sealed_as arrives doubled choose both either splice bit ask_sound ask_keyed opening_sound question_sound is_sound counted nonce_of inner_of unmasked rebuilt judged masked_at masked_by masking mask_step typed opened_at opened_by openings opened_step cancelled_ask cancelled fresh_of key_of leaving removed_by remove_of encrypt_of release_of begin_of header_length fragment_len partial_of parse_ciphertext is_type is_version is_plaintext plaintext_header parse_plaintext parsed unified_header locked_step sealed_step step_of opening_asked asked_again asking read_step fits last_fit find or_else two resolve was_found is_keyed marked app_one apps windows_sound keys_sound is_full installed left_at left masked_header own below above nearest expected verdict marking upd key_owed keys resolves_to sealed_size plain_size record_size good_plain removed_from removed remove_owed begun begin_owed after_read after_mask after_open
+unfolding edges sealed_as arrives doubled choose both either splice bit ask_sound ask_keyed opening_sound question_sound is_sound counted nonce_of inner_of unmasked rebuilt judged masked_at masked_by masking mask_step typed opened_at opened_by openings opened_step cancelled_ask cancelled fresh_of key_of leaving removed_by remove_of encrypt_of release_of begin_of header_length fragment_len partial_of parse_ciphertext is_type is_version is_plaintext plaintext_header parse_plaintext parsed unified_header locked_step sealed_step step_of opening_asked asked_again asking read_step fits last_fit find two resolve was_found is_keyed marked app_one apps windows_sound keys_sound is_full installed left_at left masked_header own below above nearest expected verdict marking upd key_owed keys resolves_to sealed_size plain_size record_size good_plain removed_from removed remove_owed begun begin_owed after_read after_mask after_open
 edges-due z = (
   due-after (32868 ∷ 37 ∷ 100 ∷ []) _ 2 (sealed_as 2 65636 6) refl (here refl) refl refl (omega arith) refl refl (omega arith) (omega arith),
   λ near. due-after (32868 ∷ 37 ∷ 100 ∷ []) _ 2 (sealed_as 2 65637 5) refl (there (here refl)) refl refl (omega arith) refl refl (omega arith) near,
@@ -352,7 +351,7 @@ edges-due z = (
 )
 
 edges-honest : Honest one_mask (fresh_half 16) edges
-unfolding one_mask edges sealed_as arrives doubled choose both either splice bit ask_sound ask_keyed opening_sound question_sound is_sound counted nonce_of inner_of unmasked rebuilt judged masked_at masked_by masking mask_step typed opened_at opened_by openings opened_step cancelled_ask cancelled fresh_of key_of leaving removed_by remove_of encrypt_of release_of begin_of header_length fragment_len partial_of parse_ciphertext is_type is_version is_plaintext plaintext_header parse_plaintext parsed unified_header locked_step sealed_step step_of opening_asked asked_again asking read_step fits last_fit find or_else two resolve was_found is_keyed marked app_one apps windows_sound keys_sound is_full installed left_at left masked_header own below above nearest expected verdict marking upd key_owed keys resolves_to sealed_size plain_size record_size good_plain removed_from removed remove_owed begun begin_owed after_read after_mask after_open
+unfolding one_mask edges sealed_as arrives doubled choose both either splice bit ask_sound ask_keyed opening_sound question_sound is_sound counted nonce_of inner_of unmasked rebuilt judged masked_at masked_by masking mask_step typed opened_at opened_by openings opened_step cancelled_ask cancelled fresh_of key_of leaving removed_by remove_of encrypt_of release_of begin_of header_length fragment_len partial_of parse_ciphertext is_type is_version is_plaintext plaintext_header parse_plaintext parsed unified_header locked_step sealed_step step_of opening_asked asked_again asking read_step fits last_fit find two resolve was_found is_keyed marked app_one apps windows_sound keys_sound is_full installed left_at left masked_header own below above nearest expected verdict marking upd key_owed keys resolves_to sealed_size plain_size record_size good_plain removed_from removed remove_owed begun begin_owed after_read after_mask after_open
 edges-honest = (tt, (tt, (shape 2 100 1 (omega arith), (shape 2 37 2 (omega arith), (shape 2 36 3 (omega arith), (shape 2 32868 4 (omega arith), (shape 2 65637 5 (omega arith), (shape 2 65636 6 (omega arith), (tt, (tt, ((refl, λ s. refl), (tt, (λ right. yes_fair (sealed_as 2 65636 6 ∷ sealed_as 2 65637 5 ∷ sealed_as 2 32868 4 ∷ sealed_as 2 36 3 ∷ sealed_as 2 37 2 ∷ sealed_as 2 100 1 ∷ []) (sealed_as 2 100 1) (there (there (there (there (there (here refl)))))) refl _ refl, (tt, (tt, ((refl, λ s. refl), (tt, (λ right. yes_fair (sealed_as 2 65636 6 ∷ sealed_as 2 65637 5 ∷ sealed_as 2 32868 4 ∷ sealed_as 2 36 3 ∷ sealed_as 2 37 2 ∷ sealed_as 2 100 1 ∷ []) (sealed_as 2 37 2) (there (there (there (there (here refl))))) refl _ refl, (tt, (tt, ((refl, λ s. refl), (tt, (tt, ((refl, λ s. refl), (tt, (λ right. yes_fair (sealed_as 2 65636 6 ∷ sealed_as 2 65637 5 ∷ sealed_as 2 32868 4 ∷ sealed_as 2 36 3 ∷ sealed_as 2 37 2 ∷ sealed_as 2 100 1 ∷ []) (sealed_as 2 32868 4) (there (there (here refl))) refl _ refl, (tt, (tt, ((refl, λ s. refl), (tt, (tt, ((refl, λ s. refl), (tt, (λ right. yes_fair (sealed_as 2 65636 6 ∷ sealed_as 2 65637 5 ∷ sealed_as 2 32868 4 ∷ sealed_as 2 36 3 ∷ sealed_as 2 37 2 ∷ sealed_as 2 100 1 ∷ []) (sealed_as 2 65636 6) (here refl) refl _ refl, tt))))))))))))))))))))))))))))))))))
 
 -- ---- late and doubled
@@ -376,7 +375,7 @@ said_of (d ∷ ds) = d.reading ∷ said_of ds
 late-said : said_of (run (fresh_half 16) late).end.into.tried
     ≡ says.Opened 2 6 23 5 1 ∷ says.Dropped reason.TooOld ∷ says.Opened 2 69 23 5 1 ∷ says.Dropped reason.TooOld ∷ says.Dropped reason.Seen
     ∷ says.Dropped reason.Seen ∷ says.Opened 2 68 23 5 1 ∷ says.Opened 2 5 23 5 1 ∷ []
-unfolding late sealed_as arrives doubled invented choose both either splice bit ask_sound ask_keyed opening_sound question_sound is_sound counted nonce_of inner_of unmasked rebuilt judged masked_at masked_by masking mask_step typed opened_at opened_by openings opened_step cancelled_ask cancelled fresh_of key_of leaving removed_by remove_of encrypt_of release_of begin_of header_length fragment_len partial_of parse_ciphertext is_type is_version is_plaintext plaintext_header parse_plaintext parsed unified_header locked_step sealed_step step_of opening_asked asked_again asking read_step fits last_fit find or_else two resolve was_found is_keyed marked app_one apps windows_sound keys_sound is_full installed left_at left masked_header own below above nearest expected verdict marking upd key_owed keys resolves_to sealed_size plain_size record_size good_plain removed_from removed remove_owed begun begin_owed after_read after_mask after_open
+unfolding late sealed_as arrives doubled invented choose both either splice bit ask_sound ask_keyed opening_sound question_sound is_sound counted nonce_of inner_of unmasked rebuilt judged masked_at masked_by masking mask_step typed opened_at opened_by openings opened_step cancelled_ask cancelled fresh_of key_of leaving removed_by remove_of encrypt_of release_of begin_of header_length fragment_len partial_of parse_ciphertext is_type is_version is_plaintext plaintext_header parse_plaintext parsed unified_header locked_step sealed_step step_of opening_asked asked_again asking read_step fits last_fit find two resolve was_found is_keyed marked app_one apps windows_sound keys_sound is_full installed left_at left masked_header own below above nearest expected verdict marking upd key_owed keys resolves_to sealed_size plain_size record_size good_plain removed_from removed remove_owed begun begin_owed after_read after_mask after_open
 late-said = refl
 
 -- a record's number is brought back, condition by condition, where these numbers are used
@@ -395,7 +394,7 @@ known-after used t e r u sent same on found near enough = record {
 late-known : (z : Tried) → Known (last_of (earlier (run (fresh_half 16) late).end.into.tried) z).trial 2 (sealed_as 2 5 5)
     × Known (last_of (earlier (earlier (earlier (run (fresh_half 16) late).end.into.tried))) z).trial 2 (sealed_as 2 4 4)
     × Known (last_of (earlier (earlier (earlier (earlier (earlier (run (fresh_half 16) late).end.into.tried))))) z).trial 2 (sealed_as 2 5 5)
-unfolding late sealed_as arrives doubled invented choose both either splice bit ask_sound ask_keyed opening_sound question_sound is_sound counted nonce_of inner_of unmasked rebuilt judged masked_at masked_by masking mask_step typed opened_at opened_by openings opened_step cancelled_ask cancelled fresh_of key_of leaving removed_by remove_of encrypt_of release_of begin_of header_length fragment_len partial_of parse_ciphertext is_type is_version is_plaintext plaintext_header parse_plaintext parsed unified_header locked_step sealed_step step_of opening_asked asked_again asking read_step fits last_fit find or_else two resolve was_found is_keyed marked app_one apps windows_sound keys_sound is_full installed left_at left masked_header own below above nearest expected verdict marking upd key_owed keys resolves_to sealed_size plain_size record_size good_plain removed_from removed remove_owed begun begin_owed after_read after_mask after_open
+unfolding late sealed_as arrives doubled invented choose both either splice bit ask_sound ask_keyed opening_sound question_sound is_sound counted nonce_of inner_of unmasked rebuilt judged masked_at masked_by masking mask_step typed opened_at opened_by openings opened_step cancelled_ask cancelled fresh_of key_of leaving removed_by remove_of encrypt_of release_of begin_of header_length fragment_len partial_of parse_ciphertext is_type is_version is_plaintext plaintext_header parse_plaintext parsed unified_header locked_step sealed_step step_of opening_asked asked_again asking read_step fits last_fit find two resolve was_found is_keyed marked app_one apps windows_sound keys_sound is_full installed left_at left masked_header own below above nearest expected verdict marking upd key_owed keys resolves_to sealed_size plain_size record_size good_plain removed_from removed remove_owed begun begin_owed after_read after_mask after_open
 late-known z = (
   known-after (69 ∷ 68 ∷ 5 ∷ []) _ 2 (sealed_as 2 5 5) refl (there (there (there (here refl)))) refl refl refl (omega arith) (omega arith),
   known-after (68 ∷ 5 ∷ []) _ 2 (sealed_as 2 4 4) refl (there (there (there (there (here refl))))) refl refl refl (omega arith) (omega arith),
@@ -403,14 +402,14 @@ late-known z = (
 )
 
 late-honest : Honest one_mask (fresh_half 16) late
-unfolding one_mask late sealed_as arrives doubled invented choose both either splice bit ask_sound ask_keyed opening_sound question_sound is_sound counted nonce_of inner_of unmasked rebuilt judged masked_at masked_by masking mask_step typed opened_at opened_by openings opened_step cancelled_ask cancelled fresh_of key_of leaving removed_by remove_of encrypt_of release_of begin_of header_length fragment_len partial_of parse_ciphertext is_type is_version is_plaintext plaintext_header parse_plaintext parsed unified_header locked_step sealed_step step_of opening_asked asked_again asking read_step fits last_fit find or_else two resolve was_found is_keyed marked app_one apps windows_sound keys_sound is_full installed left_at left masked_header own below above nearest expected verdict marking upd key_owed keys resolves_to sealed_size plain_size record_size good_plain removed_from removed remove_owed begun begin_owed after_read after_mask after_open
+unfolding one_mask late sealed_as arrives doubled invented choose both either splice bit ask_sound ask_keyed opening_sound question_sound is_sound counted nonce_of inner_of unmasked rebuilt judged masked_at masked_by masking mask_step typed opened_at opened_by openings opened_step cancelled_ask cancelled fresh_of key_of leaving removed_by remove_of encrypt_of release_of begin_of header_length fragment_len partial_of parse_ciphertext is_type is_version is_plaintext plaintext_header parse_plaintext parsed unified_header locked_step sealed_step step_of opening_asked asked_again asking read_step fits last_fit find two resolve was_found is_keyed marked app_one apps windows_sound keys_sound is_full installed left_at left masked_header own below above nearest expected verdict marking upd key_owed keys resolves_to sealed_size plain_size record_size good_plain removed_from removed remove_owed begun begin_owed after_read after_mask after_open
 late-honest = (tt, (tt, (shape 2 4 4 (omega arith), (shape 2 5 5 (omega arith), (shape 2 6 6 (omega arith), (shape 2 68 7 (omega arith), (shape 2 69 8 (omega arith), (tt, (tt, ((refl, λ s. refl), (tt, (λ right. yes_fair (sealed_as 2 69 8 ∷ sealed_as 2 68 7 ∷ sealed_as 2 6 6 ∷ sealed_as 2 5 5 ∷ sealed_as 2 4 4 ∷ []) (sealed_as 2 5 5) (there (there (there (here refl)))) refl _ refl, (tt, (tt, ((refl, λ s. refl), (tt, (λ right. yes_fair (sealed_as 2 69 8 ∷ sealed_as 2 68 7 ∷ sealed_as 2 6 6 ∷ sealed_as 2 5 5 ∷ sealed_as 2 4 4 ∷ []) (sealed_as 2 68 7) (there (here refl)) refl _ refl, (tt, (tt, ((refl, λ s. refl), (tt, (tt, ((refl, λ s. refl), (tt, (tt, ((refl, λ s. refl), (tt, (tt, ((refl, λ s. refl), (tt, (λ right. yes_fair (sealed_as 2 69 8 ∷ sealed_as 2 68 7 ∷ sealed_as 2 6 6 ∷ sealed_as 2 5 5 ∷ sealed_as 2 4 4 ∷ []) (sealed_as 2 69 8) (here refl) refl _ refl, (tt, (tt, ((refl, λ s. refl), (tt, (tt, ((refl, λ s. refl), (tt, (λ right. yes_fair (sealed_as 2 69 8 ∷ sealed_as 2 68 7 ∷ sealed_as 2 6 6 ∷ sealed_as 2 5 5 ∷ sealed_as 2 4 4 ∷ []) (sealed_as 2 6 6) (there (there (here refl))) refl _ refl, tt)))))))))))))))))))))))))))))))))))))))
 
 -- ---- the first records of an epoch after a gap
 
 -- a record that the cipher does not open under the number rebuilt from its bits
 refused : Sealed → List Event → List Event
-refused r rest = here· (begin· r.wire) ∷ here· read· ∷ here· (mask· (1 ∷ 2 ∷ [])) ∷ here· (open· reply.No) ∷ rest
+refused r rest = here· (begin· r.wire) ∷ here· read· ∷ here· (mask· (1 ∷ 2 ∷ [])) ∷ here· (open· None) ∷ rest
 
 -- nothing used in any of three epochs: the first to arrive are 65,536, 40,000 and 65,535
 gap : List Event
@@ -423,14 +422,14 @@ gap =
 gap-hands : ((run (fresh_half 16) gap).end.into.handed 2 ≡ record { num = 40000; type = 23; content = 1 ∷ [] } ∷ [])
     × ((run (fresh_half 16) gap).end.into.handed 3 ≡ record { num = 65535; type = 23; content = 2 ∷ [] } ∷ [])
     × ((run (fresh_half 16) gap).end.into.handed 4 ≡ [])
-unfolding gap sealed_as arrives refused choose both either splice bit ask_sound ask_keyed opening_sound question_sound is_sound counted nonce_of inner_of unmasked rebuilt judged masked_at masked_by masking mask_step typed opened_at opened_by openings opened_step cancelled_ask cancelled fresh_of key_of leaving removed_by remove_of encrypt_of release_of begin_of header_length fragment_len partial_of parse_ciphertext is_type is_version is_plaintext plaintext_header parse_plaintext parsed unified_header locked_step sealed_step step_of opening_asked asked_again asking read_step fits last_fit find or_else two resolve was_found is_keyed marked app_one apps windows_sound keys_sound is_full installed left_at left masked_header own below above nearest expected verdict marking upd key_owed keys resolves_to sealed_size plain_size record_size good_plain removed_from removed remove_owed begun begin_owed after_read after_mask after_open
+unfolding gap sealed_as arrives refused choose both either splice bit ask_sound ask_keyed opening_sound question_sound is_sound counted nonce_of inner_of unmasked rebuilt judged masked_at masked_by masking mask_step typed opened_at opened_by openings opened_step cancelled_ask cancelled fresh_of key_of leaving removed_by remove_of encrypt_of release_of begin_of header_length fragment_len partial_of parse_ciphertext is_type is_version is_plaintext plaintext_header parse_plaintext parsed unified_header locked_step sealed_step step_of opening_asked asked_again asking read_step fits last_fit find two resolve was_found is_keyed marked app_one apps windows_sound keys_sound is_full installed left_at left masked_header own below above nearest expected verdict marking upd key_owed keys resolves_to sealed_size plain_size record_size good_plain removed_from removed remove_owed begun begin_owed after_read after_mask after_open
 gap-hands = (refl, refl, refl)
 
 -- and so they were due; 65,536 would be, were it in reach
 gap-due : (z : Tried) → Due (last_of (earlier (run (fresh_half 16) gap).end.into.tried) z).trial 2 (sealed_as 2 40000 1)
     × Due (last_of (run (fresh_half 16) gap).end.into.tried z).trial 3 (sealed_as 3 65535 2)
     × (65536 < reach_of [] → Due (last_of (earlier (earlier (run (fresh_half 16) gap).end.into.tried)) z).trial 4 (sealed_as 4 65536 3))
-unfolding gap sealed_as arrives refused choose both either splice bit ask_sound ask_keyed opening_sound question_sound is_sound counted nonce_of inner_of unmasked rebuilt judged masked_at masked_by masking mask_step typed opened_at opened_by openings opened_step cancelled_ask cancelled fresh_of key_of leaving removed_by remove_of encrypt_of release_of begin_of header_length fragment_len partial_of parse_ciphertext is_type is_version is_plaintext plaintext_header parse_plaintext parsed unified_header locked_step sealed_step step_of opening_asked asked_again asking read_step fits last_fit find or_else two resolve was_found is_keyed marked app_one apps windows_sound keys_sound is_full installed left_at left masked_header own below above nearest expected verdict marking upd key_owed keys resolves_to sealed_size plain_size record_size good_plain removed_from removed remove_owed begun begin_owed after_read after_mask after_open
+unfolding gap sealed_as arrives refused choose both either splice bit ask_sound ask_keyed opening_sound question_sound is_sound counted nonce_of inner_of unmasked rebuilt judged masked_at masked_by masking mask_step typed opened_at opened_by openings opened_step cancelled_ask cancelled fresh_of key_of leaving removed_by remove_of encrypt_of release_of begin_of header_length fragment_len partial_of parse_ciphertext is_type is_version is_plaintext plaintext_header parse_plaintext parsed unified_header locked_step sealed_step step_of opening_asked asked_again asking read_step fits last_fit find two resolve was_found is_keyed marked app_one apps windows_sound keys_sound is_full installed left_at left masked_header own below above nearest expected verdict marking upd key_owed keys resolves_to sealed_size plain_size record_size good_plain removed_from removed remove_owed begun begin_owed after_read after_mask after_open
 gap-due z = (
   due-after [] _ 2 (sealed_as 2 40000 1) refl (here refl) refl refl (omega arith) refl refl (omega arith) (omega arith),
   due-after [] _ 3 (sealed_as 3 65535 2) refl (here refl) refl refl (omega arith) refl refl (omega arith) (omega arith),
@@ -438,5 +437,5 @@ gap-due z = (
 )
 
 gap-honest : Honest one_mask (fresh_half 16) gap
-unfolding one_mask gap sealed_as arrives refused choose both either splice bit ask_sound ask_keyed opening_sound question_sound is_sound counted nonce_of inner_of unmasked rebuilt judged masked_at masked_by masking mask_step typed opened_at opened_by openings opened_step cancelled_ask cancelled fresh_of key_of leaving removed_by remove_of encrypt_of release_of begin_of header_length fragment_len partial_of parse_ciphertext is_type is_version is_plaintext plaintext_header parse_plaintext parsed unified_header locked_step sealed_step step_of opening_asked asked_again asking read_step fits last_fit find or_else two resolve was_found is_keyed marked app_one apps windows_sound keys_sound is_full installed left_at left masked_header own below above nearest expected verdict marking upd key_owed keys resolves_to sealed_size plain_size record_size good_plain removed_from removed remove_owed begun begin_owed after_read after_mask after_open
+unfolding one_mask gap sealed_as arrives refused choose both either splice bit ask_sound ask_keyed opening_sound question_sound is_sound counted nonce_of inner_of unmasked rebuilt judged masked_at masked_by masking mask_step typed opened_at opened_by openings opened_step cancelled_ask cancelled fresh_of key_of leaving removed_by remove_of encrypt_of release_of begin_of header_length fragment_len partial_of parse_ciphertext is_type is_version is_plaintext plaintext_header parse_plaintext parsed unified_header locked_step sealed_step step_of opening_asked asked_again asking read_step fits last_fit find two resolve was_found is_keyed marked app_one apps windows_sound keys_sound is_full installed left_at left masked_header own below above nearest expected verdict marking upd key_owed keys resolves_to sealed_size plain_size record_size good_plain removed_from removed remove_owed begun begin_owed after_read after_mask after_open
 gap-honest = (tt, (tt, (tt, (tt, (shape 2 40000 1 (omega arith), (shape 3 65535 2 (omega arith), (shape 4 65536 3 (omega arith), (tt, (tt, ((refl, λ s. refl), (λ right. no_fair (sealed_as 4 65536 3 ∷ []) 0 _ _ refl, (tt, (tt, ((refl, λ s. refl), (tt, (λ right. yes_fair (sealed_as 2 40000 1 ∷ []) (sealed_as 2 40000 1) (here refl) refl _ refl, (tt, (tt, ((refl, λ s. refl), (tt, (λ right. yes_fair (sealed_as 3 65535 2 ∷ []) (sealed_as 3 65535 2) (here refl) refl _ refl, tt)))))))))))))))))))))

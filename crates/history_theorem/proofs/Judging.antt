@@ -1,5 +1,5 @@
 -- 9 and 26 are said in reply to a mask alone, by the number that it brings out of the record, whatever arrived. Assumes nothing.
-use Rattle.std.specs.Prelude.{ℕ, ◌+◌, ◌*◌, ◌/◌, ◌%◌, ◌^◌, ◌<◌, ◌≤◌, eqb, length, get_or, drop, Bool, true, false, ◌||◌, List, ◌↔◌}
+use Rattle.std.specs.Prelude.{ℕ, ◌+◌, ◌*◌, ◌/◌, ◌%◌, ◌^◌, ◌<◌, ◌≤◌, eqb, length, get_or, drop, Bool, true, false, ◌||◌, List, ◌↔◌, Some, None, Option}
 use Rattle.std.specs.Int.Bits.{bit_xor}
 use Rattle.std.proofs.Common.{get_or-drop, sym, subst, ◌∙◌, arith}
 use Rattle.std.proofs.lemmas.Bool.{false≢true}
@@ -12,7 +12,6 @@ use Rattle.datagram.specs.declared.Reading.TheVariants as says
 use Rattle.datagram.specs.declared.Reading.{Reading}
 use Rattle.datagram.specs.declared.Reason.TheVariants as reason
 use Rattle.datagram.specs.declared.Step.{Step}
-use Rattle.incoming.specs.declared.Inner.TheVariants as inner
 use Rattle.incoming.specs.declared.Inner.{Inner}
 use Rattle.mask_reply.specs.Mask.{unmasked, rebuilt, ruled, judged}
 use Rattle.mask_reply.proofs.Undamaged.{two-under, one-under}
@@ -22,9 +21,7 @@ use Rattle.record.specs.declared.Ciphertext.{Ciphertext}
 use Rattle.record.specs.declared.Parsed.TheVariants as parse
 use Rattle.record.specs.declared.Parsed.{Parsed}
 use Rattle.records.specs.Records.{locked_step, sealed_step, step_of, opening_asked}
-use Rattle.recv_keys.specs.Keys.{resolve}
-use Rattle.recv_keys.specs.declared.Found.TheVariants as found
-use Rattle.recv_keys.specs.declared.Found.{Found}
+use Rattle.recv_keys.specs.Keys.{resolve, Found}
 use Rattle.recv_keys.specs.declared.RecvEpochEntry.{RecvEpochEntry}
 use Rattle.recv_keys.specs.declared.RecvKeys.{RecvKeys}
 use Rattle.sequence.proofs.Laws.{only-nearest}
@@ -61,8 +58,8 @@ module _ (k : RecvKeys) (b : Datagram) where
 
   locked_unruled : (f : Found) (c : Ciphertext) → Unruled (locked_step f k b c)
   unfolding locked_step
-  locked_unruled found.Nothing c = refl
-  locked_unruled (found.At i) c = by_test Unruled (λ f. refl) (λ f. by_test Unruled (λ g. refl) (λ g. refl))
+  locked_unruled None c = refl
+  locked_unruled (Some i) c = by_test Unruled (λ f. refl) (λ f. by_test Unruled (λ g. refl) (λ g. refl))
 
   -- a read
   pub read_unruled : (p : Parsed) → Unruled (step_of p k b)
@@ -75,10 +72,10 @@ module _ (k : RecvKeys) (b : Datagram) where
       by_test Unruled (λ f. locked_unruled (resolve k c.epoch_bits) c) (λ f. by_test Unruled (λ g. refl) (λ g. counted_unruled _ _ refl))
 
   -- a yes to an opening question
-  pub typed_unruled : (a : Ask) (n : ℕ) (v : Inner) → Unruled (typed b a n v)
+  pub typed_unruled : (a : Ask) (n : ℕ) (v : Option Inner) → Unruled (typed b a n v)
   unfolding typed
-  typed_unruled a n inner.Nothing = refl
-  typed_unruled a n (inner.Found t l) = counted_unruled _ _ refl
+  typed_unruled a n None = refl
+  typed_unruled a n (Some held) = counted_unruled _ _ refl
 
 -- ---- a number judged
 

@@ -1,6 +1,6 @@
 -- An opening reply: a yes of the right length marks exactly the number of the question, settles the record, and hands over what it shows.
 -- Assumes nothing.
-use Rattle.std.specs.Prelude.{ℕ, ◌<◌, ◌≤◌, length, Bool, ◌≡◌}
+use Rattle.std.specs.Prelude.{ℕ, ◌<◌, ◌≤◌, length, Bool, ◌≡◌, Some, None}
 use borrow.Author.Tests.{leb-true, leb-false}
 use mathlib.Core.List.{List, ◌∷◌, Memᴰ as Mem}
 use Rattle.std.proofs.Math.Option.{Option}
@@ -11,13 +11,12 @@ use Rattle.datagram.specs.Datagram.{counted, end_asked}
 use Rattle.datagram.specs.declared.Ask.{Ask}
 use Rattle.datagram.specs.declared.Datagram.{Datagram}
 use Rattle.datagram.specs.declared.Step.{Step}
-use Rattle.incoming.specs.declared.Inner.TheVariants as inner
+use Rattle.std.specs.declared.option.Option as code
 use Rattle.incoming.specs.declared.Inner.{Inner}
 use Rattle.opening_reply.specs.Opening.{typed, shown_by}
 use Rattle.recv_keys.specs.Keeps.{found-epoch}
 use Rattle.recv_keys.specs.Keys.{entry_at, find, marked}
 use Rattle.recv_keys.specs.Laws.{found-keyed}
-use Rattle.recv_keys.specs.declared.Found.TheVariants as found
 use Rattle.recv_keys.specs.declared.RecvKeys.{RecvKeys}
 use Rattle.window.proofs.Used.{tells}
 use Rattle.window.specs.Window.{verdict}
@@ -45,9 +44,9 @@ module _ (l : RecvKeys) (ivs : ℕ → List ℕ) (b : Datagram) (a : Ask) (n : �
   few : b.readings < 16 → b.readings ≤ 15
   few h = omega arith
 
-  pub typed-settles : (v : Inner) → Settles l ivs b d to end (out_by l (typed b a n v) d)
+  pub typed-settles : (v : code.Option Inner) → Settles l ivs b d to end (out_by l (typed b a n v) d)
   unfolding typed counted
-  typed-settles inner.Nothing = record {
+  typed-settles None = record {
     moves = record { size = refl; long = refl; goes = (refl, sym e, refl) };
     fate = refl;
     asked = tt;
@@ -56,7 +55,7 @@ module _ (l : RecvKeys) (ivs : ℕ → List ℕ) (b : Datagram) (a : Ask) (n : �
     shows = λ r s. tt;
     stops = λ r w. w;
   }
-  typed-settles (inner.Found t len) =
+  typed-settles (Some held) =
       by_test (λ x. Settles l ivs b d to end (out_by l x d))
       (λ f. record {
         moves = record { size = refl; long = refl; goes = (refl, sym (if_true _ _ f ∙ whole), refl) };
@@ -81,16 +80,16 @@ module _ (l : RecvKeys) (ivs : ℕ → List ℕ) (b : Datagram) (a : Ask) (n : �
     abbrev Handing : Step → Type 0
     Handing x = Hands (upd used a.epoch (n ∷ used a.epoch)) (handed_by x.reading (shown_by x.reading d) handed)
 
-    pub typed-hands : (v : Inner) → Handing (typed b a n v)
+    pub typed-hands : (v : code.Option Inner) → Handing (typed b a n v)
     unfolding typed counted
-    typed-hands inner.Nothing = spend_hands h a.epoch n
-    typed-hands (inner.Found t len) =
-        by_test Handing (λ f. spend_hands h a.epoch n) (λ f. hand_hands h a.epoch (record { num = n; type = t; content = _ }) new)
+    typed-hands None = spend_hands h a.epoch n
+    typed-hands (Some held) =
+        by_test Handing (λ f. spend_hands h a.epoch n) (λ f. hand_hands h a.epoch (record { num = n; type = held.content_type; content = _ }) new)
 
 -- ---- what it does to the table
 
 module _ (k : RecvKeys) (used ivs : ℕ → List ℕ) (tab : Table k used ivs) (e i n : ℕ) (long : length k.entries ≡ 5) (count : k.count ≤ 5)
-    (f : find k.entries e k.count ≡ found.At i) where
+    (f : find k.entries e k.count ≡ Some i) where
   within : i < k.count
   within = found-keyed k.entries e k.count i f
 

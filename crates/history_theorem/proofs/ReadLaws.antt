@@ -1,6 +1,6 @@
 -- A read and a mask reply: where the record leads is what the claim's account says, no window moves, nothing is handed over, and a read says
 -- plaintext and unopened where that is due. Assumes nothing.
-use Rattle.std.specs.Prelude.{ℕ, ◌+◌, ◌-◌, ◌/◌, ◌%◌, ◌<◌, ◌≤◌, eqb, get_or, drop, Bool, true, false, ◌≡◌}
+use Rattle.std.specs.Prelude.{ℕ, ◌+◌, ◌-◌, ◌/◌, ◌%◌, ◌<◌, ◌≤◌, eqb, get_or, drop, Bool, true, false, ◌≡◌, Some, None}
 use borrow.Author.Tests.{leb-true, leb-false, le-ltb, lt-leb, eqb-true, eqb-false}
 use Rattle.std.proofs.Math.ListN.{length, length-drop}
 use Rattle.std.proofs.Common.{◌∙◌, arith}
@@ -31,10 +31,8 @@ use Rattle.record.specs.declared.Parsed.{Parsed}
 use Rattle.record.specs.declared.Plaintext.{Plaintext}
 use Rattle.records.specs.Records.{locked_step, sealed_step, step_of, opening_asked}
 use Rattle.recv_keys.specs.Keeps.{found-epoch}
-use Rattle.recv_keys.specs.Keys.{entry_at, find, resolve, was_found, is_keyed}
+use Rattle.recv_keys.specs.Keys.{entry_at, find, resolve, was_found, is_keyed, Found}
 use Rattle.recv_keys.specs.Laws.{found-keyed}
-use Rattle.recv_keys.specs.declared.Found.TheVariants as found
-use Rattle.recv_keys.specs.declared.Found.{Found}
 use Rattle.recv_keys.specs.declared.RecvKeys.{RecvKeys}
 use Rattle.history_theorem.specs.Account.{plain_head, head_size, said_size, record_size, good_plain}
 use Rattle.history_theorem.specs.Claim.{Real, SaysPlaintext, SaysUnopened, Shows, There, Ends, RightNonce}
@@ -118,8 +116,8 @@ module _ (k : RecvKeys) (used ivs : ℕ → List ℕ) (tab : Table k used ivs) (
   locked-quiet : (c : Ciphertext) (f : Found) → to ≡ epoch_at k.entries f → end ≡ b.at + c.header_len + c.length
       → Calm (reads_out k (locked_step f k b c) d₀)
   unfolding locked_step
-  locked-quiet c found.Nothing q e = passed-quiet d₀ refl _ _ e
-  locked-quiet c (found.At i) q e =
+  locked-quiet c None q e = passed-quiet d₀ refl _ _ e
+  locked-quiet c (Some i) q e =
       by_test (λ t. Calm (reads_out k t d₀)) (λ f. passed-quiet d₀ refl _ _ e)
       (λ f. by_test (λ t. Calm (reads_out k t d₀)) (λ g. passed-quiet d₀ refl _ _ e)
       (λ g. record {
@@ -175,8 +173,8 @@ module _ (k : RecvKeys) (used ivs : ℕ → List ℕ) (tab : Table k used ivs) (
 
   locked-flag : (rest : List ℕ) (c : Ciphertext) → c.s_flag ≡ eqb (get_or rest 0 0 / 8 % 2) 1 → (f : Found) → Flagged rest (locked_step f k b c)
   unfolding locked_step
-  locked-flag rest c s found.Nothing = tt
-  locked-flag rest c s (found.At i) = by_test (Flagged rest) (λ f. tt) (λ f. by_test (Flagged rest) (λ g. tt) (λ g. s))
+  locked-flag rest c s None = tt
+  locked-flag rest c s (Some i) = by_test (Flagged rest) (λ f. tt) (λ f. by_test (Flagged rest) (λ g. tt) (λ g. s))
 
   pub read-flag : (rest : List ℕ) (p : Parsed) (size : ℕ) → Cuts rest size p → Flagged rest (step_of p k b)
   unfolding step_of sealed_step
@@ -198,8 +196,8 @@ module _ (k : RecvKeys) (used ivs : ℕ → List ℕ) (tab : Table k used ivs) (
 
   locked-shows : (rest : List ℕ) (c : Ciphertext) (f : Found) → Told rest (locked_step f k b c)
   unfolding locked_step
-  locked-shows rest c found.Nothing = tt
-  locked-shows rest c (found.At i) = by_test (Told rest) (λ f. tt) (λ f. by_test (Told rest) (λ g. tt) (λ g. tt))
+  locked-shows rest c None = tt
+  locked-shows rest c (Some i) = by_test (Told rest) (λ f. tt) (λ f. by_test (Told rest) (λ g. tt) (λ g. tt))
 
   shown-there : (rest : List ℕ) → rest ≡ drop b.at d₀ → (n m l : ℕ) → n ≡ m → part (b.at + n) l d₀ ≡ part m l rest
   shown-there rest q n m l e = sym (part-behind b.at n l d₀) ∙ ap (λ (x : List ℕ). part n l x) (sym q) ∙ ap (λ (x : ℕ). part x l rest) e
@@ -244,8 +242,8 @@ module _ (k : RecvKeys) (used ivs : ℕ → List ℕ) (tab : Table k used ivs) (
 
   locked-stops : (rest : List ℕ) → There rest → (c : Ciphertext) (f : Found) → Stops rest (locked_step f k b c)
   unfolding locked_step
-  locked-stops rest w c found.Nothing = w
-  locked-stops rest w c (found.At i) = by_test (Stops rest) (λ f. w) (λ f. by_test (Stops rest) (λ g. w) (λ g. w))
+  locked-stops rest w c None = w
+  locked-stops rest w c (Some i) = by_test (Stops rest) (λ f. w) (λ f. by_test (Stops rest) (λ g. w) (λ g. w))
 
   pub read-stops : (rest : List ℕ) (p : Parsed) → Finds rest p → Stops rest (step_of p k b)
   unfolding step_of sealed_step
@@ -316,7 +314,7 @@ module _ (k : RecvKeys) (used ivs : ℕ → List ℕ) (tab : Table k used ivs) (
         off (omega arith) (omega (arith, length-xors d₀ (b.at + 1) (mask_bytes a.s_flag m), long-by a.s_flag first e)))
 
   judged-quiet : (d : List ℕ) → length d ≡ length d₀ → (a : Ask) (i n : ℕ) → Held k a (b.size - b.at)
-      → find k.entries a.epoch k.count ≡ found.At i → to ≡ some a.epoch → end ≡ end_asked b a
+      → find k.entries a.epoch k.count ≡ Some i → to ≡ some a.epoch → end ≡ end_asked b a
       → Calm (masked_out k (judged (entry_at k i) b a n, d))
   unfolding opening_asked
   judged-quiet d same a i n h f to_is e =
@@ -350,6 +348,6 @@ module _ (k : RecvKeys) (used ivs : ℕ → List ℕ) (tab : Table k used ivs) (
   pub mask-quiet : (a : Ask) (m : List ℕ) → Held k a (b.size - b.at) → to ≡ some a.epoch → end ≡ end_asked b a
       → (f : Found) → find k.entries a.epoch k.count ≡ f → Calm (masked_out k (masked_by f k b a m d₀))
   unfolding masked_by masked_at was_found
-  mask-quiet a m h to_is e found.Nothing f = absurd (false≢true (ap was_found (sym f) ∙ (unfold is_keyed in h.installed)))
-  mask-quiet a m h to_is e (found.At i) f =
+  mask-quiet a m h to_is e None f = absurd (false≢true (ap was_found (sym f) ∙ (unfold is_keyed in h.installed)))
+  mask-quiet a m h to_is e (Some i) f =
       judged-quiet (unmasked d₀ b.at a.s_flag m) (masked-long a m h) a i _ h f to_is e

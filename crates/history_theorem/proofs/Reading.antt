@@ -1,5 +1,5 @@
 -- A read, a mask reply and an opening reply keep what holds between state, account and history. Assumes nothing.
-use Rattle.std.specs.Prelude.{ℕ, ◌+◌, ◌-◌, ◌/◌, ◌%◌, ◌≤◌, eqb, length, get_or, drop, Bool, false, ◌≡◌}
+use Rattle.std.specs.Prelude.{ℕ, ◌+◌, ◌-◌, ◌/◌, ◌%◌, ◌≤◌, eqb, length, get_or, drop, Bool, false, ◌≡◌, Some, None}
 use borrow.Author.Tests.{eqb-true, eqb-false}
 use Rattle.std.proofs.Math.Bool.{true}
 use Rattle.std.proofs.Common.{sym, ◌∙◌, arith}
@@ -24,20 +24,16 @@ use Rattle.incoming.specs.Inner.{inner_of}
 use Rattle.mask_reply.proofs.Leads.{by-judged, mask-asks}
 use Rattle.mask_reply.specs.Mask.{unmasked, judged, masked_at, masked_by, masking, mask_step}
 use Rattle.opening_reply.proofs.Leads.{opened-asks}
-use Rattle.opening_reply.specs.Opening.{still, typed, opened_at, opened_by, openings, opened_step, shown_by}
+use Rattle.opening_reply.specs.Opening.{still, typed, opened_at, opened_by, openings, opened_step, shown_by, Opening}
 use Rattle.opening_reply.specs.declared.Marked.{Marked}
-use Rattle.opening_reply.specs.declared.Opening.TheVariants as reply
-use Rattle.opening_reply.specs.declared.Opening.{Opening}
 use Rattle.receiving.specs.Calls.Call.{masking as answering, opening}
 use Rattle.receiving.specs.Laws.{Made, after-made}
 use Rattle.record.specs.Record.{tag_size, parsed}
 use Rattle.records.proofs.Leads.{read-asks}
 use Rattle.records.specs.Records.{step_of, opening_asked, asked_again, asking}
 use Rattle.recv_keys.specs.Keeps.{found-epoch}
-use Rattle.recv_keys.specs.Keys.{entry_at, find, was_found, is_keyed, marked}
+use Rattle.recv_keys.specs.Keys.{entry_at, find, was_found, is_keyed, marked, Found}
 use Rattle.recv_keys.specs.Laws.{found-keyed, window-at}
-use Rattle.recv_keys.specs.declared.Found.TheVariants as found
-use Rattle.recv_keys.specs.declared.Found.{Found}
 use Rattle.recv_keys.specs.declared.RecvEpochEntry.{RecvEpochEntry}
 use Rattle.recv_keys.specs.declared.RecvKeys.{RecvKeys}
 use Rattle.sequence.specs.Laws.{Nearest}
@@ -117,10 +113,10 @@ again-sound y i x v w f h q p n j = rw (f, q) (record {
 
 -- the epoch of a question is found
 pub is_found : {C : Type 0} (k : RecvKeys) (x : ℕ) (f : Found) → find k.entries x k.count ≡ f → is_keyed k x ≡ true
-    → ((j : ℕ) → f ≡ found.At j → C) → C
+    → ((j : ℕ) → f ≡ Some j → C) → C
 unfolding is_keyed was_found
-is_found k x (found.At j) q t g = g j refl
-is_found k x found.Nothing q t g = absurd (false≢true (ap was_found (sym q) ∙ t))
+is_found k x (Some j) q t g = g j refl
+is_found k x None q t g = absurd (false≢true (ap was_found (sym q) ∙ t))
 
 -- a mask reply asks no mask
 judged-next : (e : RecvEpochEntry) (b : Datagram) (a : Ask) (n x s : ℕ) → (judged e b a n).reading ≡ says.Mask x s → ⊥
@@ -129,7 +125,7 @@ judged-next e b a n x s =
     by-judged e b a n (λ (t : Step). t.reading ≡ says.Mask x s → ⊥) (λ r g. let z : ◌≡◌ {A = ℕ} 0 1 = cc in omega arith)
     (λ small fresh g. let z : ◌≡◌ {A = ℕ} 0 1 = cc in omega arith)
 
-masked-next : (j x s : ℕ) (k : RecvKeys) (b : Datagram) (a : Ask) (m d : List ℕ) → (masked_by (found.At j) k b a m d).0.reading ≡ says.Mask x s → ⊥
+masked-next : (j x s : ℕ) (k : RecvKeys) (b : Datagram) (a : Ask) (m d : List ℕ) → (masked_by (Some j) k b a m d).0.reading ≡ says.Mask x s → ⊥
 unfolding masked_by masked_at
 masked-next j x s k b a m d = judged-next (entry_at k j) b a _ x s
 
@@ -139,7 +135,7 @@ judged_quits e b a n x =
     by-judged e b a n (λ (t : Step). t.datagram.question ≡ question.Mask x → ⊥) (λ r g. let z : ◌≡◌ {A = ℕ} 0 1 = cc in omega arith)
     (λ small fresh g. let z : ◌≡◌ {A = ℕ} 0 1 = cc in omega arith)
 
-masked_quits : (j : ℕ) (x : Ask) (k : RecvKeys) (b : Datagram) (a : Ask) (m d : List ℕ) → (masked_by (found.At j) k b a m d).0.datagram.question ≡ question.Mask x → ⊥
+masked_quits : (j : ℕ) (x : Ask) (k : RecvKeys) (b : Datagram) (a : Ask) (m d : List ℕ) → (masked_by (Some j) k b a m d).0.datagram.question ≡ question.Mask x → ⊥
 unfolding masked_by masked_at
 masked_quits j x k b a m d = judged_quits (entry_at k j) b a _ x
 
@@ -148,7 +144,7 @@ not_mask-flag question.Nothing first h = tt
 not_mask-flag (question.Mask a) first h = absurd (h a refl)
 not_mask-flag (question.Opening a n) first h = tt
 
-masked-flag : (j first : ℕ) (k : RecvKeys) (b : Datagram) (a : Ask) (m d : List ℕ) → FlagAsked (masked_by (found.At j) k b a m d).0.datagram.question first
+masked-flag : (j first : ℕ) (k : RecvKeys) (b : Datagram) (a : Ask) (m d : List ℕ) → FlagAsked (masked_by (Some j) k b a m d).0.datagram.question first
 masked-flag j first k b a m d = not_mask-flag _ first (λ x. masked_quits j x k b a m d)
 
 -- nor does it read
@@ -156,7 +152,7 @@ judged-shows : (e : RecvEpochEntry) (b : Datagram) (a : Ask) (n : ℕ) (rest sho
 unfolding opening_asked
 judged-shows e b a n rest shown = by-judged e b a n (λ (t : Step). Shows t.reading rest shown) (λ r. tt) (λ small fresh. tt)
 
-masked-shows : (j : ℕ) (k : RecvKeys) (b : Datagram) (a : Ask) (m d rest shown : List ℕ) → Shows (masked_by (found.At j) k b a m d).0.reading rest shown
+masked-shows : (j : ℕ) (k : RecvKeys) (b : Datagram) (a : Ask) (m d rest shown : List ℕ) → Shows (masked_by (Some j) k b a m d).0.reading rest shown
 unfolding masked_by masked_at
 masked-shows j k b a m d rest shown = judged-shows (entry_at k j) b a _ rest shown
 
@@ -165,16 +161,16 @@ judged-stops : (e : RecvEpochEntry) (b : Datagram) (a : Ask) (n : ℕ) (rest : L
 unfolding opening_asked
 judged-stops e b a n rest m w = by-judged e b a n (λ (t : Step). Ends t.reading rest m) (λ r. w) (λ small fresh. w)
 
-masked-stops : (j : ℕ) (k : RecvKeys) (b : Datagram) (a : Ask) (m d rest : List ℕ) (n : ℕ) → There rest → Ends (masked_by (found.At j) k b a m d).0.reading rest n
+masked-stops : (j : ℕ) (k : RecvKeys) (b : Datagram) (a : Ask) (m d rest : List ℕ) (n : ℕ) → There rest → Ends (masked_by (Some j) k b a m d).0.reading rest n
 unfolding masked_by masked_at
 masked-stops j k b a m d rest n w = judged-stops (entry_at k j) b a _ rest n w
 
 -- a refused reply uses nothing
 pub use_down : (w : Shown) (p : Opening) → use_of w p turnedDown ≡ unused
-use_down w reply.No = refl
-use_down nothing (reply.Yes l) = refl
-use_down (a_mask e q) (reply.Yes l) = refl
-use_down (an_opening e n at head body) (reply.Yes l) = refl
+use_down w None = refl
+use_down nothing (Some l) = refl
+use_down (a_mask e q) (Some l) = refl
+use_down (an_opening e n at head body) (Some l) = refl
 
 module _ (y : Receiver) (i : Sound y) where
   abbrev k : RecvKeys
@@ -288,7 +284,7 @@ module _ (y : Receiver) (i : Sound y) where
       (subst (λ v. Proper a_read v (says.Mask a.epoch (b.at + a.header_len))) (sym w) refl) tt refl))
 
   -- the opening question again
-  pub again-is : (a : Ask) (n j : ℕ) → b.question ≡ question.Opening a n → find k.entries a.epoch k.count ≡ found.At j
+  pub again-is : (a : Ask) (n j : ℕ) → b.question ≡ question.Opening a n → find k.entries a.epoch k.count ≡ Some j
       → read_out y.state d
       ≡ same_again y (says.Opening a.epoch n b.at a.header_len a.length) (nonce_of (entry_at k j).iv n)
   again-is a n j q f =
@@ -351,7 +347,7 @@ module _ (y : Receiver) (i : Sound y) where
         subst (λ x. Quiet k y.account.ivs b d to end good on (masked_out k x)) (sym masked-is)
         (mask-quiet k y.used y.account.ivs i.table b d i.made.ready i.whole to end good on a m (held-mask k b (in-range y i) a q) z e _ refl)
 
-    masked-by : (P : Step × List ℕ → Type 0) → ((j : ℕ) → P (masked_by (found.At j) k b a m d)) → P (mask_step k b m d)
+    masked-by : (P : Step × List ℕ → Type 0) → ((j : ℕ) → P (masked_by (Some j) k b a m d)) → P (mask_step k b m d)
     masked-by P g =
         subst P (sym masked-is)
         (is_found k a.epoch _ refl (held-mask k b (in-range y i) a q).installed λ j f. subst (λ x. P (masked_by x k b a m d)) (sym f) (g j))
@@ -487,7 +483,7 @@ module _ (y : Receiver) (i : Sound y) where
         ∙ subst (λ (x : Question). drop (intact_from x b.at) d ≡ drop (intact_from x b.at) y.arrived) q i.intact.lies)
         (omega (arith, z.2.6)) (omega (arith, held.head, held.fits, i.whole, i.made.ready.at))
 
-    pub opened-is : (p : Opening) (j : ℕ) → find k.entries a.epoch k.count ≡ found.At j → opened_step k b p d ≡ opened_at j p k b a n d
+    pub opened-is : (p : Opening) (j : ℕ) → find k.entries a.epoch k.count ≡ Some j → opened_step k b p d ≡ opened_at j p k b a n d
     unfolding openings opened_by
     opened-is p j f =
         opened-asks k b p d (question.Opening a n) (in-range y i) i.whole q ∙ ap (λ (g : Found). opened_by g p k b a n d) f
@@ -495,21 +491,21 @@ module _ (y : Receiver) (i : Sound y) where
     opened-made : (p : Opening) (m : Marked) → opened_step k b p d ≡ m → Made (opens_to m).state
     opened-made p m e = subst (λ x. Made (opens_to x).state) e (after-made (opening p d) y.state i.made)
 
-    open_no : (j : ℕ) → find k.entries a.epoch k.count ≡ found.At j → Sound (open_by y reply.No (open_out y.state reply.No d))
+    open_no : (j : ℕ) → find k.entries a.epoch k.count ≡ Some j → Sound (open_by y None (open_out y.state None d))
     unfolding opened_at
     open_no j f =
-        let e = opened-is reply.No j f in
+        let e = opened-is None j f in
         let m : Marked = still k (passed b (end_asked b a) reason.NotOpened) in
         let c = passed-quiet k y.used y.account.ivs i.table b d i.made.ready i.whole t.resolved t.ends t.plain t.encrypted d refl
         (end_asked b a) reason.NotOpened z.2.6 in
-        subst (λ x. Sound (open_by y reply.No (opens_to x))) (sym e)
-        (subst (λ v. Sound (after y (opens_to m) v unused nothing (an_open_reply reply.No))) (sym z.1)
-        (step-sound y i (opens_to m) t unused (an_open_reply reply.No) c.moves same_keys (opened-made reply.No m e) i.table tt i.hands
-        (subst (λ w. Proper (an_open_reply reply.No) w (says.Dropped reason.NotOpened)) (sym waits-is) refl) tt tt
-        (settled-intact (opens_to m) c.moves refl refl) (none_written y (an_open_reply reply.No) (opens_to m) refl) (neither (says.Dropped reason.NotOpened) refl) tt
+        subst (λ x. Sound (open_by y None (opens_to x))) (sym e)
+        (subst (λ v. Sound (after y (opens_to m) v unused nothing (an_open_reply None))) (sym z.1)
+        (step-sound y i (opens_to m) t unused (an_open_reply None) c.moves same_keys (opened-made None m e) i.table tt i.hands
+        (subst (λ w. Proper (an_open_reply None) w (says.Dropped reason.NotOpened)) (sym waits-is) refl) tt tt
+        (settled-intact (opens_to m) c.moves refl refl) (none_written y (an_open_reply None) (opens_to m) refl) (neither (says.Dropped reason.NotOpened) refl) tt
         (i.later t z.1 (says.Dropped reason.NotOpened)) (i.waits t z.1).there (i.waits t z.1).count))
 
-    module _ (len j : ℕ) (f : find k.entries a.epoch k.count ≡ found.At j) where
+    module _ (len j : ℕ) (f : find k.entries a.epoch k.count ≡ Some j) where
       abbrev pub o : Out
       o = out_by (marked k j n) (typed b a n (inner_of (part (b.at + a.header_len) len d))) d
 
@@ -517,60 +513,60 @@ module _ (y : Receiver) (i : Sound y) where
       m = still (marked k j n) (typed b a n (inner_of (part (b.at + a.header_len) len d)))
 
       abbrev pub used-by : Use
-      used-by = use_of y.account.waits (reply.Yes len) (fate_of o.reading)
+      used-by = use_of y.account.waits (Some len) (fate_of o.reading)
 
       pub settles : Settles (marked k j n) y.account.ivs b d t.resolved t.ends o
       settles = typed-settles (marked k j n) y.account.ivs b a n d i.whole t.resolved t.ends z.2.6 _
 
       pub uses_it : used-by ≡ uses a.epoch n
       uses_it =
-          ap (λ (w : Shown). use_of w (reply.Yes len) (fate_of o.reading)) waits-is ∙ ap (λ (g : Fate). use_by g (uses a.epoch n)) settles.fate
+          ap (λ (w : Shown). use_of w (Some len) (fate_of o.reading)) waits-is ∙ ap (λ (g : Fate). use_by g (uses a.epoch n)) settles.fate
 
       fresh-one : FreshAsked k (question.Opening a n)
       fresh-one = subst (FreshAsked k) q i.asked
 
       same_place : fresh-one.0 ≡ j
-      same_place = let g = fresh-one.1 in let e : found.At fresh-one.0 ≡ found.At j = sym g ∙ f in cc
+      same_place = let g = fresh-one.1 in let e : Some fresh-one.0 ≡ Some j = sym g ∙ f in cc
 
       pub still-fresh : verdict (entry_at k j).replay n ≡ Fresh
       still-fresh = subst (λ (x : ℕ). verdict (entry_at k x).replay n ≡ Fresh) same_place fresh-one.2
 
-      yes_sound : opened_step k b (reply.Yes len) d ≡ m → len + tag_size ≡ a.length → Sound (open_by y (reply.Yes len) (open_out y.state (reply.Yes len) d))
+      yes_sound : opened_step k b (Some len) d ≡ m → len + tag_size ≡ a.length → Sound (open_by y (Some len) (open_out y.state (Some len) d))
       yes_sound e right =
           let long = i.made.long in
           let count = i.made.ready.keys.count in
           let new = yes_new k y.used y.account.ivs i.table a.epoch j n long count f still-fresh in
-          subst (λ x. Sound (open_by y (reply.Yes len) (opens_to x))) (sym e)
-          (subst (λ v. Sound (after y o v used-by (question_in o.reading o.datagram) (an_open_reply (reply.Yes len)))) (sym z.1)
-          (step-sound y i o t used-by (an_open_reply (reply.Yes len)) settles.moves
-          (yes_keys k y.used y.account.ivs i.table a.epoch j n long count f) (opened-made (reply.Yes len) m e)
+          subst (λ x. Sound (open_by y (Some len) (opens_to x))) (sym e)
+          (subst (λ v. Sound (after y o v used-by (question_in o.reading o.datagram) (an_open_reply (Some len)))) (sym z.1)
+          (step-sound y i o t used-by (an_open_reply (Some len)) settles.moves
+          (yes_keys k y.used y.account.ivs i.table a.epoch j n long count f) (opened-made (Some len) m e)
           (subst (λ u. Table (marked k j n) (spent u y.used) y.account.ivs) (sym uses_it)
           (yes_table k y.used y.account.ivs i.table a.epoch j n long count f))
           settles.asked
           (subst (λ u. Hands (spent u y.used) (handed_by o.reading (shown_by o.reading o.datagram) y.handed)) (sym uses_it)
           (typed-hands (marked k j n) y.account.ivs b a n d i.whole t.resolved t.ends z.2.6 y.used y.handed i.hands new _))
-          (subst (λ w. Proper (an_open_reply (reply.Yes len)) w o.reading) (sym waits-is)
+          (subst (λ w. Proper (an_open_reply (Some len)) w o.reading) (sym waits-is)
           (λ r. settles.fate, λ wrong. absurd (wrong (right ∙ sym z.2.4))))
           settles.nonce (settles.real t.plain t.encrypted) (settled-intact o settles.moves settles.fate refl)
-          (none_written y (an_open_reply (reply.Yes len)) o refl) (neither o.reading (typed_unruled k b a n _)) (settles.shows t.rest _) (i.later t z.1 o.reading)
+          (none_written y (an_open_reply (Some len)) o refl) (neither o.reading (typed_unruled k b a n _)) (settles.shows t.rest _) (i.later t z.1 o.reading)
           (subst (λ (x : ℕ). Ends o.reading t.rest x) (sym ((i.waits t z.1).count ∙ i.tally.readings)) (settles.stops t.rest (i.waits t z.1).there))
           (i.waits t z.1).count))
 
-      open-yes : Sound (open_by y (reply.Yes len) (open_out y.state (reply.Yes len) d))
+      open-yes : Sound (open_by y (Some len) (open_out y.state (Some len) d))
       unfolding opened_at
       open-yes =
-          let e = opened-is (reply.Yes len) j f in
+          let e = opened-is (Some len) j f in
           test_cases (eqb len (a.length - tag_size))
           (λ u. let r : len ≡ a.length - tag_size = eqb-true _ _ u in yes_sound (e ∙ if_true _ _ u) (omega (arith, held.tag)))
           (λ u.
           let ne = eqb-false len (a.length - tag_size) u in
-          open_down (reply.Yes len) (e ∙ if_false _ _ u)
-          (subst (λ w. Proper (an_open_reply (reply.Yes len)) w says.Reply) (sym waits-is)
+          open_down (Some len) (e ∙ if_false _ _ u)
+          (subst (λ w. Proper (an_open_reply (Some len)) w says.Reply) (sym waits-is)
           (λ r. absurd (ne (omega (arith, z.2.4))), λ w. refl)))
 
-    opens_by : (p : Opening) (j : ℕ) → find k.entries a.epoch k.count ≡ found.At j → Sound (open_by y p (open_out y.state p d))
-    opens_by reply.No j f = open_no j f
-    opens_by (reply.Yes len) j f = open-yes len j f
+    opens_by : (p : Opening) (j : ℕ) → find k.entries a.epoch k.count ≡ Some j → Sound (open_by y p (open_out y.state p d))
+    opens_by None j f = open_no j f
+    opens_by (Some len) j f = open-yes len j f
 
   opens : (p : Opening) (q : Question) → b.question ≡ q → UnderWay q b.at y.account.waits y.trial → Sound (open_by y p (open_out y.state p d))
   opens p question.Nothing q z =

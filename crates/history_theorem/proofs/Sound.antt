@@ -1,6 +1,6 @@
 -- What holds between the real state, the claim's account and the history at a receiving end; a reading call that is not refused keeps it.
 -- Assumes nothing.
-use Rattle.std.specs.Prelude.{ℕ, ◌+◌, ◌/◌, ◌%◌, ◌≤◌, eqb, length, get_or, drop, ◌≡◌, refl}
+use Rattle.std.specs.Prelude.{ℕ, ◌+◌, ◌/◌, ◌%◌, ◌≤◌, eqb, length, get_or, drop, ◌≡◌, refl, Some}
 use mathlib.Core.List.Memᴰ.{head as here}
 use mathlib.Core.List.Memᴰ.{tail as there}
 use mathlib.Core.List.{List, ◌∷◌, Memᴰ as Mem}
@@ -17,7 +17,6 @@ use Rattle.opening_reply.specs.Opening.{shown_by}
 use Rattle.receiving.specs.Laws.{Made}
 use Rattle.receiving.specs.declared.Receiving.{Receiving}
 use Rattle.recv_keys.specs.Keys.{entry_at, find}
-use Rattle.recv_keys.specs.declared.Found.TheVariants as found
 use Rattle.recv_keys.specs.declared.RecvKeys.{RecvKeys}
 use Rattle.window.specs.Window.{verdict}
 use Rattle.window.specs.declared.Verdict.TheVariants.{Fresh}
@@ -56,7 +55,7 @@ abbrev pub FreshAsked : RecvKeys → Question → Type 0
 FreshAsked k question.Nothing = Unit {0}
 FreshAsked k (question.Mask a) = Unit {0}
 FreshAsked k (question.Opening a n) =
-    (i : ℕ) × (find k.entries a.epoch k.count ≡ found.At i) × (verdict (entry_at k i).replay n ≡ Fresh)
+    (i : ℕ) × (find k.entries a.epoch k.count ≡ Some i) × (verdict (entry_at k i).replay n ≡ Fresh)
 
 -- what was handed over has a number that was used, and no two have one
 pub record Hands (used : ℕ → List ℕ) (handed : ℕ → List Handed) : Type 0 where

@@ -2,7 +2,8 @@
 -- against the numbers used, its IVs; what keying, removing and marking do to it. Assumes nothing.
 use Prim.Native.Nat.{ℕ, zero, suc, ◌+◌, ◌-◌, ◌%◌, ◌<◌, ◌≤◌}
 use borrow.Author.Tests.{eq-eqb, ne_eqb, leb-true, le-leb, ltb-true, ltb-false}
-use Rattle.std.specs.Prelude.{ltb, leb, eqb, length, get_or, Bool}
+use Rattle.std.specs.Option.{option_or}
+use Rattle.std.specs.Prelude.{ltb, leb, eqb, length, get_or, Bool, Some, None}
 use Rattle.std.proofs.Math.Bool.{true, false, not}
 use Rattle.std.proofs.Common.{◌∙◌, add-one}
 use mathlib.Core.List.{List, [], ◌∷◌, Memᴰ as Mem}
@@ -21,9 +22,7 @@ use Rattle.recv_keys.specs.Keeps.{
   marked_other,
   marked-epoch,
 }
-use Rattle.recv_keys.specs.Keys.{no_entry, entry_at, fits, last_fit, find, or_else, two, resolve, was_found, marked_entry, marked, app_one, apps, is_full, installed, left}
-use Rattle.recv_keys.specs.declared.Found.TheVariants.{At, Nothing}
-use Rattle.recv_keys.specs.declared.Found.{Found}
+use Rattle.recv_keys.specs.Keys.{no_entry, entry_at, fits, last_fit, find, two, resolve, was_found, marked_entry, marked, app_one, apps, is_full, installed, left, Found}
 use Rattle.recv_keys.specs.declared.RecvEpochEntry.{RecvEpochEntry}
 use Rattle.recv_keys.specs.declared.RecvKeys.{RecvKeys}
 use Rattle.window.specs.Used.{Agrees}
@@ -68,8 +67,8 @@ apps_in l (suc n) =
     nothing-more x = omega arith
 
 abbrev pub epoch_at : List RecvEpochEntry → Found → Option ℕ
-epoch_at l (At i) = some (get_or l i no_entry).epoch
-epoch_at l Nothing = none
+epoch_at l (Some i) = some (get_or l i no_entry).epoch
+epoch_at l None = none
 
 same-fit : (e bits : ℕ) → fits e bits ≡ both (leb 3 e) (eqb (e % 4) bits)
 unfolding fits both
@@ -104,33 +103,33 @@ unfolding both choose
 not_bits h out last = or-two-none last
 
 -- with no epoch 2 to mean, the last application epoch that fits
-fit-alone : (l : List RecvEpochEntry) (out : Bool) (f : Found) → epoch_at l (choose out (or_else f Nothing) (or_else Nothing f)) ≡ epoch_at l f
-unfolding choose or_else
-fit-alone l true (At i) = refl
-fit-alone l true Nothing = refl
+fit-alone : (l : List RecvEpochEntry) (out : Bool) (f : Found) → epoch_at l (choose out (option_or f None) (option_or None f)) ≡ epoch_at l f
+unfolding choose
+fit-alone l true (Some i) = refl
+fit-alone l true None = refl
 fit-alone l false f = refl
 
 with_two : (l : List RecvEpochEntry) (out : Bool) (f : Found) (i : ℕ) (last : Option ℕ) → (get_or l i no_entry).epoch ≡ 2 → epoch_at l f ≡ last
-    → epoch_at l (choose out (or_else f (At i)) (or_else (At i) f)) ≡ resolves_by true true out last
-unfolding choose or_else both
-with_two l true (At j) i last e q = rw (sym q)
-with_two l true Nothing i last e q = rw (sym q, e)
+    → epoch_at l (choose out (option_or f (Some i)) (option_or (Some i) f)) ≡ resolves_by true true out last
+unfolding choose both
+with_two l true (Some j) i last e q = rw (sym q)
+with_two l true None i last e q = rw (sym q, e)
 with_two l false f i last e q = ap some e
 
 module _ (k : RecvKeys) (bits : ℕ) where
   abbrev by-found : Found → Found
   by-found f =
-      choose k.released (or_else (last_fit k.entries bits k.count) f) (or_else f (last_fit k.entries bits k.count))
+      choose k.released (option_or (last_fit k.entries bits k.count) f) (option_or f (last_fit k.entries bits k.count))
 
   two-known : (f : Found) → find k.entries 2 k.count ≡ f
       → epoch_at k.entries (by-found f) ≡ resolves_by true (was_found f) k.released (last_with bits (keyed_in k))
   unfolding was_found
-  two-known (At i) q =
+  two-known (Some i) q =
       with_two k.entries k.released _ i _ (found-epoch k.entries 2 k.count i q) (fit_in k.entries bits k.count)
-  two-known Nothing q =
+  two-known None q =
       fit-alone k.entries k.released _ ∙ fit_in k.entries bits k.count ∙ sym (no_two true k.released _)
 
-  by_bits : (b : Bool) → epoch_at k.entries (by-found (choose b (find k.entries 2 k.count) Nothing))
+  by_bits : (b : Bool) → epoch_at k.entries (by-found (choose b (find k.entries 2 k.count) None))
       ≡ resolves_by b (is_in 2 (keyed_in k)) k.released (last_with bits (keyed_in k))
   unfolding choose
   by_bits true =

@@ -1,6 +1,6 @@
 -- A record that lies undamaged at the cursor: what a read of it asks, what the sender's mask then brings, what an opening hands over.
 -- Assumes nothing.
-use Rattle.std.specs.Prelude.{ℕ, ◌+◌, ◌/◌, ◌%◌, ◌^◌, ◌≤◌, ◌<◌, length, take, drop, get_or, List, ◌∷◌, ◌++◌, ◌≡◌, refl}
+use Rattle.std.specs.Prelude.{ℕ, ◌+◌, ◌/◌, ◌%◌, ◌^◌, ◌≤◌, ◌<◌, length, take, drop, get_or, List, ◌∷◌, ◌++◌, ◌≡◌, refl, Some, None}
 use Rattle.std.proofs.Common.{take-append-drop, length-append, length-take, length-drop, take-add, drop-drop, drop_at, length-take-le, sym, subst, ◌∙◌, div-one, arith}
 use Rattle.std.specs.Int.Bits.{bit_xor}
 use Rattle.std.proofs.lemmas.Nat.{xor_comm}
@@ -19,9 +19,7 @@ use Rattle.mask_reply.proofs.Undamaged.{header-unmasked, mask-rules}
 use Rattle.record.specs.Record.{sealed_head}
 use Rattle.records.specs.Records.{read_step}
 use Rattle.records.proofs.Undamaged.{sealed as laidSealed, sealed-asks}
-use Rattle.recv_keys.specs.Keys.{entry_at, find, resolve}
-use Rattle.recv_keys.specs.declared.Found.TheVariants as found
-use Rattle.recv_keys.specs.declared.Found.{Found}
+use Rattle.recv_keys.specs.Keys.{entry_at, find, resolve, Found}
 use Rattle.recv_keys.specs.declared.RecvKeys.{RecvKeys}
 use Rattle.sealing.specs.Sealing.{masked_header}
 use Rattle.window.specs.Used.{above, Agrees}
@@ -112,8 +110,8 @@ module _ (masks : Masks) (e : ℕ) (x : Sealed) (shape : Shape masks e x) where
 
     asks_at : (f : Found) → resolve k (get_or (drop b.at d) 0 0 % 4) ≡ f → epoch_at k.entries f ≡ some e → b.question ≡ question.Nothing
         → k.peer_encryption ≡ true → read_step k b d ≡ told (questioned b (question.Mask (ask_for e x))) (says.Mask e (b.at + sealed_head))
-    asks_at found.Nothing r z q on = some≢none (sym z)
-    asks_at (found.At i) r z q on =
+    asks_at None r z q on = some≢none (sym z)
+    asks_at (Some i) r z q on =
         sealed-asks e high low x.cipher (drop (length (head ++ x.cipher)) (drop b.at d)) shape.short k b d i sound whole q
         (front d b.at same) on
         (ap (resolve k) (sym bits_are ∙ ap (λ (n : ℕ). n % 4) (sym (first_byte d b.at same))) ∙ r) (omega (arith, shape.size))
@@ -154,7 +152,7 @@ module _ (masks : Masks) (e : ℕ) (x : Sealed) (shape : Shape masks e x) where
       number-byte i h = sym (part_at b.at sealed_head d i h) ∙ ap (λ (l : List ℕ). get_or l i 0) laid_so
 
       -- the sender's mask brings its number back, and it is ruled on by that number's verdict
-      pub mask_is : (i : ℕ) → b.question ≡ question.Mask (ask_for e x) → find k.entries e k.count ≡ found.At i
+      pub mask_is : (i : ℕ) → b.question ≡ question.Mask (ask_for e x) → find k.entries e k.count ≡ Some i
           → (used : List ℕ) → Agrees (entry_at k i).replay used → above used < x.num + 32768 → x.num < reach_of used
           → (v : Verdict) → verdict (entry_at k i).replay x.num ≡ v
           → mask_step k b m d ≡ (ruled v (entry_at k i) b (ask_for e x) x.num, unmasked d b.at true m)

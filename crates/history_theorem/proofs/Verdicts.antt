@@ -1,5 +1,5 @@
 -- What calls do to the window verdicts, and calls over bytes of another length. Assumes nothing.
-use Rattle.std.specs.Prelude.{ℕ, zero, suc, ◌≤◌, ◌<◌, eqb, length, get_or, false, List, ◌≡◌}
+use Rattle.std.specs.Prelude.{ℕ, zero, suc, ◌≤◌, ◌<◌, eqb, length, get_or, false, List, ◌≡◌, Some, None}
 use Rattle.std.proofs.Common.{true≢false, sym, ◌∙◌, arith}
 use Rattle.std.proofs.Math.Option.{some}
 use Rattle.std.proofs.Math.Path.{refl, ap, subst}
@@ -14,19 +14,15 @@ use Rattle.datagram.specs.declared.Reading.TheVariants as says
 use Rattle.datagram.specs.declared.Step.{Step}
 use Rattle.mask_reply.proofs.Leads.{mask-other}
 use Rattle.opening_reply.proofs.Leads.{opened-other}
-use Rattle.opening_reply.specs.Opening.{still, opened_step, opened_at}
+use Rattle.opening_reply.specs.Opening.{still, opened_step, opened_at, Opening}
 use Rattle.opening_reply.specs.declared.Marked.{Marked}
-use Rattle.opening_reply.specs.declared.Opening.TheVariants as reply
-use Rattle.opening_reply.specs.declared.Opening.{Opening}
 use Rattle.receiving.specs.Laws.{made-sound}
 use Rattle.receiving.specs.Receiving.{begin_of}
 use Rattle.receiving.specs.declared.Kept.{Kept}
 use Rattle.records.proofs.Leads.{read-other}
 use Rattle.recv_keys.specs.Keeps.{found-epoch, marked-here, marked_other, marked-epoch}
-use Rattle.recv_keys.specs.Keys.{no_entry, entry_at, find, marked}
+use Rattle.recv_keys.specs.Keys.{no_entry, entry_at, find, marked, Found}
 use Rattle.recv_keys.specs.Laws.{found-keyed}
-use Rattle.recv_keys.specs.declared.Found.TheVariants as found
-use Rattle.recv_keys.specs.declared.Found.{Found}
 use Rattle.recv_keys.specs.declared.RecvEpochEntry.{RecvEpochEntry}
 use Rattle.recv_keys.specs.declared.RecvKeys.{RecvKeys}
 use Rattle.window.proofs.Laws.{after, verdict-is, spent}
@@ -44,10 +40,10 @@ find-epochs : (l m : List RecvEpochEntry) (x n : ℕ) → ((j : ℕ) → j < n �
 unfolding find
 find-epochs l m x zero f = refl
 find-epochs l m x (suc n) f =
-    ap (λ (e : ℕ). choose (eqb e x) (found.At n) (find l x n)) (f n (omega arith))
-    ∙ ap (λ (r : Found). choose (eqb (get_or m n no_entry).epoch x) (found.At n) r) (find-epochs l m x n (λ j h. f j (omega arith)))
+    ap (λ (e : ℕ). choose (eqb e x) (Some n) (find l x n)) (f n (omega arith))
+    ∙ ap (λ (r : Found). choose (eqb (get_or m n no_entry).epoch x) (Some n) r) (find-epochs l m x n (λ j h. f j (omega arith)))
 
-module _ (k : RecvKeys) (e h n : ℕ) (long : length k.entries ≡ 5) (count : k.count ≤ 5) (f : find k.entries e k.count ≡ found.At h) where
+module _ (k : RecvKeys) (e h n : ℕ) (long : length k.entries ≡ 5) (count : k.count ≤ 5) (f : find k.entries e k.count ≡ Some h) where
   within : h < k.count
   within = found-keyed k.entries e k.count h f
 
@@ -56,8 +52,8 @@ module _ (k : RecvKeys) (e h n : ℕ) (long : length k.entries ≡ 5) (count : k
   find-marked x = find-epochs (marked k h n).entries k.entries x k.count (λ j l. marked-epoch k h n long count within j)
 
   other_at : (x j : ℕ) → (x ≡ e → ⊥) → (g : Found) → find k.entries x k.count ≡ g → verdict_by g (marked k h n) j ≡ verdict_by g k j
-  other_at x j ne found.Nothing q = refl
-  other_at x j ne (found.At m) q =
+  other_at x j ne None q = refl
+  other_at x j ne (Some m) q =
       ap (λ (r : RecvEpochEntry). some (verdict r.replay j))
       (marked_other k h n long count within m
       (λ z.
@@ -130,18 +126,18 @@ module _ (y : Receiver) (i : Sound y) (s : ℕ) where
       (ap (use_of y.account.waits p) f ∙ use_down y.account.waits p) q
 
   module _ (a : Ask) (n : ℕ) (q : b.question ≡ question.Opening a n) (z : UnderWay (question.Opening a n) b.at y.account.waits y.trial) (h : ℕ)
-      (f : find k.entries a.epoch k.count ≡ found.At h) where
+      (f : find k.entries a.epoch k.count ≡ Some h) where
     at_moved : (p : Opening) → OpenMoved p (opened_at h p k b a n d)
     unfolding opened_at
-    at_moved reply.No = same-moved s unused k k refl refl
-    at_moved (reply.Yes len) =
-        by_test (OpenMoved (reply.Yes len))
+    at_moved None = same-moved s unused k k refl refl
+    at_moved (Some len) =
+        by_test (OpenMoved (Some len))
         (λ t.
         let long = i.made.long in
         let count = i.made.ready.keys.count in
         subst (λ u. Moved (move_by s u k (marked k h n)) u) (sym (uses_it y i a n q z len h f))
         (others_same k a.epoch h n long count f, now-seen k a.epoch h n long count f (still-fresh y i a n q z len h f)))
-        (λ t. refused-moved (reply.Yes len) (still k (told b says.Reply)) refl refl)
+        (λ t. refused-moved (Some len) (still k (told b says.Reply)) refl refl)
 
   moved_by : (p : Opening) (q : Question) → b.question ≡ q → UnderWay q b.at y.account.waits y.trial → OpenMoved p (opened_step k b p d)
   moved_by p question.Nothing q z = subst (OpenMoved p) (sym (open_idle y i p q)) (refused-moved p (still k (told b says.Reply)) refl refl)

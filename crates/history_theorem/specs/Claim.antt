@@ -1,6 +1,7 @@
 -- Demand 3 at a receiving end: what is asked of the host, and what then holds, against the records that the far end sealed.
 -- Quotations are the demand's, or from 01's paragraph e.
-use Rattle.std.specs.Prelude.{ℕ, ◌+◌, ◌-◌, ◌*◌, ◌/◌, ◌%◌, ◌^◌, ◌≤◌, ◌<◌, max, eqb, length, take, drop, get_or, Bool, true, false, ◌↔◌, ◌⊎◌, ◌≡◌}
+use Rattle.opening_reply.specs.Opening.{Opening}
+use Rattle.std.specs.Prelude.{ℕ, ◌+◌, ◌-◌, ◌*◌, ◌/◌, ◌%◌, ◌^◌, ◌≤◌, ◌<◌, max, eqb, length, take, drop, get_or, Bool, true, false, ◌↔◌, ◌⊎◌, ◌≡◌, Some, None}
 use Rattle.std.specs.Int.Bits.{bit_xor}
 use mathlib.Core.List.{List, [], ◌∷◌, ◌++◌, Memᴰ as Mem}
 use Rattle.std.proofs.Math.Option.{Option, none, some}
@@ -10,8 +11,6 @@ use Rattle.base.specs.Parts.{part}
 use Rattle.datagram.specs.declared.Reading.TheVariants as says
 use Rattle.datagram.specs.declared.Reading.{Reading}
 use Rattle.datagram.specs.declared.Reason.TheVariants as reason
-use Rattle.opening_reply.specs.declared.Opening.TheVariants as reply
-use Rattle.opening_reply.specs.declared.Opening.{Opening}
 use Rattle.sequence.specs.Laws.{Nearest}
 use Rattle.window.specs.Used.{above}
 use Rattle.window.specs.declared.Verdict.TheVariants.{Seen}
@@ -41,13 +40,13 @@ pub record Opens (r : Sealed) (n : ℕ) (head body p : List ℕ) : Type 0 where
 
 -- what the host says of the plaintext: none, or what now lies at the start of the protected part
 abbrev pub plaintext_by : Opening → ℕ → List ℕ → Option (List ℕ)
-plaintext_by reply.No at d = none
-plaintext_by (reply.Yes l) at d = some (part at l d)
+plaintext_by None at d = none
+plaintext_by (Some l) at d = some (part at l d)
 
 -- a yes of another length is refused, and not bound
 abbrev pub Answers : Opening → ℕ → Type 0
-Answers reply.No n = Unit {0}
-Answers (reply.Yes l) n = l + tag_size ≡ n
+Answers None n = Unit {0}
+Answers (Some l) n = l + tag_size ≡ n
 
 -- epoch, number, header and protected part are those that the question first showed
 abbrev pub FairOpen : (ℕ → List Sealed) → Shown → List ℕ → Opening → Type 0
@@ -309,8 +308,8 @@ Proper (a_mask_reply m) (a_mask e p) r = (Refused r → ⊥) × ((k s : ℕ) →
 Proper (a_mask_reply m) (an_opening e n at head body) r = r ≡ says.Reply
 Proper (an_open_reply o) nothing r = r ≡ says.Reply
 Proper (an_open_reply o) (a_mask e p) r = r ≡ says.Reply
-Proper (an_open_reply reply.No) (an_opening e n at head body) r = fate_of r ≡ settled
-Proper (an_open_reply (reply.Yes l)) (an_opening e n at head body) r =
+Proper (an_open_reply None) (an_opening e n at head body) r = fate_of r ≡ settled
+Proper (an_open_reply (Some l)) (an_opening e n at head body) r =
     (l + tag_size ≡ length body → fate_of r ≡ settled) × ((l + tag_size ≡ length body → ⊥) → r ≡ says.Reply)
 
 -- byte i of a nonce behind the fourth: the IV's XOR the number's, of which k bytes follow

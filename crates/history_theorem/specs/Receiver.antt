@@ -1,18 +1,14 @@
 -- A receiving end and its history: the real state and the begun datagram's bytes, as the last call left them, and what the claim speaks of,
 -- written from the host's arguments, the bytes as they arrived and the answers that the host sees.
-use Rattle.std.specs.Prelude.{ℕ, suc, ◌+◌, ◌%◌, ltb, leb, eqb, length, get_or, drop, Bool, true, false, List, [], ◌∷◌}
+use Rattle.std.specs.Prelude.{ℕ, suc, ◌+◌, ◌%◌, ltb, leb, eqb, length, get_or, drop, Bool, true, false, List, [], ◌∷◌, Some, None}
 use Rattle.std.proofs.Math.Option.{Option, none, some}
 use Rattle.base.specs.Choose.{choose}
 use Rattle.base.specs.Parts.{part, splice}
 use Rattle.classify.specs.Classify.{finished}
 use Rattle.datagram.specs.declared.Reading.TheVariants as says
 use Rattle.datagram.specs.declared.Reading.{Reading}
-use Rattle.opening_reply.specs.Opening.{shown_by}
-use Rattle.opening_reply.specs.declared.Opening.TheVariants as reply
-use Rattle.opening_reply.specs.declared.Opening.{Opening}
-use Rattle.recv_keys.specs.Keys.{entry_at, find}
-use Rattle.recv_keys.specs.declared.Found.TheVariants as found
-use Rattle.recv_keys.specs.declared.Found.{Found}
+use Rattle.opening_reply.specs.Opening.{shown_by, Opening}
+use Rattle.recv_keys.specs.Keys.{entry_at, find, Found}
 use Rattle.recv_keys.specs.declared.RecvKeys.{RecvKeys}
 use Rattle.receiving.specs.Receiving.{answer_number, fresh_of, key_of, remove_of, encrypt_of, release_of, begin_of, read_of, mask_of, opened_of}
 use Rattle.receiving.specs.declared.Read.{Read}
@@ -350,10 +346,10 @@ use_by underway u = u
 use_by settled u = u
 
 abbrev pub use_of : Shown → Opening → Fate → Use
-use_of w reply.No f = unused
-use_of nothing (reply.Yes l) f = unused
-use_of (a_mask e p) (reply.Yes l) f = unused
-use_of (an_opening e n at head body) (reply.Yes l) f = use_by f (uses e n)
+use_of w None f = unused
+use_of nothing (Some l) f = unused
+use_of (a_mask e p) (Some l) f = unused
+use_of (an_opening e n at head body) (Some l) f = use_by f (uses e n)
 
 abbrev pub spent : Use → (ℕ → List ℕ) → ℕ → List ℕ
 spent unused f = f
@@ -492,8 +488,8 @@ use_in y p = use_of y.account.waits p (fate_of (opened_of y.state p y.datagram).
 
 -- the verdict on a number in an epoch: none where it is not keyed
 abbrev pub verdict_by : Found → RecvKeys → ℕ → Option Verdict
-verdict_by found.Nothing k n = none
-verdict_by (found.At i) k n = some (verdict (entry_at k i).replay n)
+verdict_by None k n = none
+verdict_by (Some i) k n = some (verdict (entry_at k i).replay n)
 
 unfoldable pub verdict_of : RecvKeys → ℕ → ℕ → Option Verdict
 verdict_of k e n = verdict_by (find k.entries e k.count) k n

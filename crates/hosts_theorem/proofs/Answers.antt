@@ -2,13 +2,13 @@
 -- part of the queue that husk_sending_sealing names. Assumes nothing.
 use Prim.Native.Nat.{ℕ, ◌+◌, ◌≤◌}
 use Rattle.std.proofs.Common.{arith, le-leb, eq-eqb, ap, subst, ◌∙◌}
-use Rattle.std.specs.Prelude.{leb, length, drop, ◌↔◌, ◌≡◌}
+use Rattle.std.specs.Prelude.{leb, length, drop, ◌↔◌, ◌≡◌, Some, None}
 use mathlib.Core.List.{List}
 use Rattle.std.proofs.Math.Option.{Option, some}
 use Rattle.std.proofs.Math.Path.{refl, sym}
 use Rattle.base.specs.Choose.{choose, if_true, by_test}
 use Rattle.base.specs.Parts.{splice}
-use Rattle.incoming.specs.declared.Inner.TheVariants as inner
+use Rattle.std.specs.declared.option.Option as code
 use Rattle.incoming.specs.declared.Inner.{Inner}
 use Rattle.record.specs.declared.Parsed.TheVariants as parse
 use Rattle.record.specs.declared.Parsed.{Parsed}
@@ -24,22 +24,17 @@ use Rattle.datagram.specs.declared.Reading.{Reading}
 use Rattle.datagram.specs.declared.Reason.TheVariants as reason
 use Rattle.datagram.specs.declared.Reason.{Reason}
 use Rattle.datagram.specs.declared.Step.{Step}
-use Rattle.recv_keys.specs.Keys.{resolve, find, entry_at}
-use Rattle.recv_keys.specs.declared.Found.TheVariants as found
-use Rattle.recv_keys.specs.declared.Found.{Found}
+use Rattle.recv_keys.specs.Keys.{resolve, find, entry_at, Found}
 use Rattle.recv_keys.specs.declared.RecvEpochEntry.{RecvEpochEntry}
 use Rattle.recv_keys.specs.declared.RecvKeys.{RecvKeys}
 use Rattle.records.specs.Records.{locked_step, sealed_step, step_of, opening_asked, asked_again, asking, read_step}
 use Rattle.mask_reply.proofs.Leads.{by-judged}
 use Rattle.mask_reply.specs.Mask.{judged, masked_at, masked_by, masking, mask_step}
-use Rattle.opening_reply.specs.Opening.{typed, opened_at, opened_by, openings, opened_step}
+use Rattle.opening_reply.specs.Opening.{typed, opened_at, opened_by, openings, opened_step, Opening}
 use Rattle.opening_reply.specs.declared.Marked.{Marked}
-use Rattle.opening_reply.specs.declared.Opening.TheVariants as reply
-use Rattle.opening_reply.specs.declared.Opening.{Opening}
 use Rattle.receiving.specs.declared.Read.{Read}
 use Rattle.outgoing.specs.declared.Sending.{Sending}
-use Rattle.sealing.specs.Sealing.{question_of}
-use Rattle.sealing.specs.declared.Question as asks
+use Rattle.sealing.specs.Sealing.{Asked, question_of}
 use Rattle.waiting_laws.specs.Calls.{written_in}
 use Rattle.recv_key_steps.specs.Kept.{state_of}
 use Rattle.recv_calls.specs.Flat.{bare, flat_reading}
@@ -133,8 +128,8 @@ module _ (k : RecvKeys) (b : Datagram) where
 
   nonce-masked : (f : Found) (a : Ask) (m d : List ℕ) → Shown (masked_by f k b a m d).0
   unfolding masked_by masked_at
-  nonce-masked found.Nothing a m d = refl
-  nonce-masked (found.At i) a m d = nonce-judged (entry_at k i) a _
+  nonce-masked None a m d = refl
+  nonce-masked (Some i) a m d = nonce-judged (entry_at k i) a _
 
   nonce-masking : (q : Question) (m d : List ℕ) → Shown (masking q k b m d).0
   unfolding masking
@@ -147,23 +142,23 @@ module _ (k : RecvKeys) (b : Datagram) where
   mask-nonce m d =
       let P : Step × List ℕ → Type 0 = λ t. Shown t.0 in by_test P (λ s. by_test P (λ t. nonce-masking b.question m d) (λ t. refl)) (λ s. refl)
 
-  nonce-typed : (a : Ask) (n : ℕ) (x : Inner) → Shown (typed b a n x)
+  nonce-typed : (a : Ask) (n : ℕ) (x : code.Option Inner) → Shown (typed b a n x)
   unfolding typed counted
-  nonce-typed a n inner.Nothing = refl
-  nonce-typed a n (inner.Found t l) = by_test Shown (λ u. refl) (λ u. refl)
+  nonce-typed a n None = refl
+  nonce-typed a n (Some held) = by_test Shown (λ u. refl) (λ u. refl)
 
   abbrev Opened : Marked → Type 0
   Opened m = Shown m.step
 
   nonce-opened : (i : ℕ) (o : Opening) (a : Ask) (n : ℕ) (d : List ℕ) → Opened (opened_at i o k b a n d)
   unfolding opened_at
-  nonce-opened i reply.No a n d = refl
-  nonce-opened i (reply.Yes len) a n d = by_test Opened (λ t. nonce-typed a n _) (λ t. refl)
+  nonce-opened i None a n d = refl
+  nonce-opened i (Some len) a n d = by_test Opened (λ t. nonce-typed a n _) (λ t. refl)
 
   nonce-by : (f : Found) (o : Opening) (a : Ask) (n : ℕ) (d : List ℕ) → Opened (opened_by f o k b a n d)
   unfolding opened_by
-  nonce-by found.Nothing o a n d = refl
-  nonce-by (found.At i) o a n d = nonce-opened i o a n d
+  nonce-by None o a n d = refl
+  nonce-by (Some i) o a n d = nonce-opened i o a n d
 
   nonce-openings : (q : Question) (o : Opening) (d : List ℕ) → Opened (openings q o k b d)
   unfolding openings
@@ -201,8 +196,8 @@ module _ (k : RecvKeys) (b : Datagram) (d p : List ℕ) where
   -- a record that the cut comes to shows no opening
   locked : (f : Found) (c : Ciphertext) → Names question.Nothing (locked_step f k b c)
   unfolding locked_step
-  locked found.Nothing c = (refl, λ z l. absurd (omega arith))
-  locked (found.At i) c =
+  locked None c = (refl, λ z l. absurd (omega arith))
+  locked (Some i) c =
       by_test (Names question.Nothing) (λ t. (refl, λ z l. absurd (omega arith)))
       (λ t. by_test (Names question.Nothing) (λ u. (refl, λ z l. absurd (omega arith))) (λ u. (refl, λ z l. absurd (omega arith))))
 
@@ -225,8 +220,8 @@ module _ (k : RecvKeys) (b : Datagram) (d p : List ℕ) where
   by-question (question.Opening a n) = go (find k.entries a.epoch k.count)
     where
       go : (f : Found) → Names (question.Opening a n) (asked_again f k b a n)
-      go found.Nothing = (refl, λ z l. absurd (omega arith))
-      go (found.At i) = (refl, λ z l. sym (if_true _ _ (le-leb _ _ l)))
+      go None = (refl, λ z l. absurd (omega arith))
+      go (Some i) = (refl, λ z l. sym (if_true _ _ (le-leb _ _ l)))
 
   pub read_names : Names b.question (read_step k b d)
   unfolding read_step
@@ -238,14 +233,14 @@ module _ (k : RecvKeys) (b : Datagram) (d p : List ℕ) where
 -- ---- the part of the queue
 
 module _ (s : Sending) (q bytes : List ℕ) (o : Option (List ℕ)) where
-  abbrev shown : asks.Question → HuskSealing
-  shown k = flat_sealing k.question k.nonce k.header
+  abbrev shown : Asked → HuskSealing
+  shown k = flat_sealing k
 
   -- an answer of kind 2 names the part that the host writes and gives
-  abbrev Puts : asks.Question → Type 0
+  abbrev Puts : Asked → Type 0
   Puts k =
       (shown k).kind ≡ 2 → length bytes ≡ (shown k).length
-      → (splice (shown k).start bytes q ≡ written_in k.question bytes q) × (some bytes ≡ given_in k.question bytes o)
+      → (splice (shown k).start bytes q ≡ written_in k bytes q) × (some bytes ≡ given_in k bytes o)
 
   pub sealing-names : Puts (question_of s)
   unfolding question_of

@@ -7,7 +7,7 @@ use Rattle.flight.specs.declared.Flight.{Flight}
 use Rattle.flight_words.specs.Words.{flight_of, flat_to}
 use Rattle.process_ack.specs.Ack.{acked}
 use Rattle.process_ack.specs.Status.{newly_marked}
-use Rattle.process_ack.specs.declared.Acked.{Acked}
+use Rattle.flight.specs.declared.Acted.{Acted}
 use Rattle.send_keys.specs.Answer.{is_done}
 use Rattle.receiving.specs.declared.Receiving.{Receiving}
 use Rattle.recv_words.specs.Words.{is_flat}
@@ -58,7 +58,7 @@ heeds k ok e = by_test (λ (z : Class). z ≡ k) (λ t. if_true _ _ e) (λ t. re
 -- an ACK over no more saved records than a flight has is acted on
 pub ack-done : (f : Flight) (d : List ℕ) → f.saved ≤ 12 → is_done (acked f d).answer ≡ true
 unfolding acked
-ack-done f d l = ap (λ (x : Acked). is_done x.answer) (if_false _ _ (le-ltb _ _ l))
+ack-done f d l = ap (λ (x : Acted). is_done x.answer) (if_false _ _ (le-ltb _ _ l))
 
 module _ (h : Host) (o : Stands h) (few : h.seen.out.stores.flight.saved ≤ 12) where
   abbrev e : End

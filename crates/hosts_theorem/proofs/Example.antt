@@ -1,6 +1,6 @@
 -- Two worked lists of calls of the C library whose premises are met, computed: a record is keyed, sent, sealed and taken at the post, and read, unmasked,
 -- opened and dealt with as a handshake record at the gateway; a handshake message is put together at the gateway. The words behind each call are given. Assumes nothing.
-use Rattle.std.specs.Prelude.{ℕ, suc, ◌≤◌, length, replicate, set, true, false, List, [], ◌∷◌, ◌++◌, ◌≡◌, refl}
+use Rattle.std.specs.Prelude.{Ok, ℕ, suc, ◌≤◌, length, replicate, set, true, false, List, [], ◌∷◌, ◌++◌, ◌≡◌, refl}
 use Rattle.std.proofs.Common.{arith, le-ltb, sym}
 use Rattle.std.proofs.lemmas.Bool.{false≢true}
 use mathlib.Core.List.Memᴰ.{head as here}
@@ -72,7 +72,7 @@ use Rattle.hosts_theorem.proofs.Theorem.{every_list_of_calls}
 
 -- every definition that the list computes with
 unfoldable pub opened : Unit {0}
-unfolding base-bits.bit base-choose.choose base-choose.both base-choose.either base-parts.splice window-used.expected window-window.verdict window-window.marking sequence-sequence.own sequence-sequence.below sequence-sequence.above sequence-sequence.nearest record-record.header_length record-record.fragment_len record-record.partial_of record-record.parse_ciphertext record-record.is_type record-record.parsed record-record.unified_header dtls-aead-nonce.nonce_of incoming-inner.inner_of recv-keys-keys.fits recv-keys-keys.last_fit recv-keys-keys.find recv-keys-keys.or_else recv-keys-keys.two recv-keys-keys.resolve recv-keys-keys.was_found recv-keys-keys.is_keyed recv-keys-keys.marked recv-keys-keys.app_one recv-keys-keys.apps recv-keys-keys.windows_sound recv-keys-keys.keys_sound recv-keys-keys.is_full recv-keys-keys.installed datagram-datagram.ask_sound datagram-datagram.ask_keyed datagram-datagram.opening_sound datagram-datagram.question_sound datagram-datagram.is_sound datagram-datagram.counted records-records.locked_step records-records.sealed_step records-records.step_of records-records.opening_asked records-records.asked_again records-records.asking records-records.read_step mask-reply-mask.unmasked mask-reply-mask.rebuilt mask-reply-mask.judged mask-reply-mask.masked_at mask-reply-mask.masked_by mask-reply-mask.masking mask-reply-mask.mask_step opening-reply-opening.typed opening-reply-opening.opened_at opening-reply-opening.opened_by opening-reply-opening.openings opening-reply-opening.opened_step receiving-receiving.fresh_of receiving-receiving.key_of receiving-receiving.encrypt_of receiving-receiving.begin_of queue-laid.trailer_of queue-laid.record_len queue-laid.record_bytes queue-queue.is_setting queue-queue.is_sound queue-queue.is_ready queue-queue.slot_of queue-queue.last_len queue-queue.tail_of queue-queue.place_of queue-queue.grown queue-queue.laid queue-queue.start_of send-keys-keys.no_epoch send-keys-keys.no_keys send-keys-keys.is_usable send-keys-keys.is_keyed send-keys-keys.next_of send-keys-keys.iv_of send-keys-keys.used send-keys-keys.sealed_up_to send-keys-keys.key_answer send-keys-keys.keyed outgoing-send.waits_behind outgoing-send.laid_state outgoing-send.laid_memory outgoing-send.send_answer outgoing-send.send_state outgoing-send.send_memory outgoing-state.no_waiting outgoing-state.fresh_sending outgoing-state.started outgoing-state.is_content_type outgoing-state.is_allowed outgoing-state.keying_state sealing-sealing.is_span sealing-sealing.is_held sealing-sealing.is_asked sealing-sealing.part_start sealing-sealing.question_of sealing-sealing.masked_header sealing-sealing.behind_oldest sealing-sealing.seal_answer sealing-sealing.sealed_state sealing-sealing.sealed_memory sealing-seek.nth_of sealing-seek.beyond sealing-seek.passed sealing-seek.found_at sealing-seek.step_of sealing-seek.seek_step sealing-seek.seek sealing-take.next_slot sealing-take.take_answer sealing-take.take_state sealing-take.take_buffer packed.iv_of recv-words.entries_of recv-words.question_of recv-words.is_flat send-words.lows_from send-words.is_flat recv-calls.first_reading recv-calls.first_state recv-flat.opening_of history-account.upd history-account.key_owed history-account.keys history-account.resolves_to history-account.sealed_size history-account.plain_size history-account.record_size history-account.good_plain history-receiver.begin_owed ends-sender.lends ends-ledger.joins ends-ledger.lays ends-ledger.is_old ends-ledger.key_number ends-ledger.keyed ends-ledger.is_usable ends-ledger.is_type ends-ledger.is_allowed ends-ledger.has_keys ends-ledger.queue_number ends-ledger.send_number ends-ledger.after ends-ledger.sent_by hosts-log.reason_in hosts-log.reading_of hosts-log.class_verdict hosts-log.reply_in flight-words.entries_of flight-words.flat_to classify.is_inside classify.is_sound classify.is_after classify.is_beyond classify.is_guarded classify.by_type classify.class_of classify.classified classify-calls.noted_by classify-calls.heeded classify-calls.class_in classify-account.is_past classify-account.is_dropped classify-account.type_owed classify-account.sealed_owed classify-account.reading_owed
+unfolding base-bits.bit base-choose.choose base-choose.both base-choose.either base-parts.splice window-used.expected window-window.verdict window-window.marking sequence-sequence.own sequence-sequence.below sequence-sequence.above sequence-sequence.nearest record-record.header_length record-record.fragment_len record-record.partial_of record-record.parse_ciphertext record-record.is_type record-record.parsed record-record.unified_header dtls-aead-nonce.nonce_of incoming-inner.inner_of recv-keys-keys.fits recv-keys-keys.last_fit recv-keys-keys.find recv-keys-keys.two recv-keys-keys.resolve recv-keys-keys.was_found recv-keys-keys.is_keyed recv-keys-keys.marked recv-keys-keys.app_one recv-keys-keys.apps recv-keys-keys.windows_sound recv-keys-keys.keys_sound recv-keys-keys.is_full recv-keys-keys.installed datagram-datagram.ask_sound datagram-datagram.ask_keyed datagram-datagram.opening_sound datagram-datagram.question_sound datagram-datagram.is_sound datagram-datagram.counted records-records.locked_step records-records.sealed_step records-records.step_of records-records.opening_asked records-records.asked_again records-records.asking records-records.read_step mask-reply-mask.unmasked mask-reply-mask.rebuilt mask-reply-mask.judged mask-reply-mask.masked_at mask-reply-mask.masked_by mask-reply-mask.masking mask-reply-mask.mask_step opening-reply-opening.typed opening-reply-opening.opened_at opening-reply-opening.opened_by opening-reply-opening.openings opening-reply-opening.opened_step receiving-receiving.fresh_of receiving-receiving.key_of receiving-receiving.encrypt_of receiving-receiving.begin_of queue-laid.trailer_of queue-laid.record_len queue-laid.record_bytes queue-queue.is_setting queue-queue.is_sound queue-queue.is_ready queue-queue.slot_of queue-queue.last_len queue-queue.tail_of queue-queue.place_of queue-queue.grown queue-queue.laid queue-queue.start_of send-keys-keys.no_epoch send-keys-keys.no_keys send-keys-keys.is_usable send-keys-keys.is_keyed send-keys-keys.next_of send-keys-keys.iv_of send-keys-keys.used send-keys-keys.sealed_up_to send-keys-keys.key_answer send-keys-keys.keyed outgoing-send.waits_behind outgoing-send.laid_state outgoing-send.laid_memory outgoing-send.send_answer outgoing-send.send_state outgoing-send.send_memory outgoing-state.no_waiting outgoing-state.fresh_sending outgoing-state.started outgoing-state.is_content_type outgoing-state.is_allowed outgoing-state.keying_state sealing-sealing.is_span sealing-sealing.is_held sealing-sealing.is_asked sealing-sealing.part_start sealing-sealing.question_of sealing-sealing.masked_header sealing-sealing.behind_oldest sealing-sealing.seal_answer sealing-sealing.sealed_state sealing-sealing.sealed_memory sealing-seek.nth_of sealing-seek.beyond sealing-seek.passed sealing-seek.found_at sealing-seek.step_of sealing-seek.seek_step sealing-seek.seek sealing-take.next_slot sealing-take.take_answer sealing-take.take_state sealing-take.take_buffer packed.iv_of recv-words.entries_of recv-words.question_of recv-words.is_flat send-words.lows_from send-words.is_flat recv-calls.first_reading recv-calls.first_state recv-flat.opening_of history-account.upd history-account.key_owed history-account.keys history-account.resolves_to history-account.sealed_size history-account.plain_size history-account.record_size history-account.good_plain history-receiver.begin_owed ends-sender.lends ends-ledger.joins ends-ledger.lays ends-ledger.is_old ends-ledger.key_number ends-ledger.keyed ends-ledger.is_usable ends-ledger.is_type ends-ledger.is_allowed ends-ledger.has_keys ends-ledger.queue_number ends-ledger.send_number ends-ledger.after ends-ledger.sent_by hosts-log.reason_in hosts-log.reading_of hosts-log.class_verdict hosts-log.reply_in flight-words.entries_of flight-words.flat_to classify.is_inside classify.is_sound classify.is_after classify.is_beyond classify.is_guarded classify.by_type classify.class_of classify.classified classify-calls.noted_by classify-calls.heeded classify-calls.class_in classify-account.is_past classify-account.is_dropped classify-account.type_owed classify-account.sealed_owed classify-account.reading_owed
 opened = tt
 
 -- ---- the calls
@@ -336,7 +336,7 @@ put_together rest =
 
 -- over any buffer that is long enough
 module _ (rest : List ℕ) (room : 16383 ≤ length rest) where
-  comes-out : taken w₁ content (0 ∷ rest) ≡ outcome (piece.Message 20 0 1) w₂ (7 ∷ rest)
+  comes-out : taken w₁ content (0 ∷ rest) ≡ outcome (Ok (piece.Message 20 0 1)) w₂ (7 ∷ rest)
   unfolding base-choose.choose base-choose.both base-choose.either parse_header header_at within covered all_covered is_whole is_same is_shared all_shared base-every.every base-parts.splice is_sound piece_at is_fit is_alike is_agreed held finished offered read_at taken
   comes-out = if_false _ _ (le-ltb (suc (length rest)) 16384 (omega arith))
 

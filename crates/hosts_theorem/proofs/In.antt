@@ -1,7 +1,8 @@
 -- Each receiving call of the C library, entered in the host's log, is the claim's call. Assumes nothing.
+use Rattle.opening_reply.specs.Opening.{Opening}
 use Prim.Native.Nat.{ℕ, suc, ◌+◌, ◌≤◌}
 use Rattle.std.proofs.Math.Dec.{eqb}
-use Rattle.std.specs.Prelude.{leb, ltb, length, Bool, List, [], ◌∷◌, ◌≡◌}
+use Rattle.std.specs.Prelude.{leb, ltb, length, Bool, List, [], ◌∷◌, ◌≡◌, Ok, Err}
 use Rattle.std.proofs.Math.Bool.{true, false}
 use Rattle.std.proofs.Math.Option.{Option, none, some}
 use Rattle.std.proofs.Math.Path.{refl, sym, ap}
@@ -10,10 +11,9 @@ use Rattle.base.specs.Choose.{choose, if_true, if_false, by_test, test_cases, bo
 use Rattle.base.specs.Parts.{splice}
 use Rattle.datagram.specs.declared.Question.TheVariants as question
 use Rattle.datagram.specs.declared.Question.{Question}
-use Rattle.opening_reply.specs.declared.Opening.{Opening}
-use Rattle.receiving.specs.Receiving.{answer_number, key_of, remove_of, encrypt_of, release_of, begin_of, read_of, mask_of, opened_of}
-use Rattle.receiving.specs.declared.Answer.TheVariants as answers
-use Rattle.receiving.specs.declared.Answer.{Answer}
+use Rattle.receiving.specs.Receiving.{answer_number, key_of, remove_of, encrypt_of, release_of, begin_of, read_of, mask_of, opened_of, Answer}
+use Rattle.receiving.specs.declared.Done.TheVariants as done
+use Rattle.receiving.specs.declared.Refusal.TheVariants as refusal
 use Rattle.receiving.specs.declared.Kept.{Kept}
 use Rattle.receiving.specs.declared.Receiving.{Receiving}
 use Rattle.recv_keys.specs.declared.RecvKeys.{RecvKeys}
@@ -54,22 +54,22 @@ removes_as y s k e = ap (λ x. removed_to y x k) e
 -- 01's number of the answer
 number-told : (a : Answer) → number_told (removed_told a) ≡ answer_number a
 unfolding number_told choose
-number-told answers.Done = refl
-number-told answers.Dropped = refl
-number-told answers.Setting = refl
-number-told answers.TooLong = refl
-number-told answers.Unusable = refl
-number-told answers.Full = refl
+number-told (Ok done.Asked) = refl
+number-told (Ok done.Dropped) = refl
+number-told (Err refusal.Setting) = refl
+number-told (Err refusal.TooLong) = refl
+number-told (Err refusal.Unusable) = refl
+number-told (Err refusal.Full) = refl
 
 -- and back
 told_back : (a : Answer) → removed_told a ≡ removal_told (number_told (removed_told a))
 unfolding number_told choose
-told_back answers.Done = refl
-told_back answers.Dropped = refl
-told_back answers.Setting = refl
-told_back answers.TooLong = refl
-told_back answers.Unusable = refl
-told_back answers.Full = refl
+told_back (Ok done.Asked) = refl
+told_back (Ok done.Dropped) = refl
+told_back (Err refusal.Setting) = refl
+told_back (Err refusal.TooLong) = refl
+told_back (Err refusal.Unusable) = refl
+told_back (Err refusal.Full) = refl
 
 -- ---- beginning
 

@@ -1,5 +1,5 @@
 -- Each sending call of the C library, those of flights, resends and ACKs with it, entered in the host's log, is the claim's call. Assumes nothing.
-use Rattle.std.specs.Prelude.{ℕ, ◌*◌, eqb, ltb, length, true, ◌≡◌}
+use Rattle.std.specs.Prelude.{ℕ, ◌*◌, eqb, ltb, length, true, ◌≡◌, Some, None, Ok, Err, false}
 use Rattle.std.proofs.Common.{arith, sym, ◌∙◌}
 use borrow.Author.Tests.{leb-true, ltb-false, eqb-false}
 use Rattle.std.proofs.lemmas.List.{length-replicate}
@@ -12,32 +12,26 @@ use Rattle.queue.specs.Queue.{ready}
 use Rattle.outgoing.specs.State.{keying_state}
 use Rattle.outgoing.specs.Send.{send_state}
 use Rattle.outgoing.specs.declared.Sending.{Sending}
-use Rattle.send_keys.specs.Answer.{is_done, refusal}
-use Rattle.send_keys.specs.declared.SendAnswer.{SendAnswer}
-use Rattle.send_keys.specs.declared.SendAnswer.TheVariants as answer
+use Rattle.send_keys.specs.Answer.{SendAnswer, is_done, refusal}
+use Rattle.send_keys.specs.declared.SendError.TheVariants as answer
 use Rattle.sealing.specs.Sealing as sealings
-use Rattle.sealing.specs.declared.SealAnswer.{SealAnswer}
-use Rattle.sealing.specs.declared.SealAnswer.TheVariants as reply
-use Rattle.sealing.specs.declared.SealQuestion.{SealQuestion}
-use Rattle.sealing.specs.declared.SealQuestion.TheVariants as ask
-use Rattle.taking.specs.Take.{take_answer, take_state, take_buffer, front_len, Takes, front_fits}
+use Rattle.sealing.specs.declared.SealError.TheVariants as reply
+use Rattle.sealing.specs.Sealing.{SealAnswer, Asked}
+use Rattle.taking.specs.Take.{TakeAnswer, take_answer, take_state, take_buffer, front_len, Takes, front_fits}
 use Rattle.taking.specs.Take as taking
-use Rattle.taking.specs.declared.TakeAnswer.{TakeAnswer}
-use Rattle.taking.specs.declared.TakeAnswer.TheVariants as took
+use Rattle.taking.specs.declared.TakeError.TheVariants as took
 use Rattle.flight.specs.declared.Flight.{Flight}
 use Rattle.flight.specs.declared.Saved.{Saved as SavedState}
 use Rattle.flight.specs.Save.{save_state}
 use Rattle.flight.specs.Status.{unacknowledged}
 use Rattle.messages.specs.Message.{message_answer, message_state}
-use Rattle.resend.specs.declared.Resent.{Resent}
 use Rattle.resend.specs.Resend.{resend_state}
 use Rattle.resend.specs.Tests.{resend_answer}
 use Rattle.process_ack.specs.Ack.{acked}
 use Rattle.process_ack.specs.Status.{newly_marked}
-use Rattle.process_ack.specs.declared.Acked.{Acked}
+use Rattle.flight.specs.declared.Acted.{Acted}
 use Rattle.acks.specs.Acks as noting
-use Rattle.acks.specs.declared.NoteAnswer.{NoteAnswer}
-use Rattle.acks.specs.declared.NoteAnswer.TheVariants as note
+use Rattle.acks.specs.Acks.{NoteAnswer}
 use Rattle.acks.specs.declared.Notes.{Notes}
 use Rattle.send_words.specs.Words.{state_of, is_flat}
 use Rattle.flight_words.specs.Words.{flat_to}
@@ -155,39 +149,39 @@ abbrev took-reply : HuskTake → Reply
 took-reply r = record { number = r.refusal; told = r.length }
 
 take-told : (k : TakeAnswer) → took-reply (sends.flat_take k) ≡ take_reply k
-take-told (took.Taken n) = refl
-take-told took.OutOfRange = refl
-take-told took.Nothing = refl
-take-told took.Unsealed = refl
-take-told (took.Short n) = refl
+take-told (Ok (Some n)) = refl
+take-told (Err took.OutOfRange) = refl
+take-told (Ok None) = refl
+take-told (Err took.Unsealed) = refl
+take-told (Err (took.Short n)) = refl
 
 -- in place none is too short
 part-told : (k : TakeAnswer) (start : ℕ) → (taking.refusal k ≡ 16 → ⊥) → record { number = (sends.flat_part k start).refusal; told = (sends.flat_part k start).length } ≡ take_reply k
-part-told (took.Taken n) start never = refl
-part-told took.OutOfRange start never = refl
-part-told took.Nothing start never = refl
-part-told took.Unsealed start never = refl
-part-told (took.Short n) start never = absurd (never refl)
+part-told (Ok (Some n)) start never = refl
+part-told (Err took.OutOfRange) start never = refl
+part-told (Ok None) start never = refl
+part-told (Err took.Unsealed) start never = refl
+part-told (Err (took.Short n)) start never = absurd (never refl)
 
 -- noted or not
 note-told : (k : NoteAnswer) → told_reply (acks.note_told k) ≡ note_reply k
-note-told note.Noted = refl
-note-told note.Full = refl
-note-told note.OutOfRange = refl
+note-told (Ok true) = refl
+note-told (Ok false) = refl
+note-told (Err e) = refl
 
 -- an ACK over too many saved records is refused and marks nothing
 ack-told : (f : Flight) (d : List ℕ) → acked_reply (acks.acked_told (acked f d) (newly_marked f d)) ≡ record { number = refusal (acked f d).answer; told = newly_marked f d }
 unfolding acked newly_marked
 ack-told f d =
-    let P : Acked → ℕ → Type 0 = λ k n. acked_reply (acks.acked_told k n) ≡ record { number = refusal k.answer; told = n } in
+    let P : Acted → ℕ → Type 0 = λ k n. acked_reply (acks.acked_told k n) ≡ record { number = refusal k.answer; told = n } in
     test_cases (ltb 12 f.saved)
     (λ t.
-    let k : Acked = record { answer = answer.OutOfRange; flight = f } in
+    let k : Acted = record { answer = Err answer.OutOfRange; flight = f } in
     let e : acked f d ≡ k = if_true _ _ t in
     let z : newly_marked f d ≡ 0 = if_true _ _ t in
-    subst (λ (x : Acked). P x (newly_marked f d)) (sym e) (subst (P k) (sym z) (ap acked_reply (if_false _ _ refl))))
+    subst (λ (x : Acted). P x (newly_marked f d)) (sym e) (subst (P k) (sym z) (ap acked_reply (if_false _ _ refl))))
     (λ t.
-    let e : (acked f d).answer ≡ answer.Done = ap (λ (x : Acked). x.answer) (if_false _ _ t) in
+    let e : (acked f d).answer ≡ Ok tt = ap (λ (x : Acted). x.answer) (if_false _ _ t) in
     ap acked_reply (if_true _ _ (ap is_done e)) ∙ ap (λ (x : SendAnswer). record { number = refusal x; told = newly_marked f d }) (sym e))
 
 message-answers : (a : SendAnswer) (s : Sending) (f : Flight) (q k : List ℕ) (t : ℕ) (b : List ℕ) → (message_state a s f q k t b).answer ≡ a
@@ -196,7 +190,7 @@ message-answers a s f q k t b = by_test (λ (r : SavedState). r.answer ≡ a) (�
 
 resend_answers : (a : SendAnswer) (s : Sending) (f : Flight) (k q : List ℕ) → (resend_state a s f k q).answer ≡ a
 unfolding resend_state
-resend_answers a s f k q = by_test (λ (r : Resent). r.answer ≡ a) (λ z. refl) (λ z. refl)
+resend_answers a s f k q = by_test (λ (r : SavedState). r.answer ≡ a) (λ z. refl) (λ z. refl)
 
 module _ (h : Outgoing) (f : is_flat h.words ≡ true) (g : flat_to h.flight 12 ≡ true) where
   pub reply-is : (c : OutCall) → MadeOut h c → reply_of c ≡ answered (stores_of h) (send_of c)
@@ -244,18 +238,18 @@ module _ (h : Outgoing) (f : is_flat h.words ≡ true) (g : flat_to h.flight 12 
 
 -- ---- what was shown, sealed and taken
 
-lent_same : (k : SealQuestion) (v l q : List ℕ) (old : Option Lent) → shows_now (sends.flat_sealing k v l) q old ≡ world.lent_by k v l old q
+lent_same : (k : Asked) (q : List ℕ) (old : Option Lent) → shows_now (sends.flat_sealing k) q old ≡ world.lent_by k old q
 unfolding choose
-lent_same (ask.Seal e n p z) v l q old = refl
-lent_same ask.Nothing v l q old = refl
-lent_same ask.OutOfRange v l q old = refl
+lent_same (Ok (Some x)) q old = refl
+lent_same (Ok None) q old = refl
+lent_same (Err x) q old = refl
 
 -- the question shown behind a call
 pub shows-now : (h : Outgoing) → is_flat h.words ≡ true → (old : Option Lent) → shows_now (sealing_of h.words) h.queue old ≡ world.lends (state_of h.words) h.queue old
 unfolding world.lends
 shows-now h f old =
     let k = sealings.question_of (state_of h.words) in
-    ap (λ (r : HuskSealing). shows_now r h.queue old) (if_true _ _ f) ∙ lent_same k.question k.nonce k.header h.queue old
+    ap (λ (r : HuskSealing). shows_now r h.queue old) (if_true _ _ f) ∙ lent_same k h.queue old
 
 turns_as : (x : Sender) (h : Outgoing) (w : Stores) {b b' : Books} {i i' : ℕ → List ℕ} {s s' : ℕ → List Sealed} {t t' : List (List ℕ)} → is_flat h.words ≡ true → stores_of h ≡ w → b ≡ b'
     → i ≡ i' → s ≡ s' → t ≡ t' → turns_to x h b i s t ≡ world.turns x w b' i' s' t'
@@ -264,33 +258,33 @@ turns_as x h w {b} {b'} {i} {i'} {s} {s'} {t} {t'} f p c k l m =
     (λ j. record { stores = stores_of h; books = b; ivs = i; lent = q j; sealed = s; taken = t })
     ∙ (λ j. world.turns x (p j) (c j) (k j) (l j) (m j))
 
-shows_same : (k : SealQuestion) (v l q : List ℕ) (old : Option Lent) → Shows (world.lent_by k v l old q) (sends.flat_sealing k v l)
-shows_same (ask.Seal e n p z) v l q old = refl
-shows_same ask.Nothing v l q old = λ e. omega arith
-shows_same ask.OutOfRange v l q old = λ e. omega arith
+shows_same : (k : Asked) (q : List ℕ) (old : Option Lent) → Shows (world.lent_by k old q) (sends.flat_sealing k)
+shows_same (Ok (Some x)) q old = refl
+shows_same (Ok None) q old = λ e. omega arith
+shows_same (Err x) q old = λ e. omega arith
 
 -- a sealing reply answered 0
 seals-same : (k : SealAnswer) (l : Option Lent) (before behind : List ℕ) (f : ℕ → List Sealed) → seals_now (sealings.refusal k) l before behind f ≡ sealed_by k l before behind f
 unfolding choose
 seals-same k none before behind f = refl
-seals-same reply.Done (some l) before behind f = refl
-seals-same reply.OutOfRange (some l) before behind f = refl
-seals-same reply.NoQuestion (some l) before behind f = refl
+seals-same (Ok u) (some l) before behind f = refl
+seals-same (Err reply.OutOfRange) (some l) before behind f = refl
+seals-same (Err reply.NoQuestion) (some l) before behind f = refl
 
 finishes-same : (k : SealAnswer) (l : Option Lent) (before behind : List ℕ) (b : Books) → finishes_now (sealings.refusal k) l before behind b ≡ finished_by k l before behind b
 unfolding choose
 finishes-same k none before behind b = refl
-finishes-same reply.Done (some l) before behind b = refl
-finishes-same reply.OutOfRange (some l) before behind b = refl
-finishes-same reply.NoQuestion (some l) before behind b = refl
+finishes-same (Ok u) (some l) before behind b = refl
+finishes-same (Err reply.OutOfRange) (some l) before behind b = refl
+finishes-same (Err reply.NoQuestion) (some l) before behind b = refl
 
 take_same : (k : TakeAnswer) (c : List ℕ) (ts : List (List ℕ)) → takes_one (sends.flat_take k) c ts ≡ taken_by k c ts
 unfolding choose
-take_same (took.Taken n) c ts = refl
-take_same took.OutOfRange c ts = refl
-take_same took.Nothing c ts = refl
-take_same took.Unsealed c ts = refl
-take_same (took.Short n) c ts = refl
+take_same (Ok (Some n)) c ts = refl
+take_same (Err took.OutOfRange) c ts = refl
+take_same (Ok None) c ts = refl
+take_same (Err took.Unsealed) c ts = refl
+take_same (Err (took.Short n)) c ts = refl
 
 -- in place, where the buffer would hold it
 module _ (s : Sending) (q b : List ℕ) (ts : List (List ℕ)) where
@@ -300,7 +294,7 @@ module _ (s : Sending) (q b : List ℕ) (ts : List (List ℕ)) where
   abbrev Same : TakeAnswer → Type 0
   Same k = takes_part (sends.flat_part k start) q ts ≡ taken_by k (take_buffer k s q b) ts
 
-  lies-there : Takes s (length q) (length b) → Same (took.Taken (front_len s))
+  lies-there : Takes s (length q) (length b) → Same (Ok (Some (front_len s)))
   unfolding take_buffer
   lies-there t =
       let size = length_part start (front_len s) q (front_fits t).0 in
@@ -343,8 +337,8 @@ module _ (h : Outgoing) (e : End) (a : StandsOut h e) where
       let k = sealings.question_of (state_of h.words) in
       let l = a.shown in
       subst (λ (o : Option Lent). Shows o r) (sym (l.1 ∙ shows-now h a.flat l.0))
-      (subst (Shows (world.lent_by k.question k.nonce k.header l.0 h.queue)) (sym (m ∙ if_true _ _ a.flat))
-      (shows_same k.question k.nonce k.header h.queue l.0))
+      (subst (Shows (world.lent_by k l.0 h.queue)) (sym (m ∙ if_true _ _ a.flat))
+      (shows_same k h.queue l.0))
 
   module _ (c : OutCall) (m : MadeOut h c) where
     behind-flat : is_flat (behind_out h c).words ≡ true
@@ -506,8 +500,8 @@ module _ (h : Outgoing) (e : End) (a : StandsOut h e) where
   -- ---- the host writes sealed bytes
 
   module _ (r : HuskSealing) (bytes : List ℕ) (m : sends.SealingCall r h.words) (z : r.kind ≡ 2) (l : length bytes ≡ r.length) where
-    named : (splice r.start bytes h.queue ≡ written_in (sealings.question_of (state_of h.words)).question bytes h.queue)
-        × (some bytes ≡ given_in (sealings.question_of (state_of h.words)).question bytes e.given)
+    named : (splice r.start bytes h.queue ≡ written_in (sealings.question_of (state_of h.words)) bytes h.queue)
+        × (some bytes ≡ given_in (sealings.question_of (state_of h.words)) bytes e.given)
     named =
         let s = m ∙ if_true _ _ a.flat in
         let n = sealing-names (state_of h.words) h.queue bytes e.given (subst (λ (k : HuskSealing). k.kind ≡ 2) s z) (subst (λ (k : HuskSealing). length bytes ≡ k.length) s l) in
@@ -518,7 +512,7 @@ module _ (h : Outgoing) (e : End) (a : StandsOut h e) where
         let q : stores_of (sealed_in h r bytes) ≡ stored w (fill· bytes) =
         ap (λ (p : List ℕ). lending (stores_of h) p h.kept) named.0 ∙ of_stores (λ s. stored s (fill· bytes)) in
         let s = turns_as x (sealed_in h r bytes) (stored w (fill· bytes)) {b = sent_to e (fill· bytes)} a.flat q refl refl refl refl in
-        let g = named.1 ∙ of_stores (λ s. given_in (sealings.question_of s.state).question bytes e.given) in
+        let g = named.1 ∙ of_stores (λ s. given_in (sealings.question_of s.state) bytes e.given) in
         λ i. enters e (fill· bytes) (only 0) (s i) e.took (g i)
 
     pub fill_stands : StandsOut (sealed_in h r bytes) (entered_fill e (sealed_in h r bytes) bytes)

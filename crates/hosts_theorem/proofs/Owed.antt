@@ -1,5 +1,5 @@
 -- Each answer is the one that the host's account owes: by what holds of the log behind the call, in which the answer stands first. Assumes nothing.
-use Rattle.std.specs.Prelude.{ℕ, ◌+◌, ◌*◌, ◌≤◌, min, eqb, leb, ltb, length, true, ◌≡◌, refl}
+use Rattle.std.specs.Prelude.{ℕ, ◌+◌, ◌*◌, ◌≤◌, min, eqb, leb, ltb, length, true, ◌≡◌, refl, Some, None, Ok, Err}
 use Rattle.std.proofs.Common.{le-leb, le-ltb, lt-ltb, arith, sym, ap, subst, ◌∙◌}
 use Rattle.std.proofs.lemmas.Bool.{lt-leb, false≢true}
 use mathlib.Core.List.Memᴰ.{head as here}
@@ -12,8 +12,7 @@ use Rattle.record.specs.Record.{unified_header}
 use Rattle.queue.specs.Queue.{is_sound}
 use Rattle.outgoing.specs.declared.Sending.{Sending}
 use Rattle.outgoing.specs.Status.{to_seal}
-use Rattle.sealing.specs.Sealing.{question_of}
-use Rattle.sealing.specs.declared.Question.{Question}
+use Rattle.sealing.specs.Sealing.{Asked, question_of}
 use Rattle.flight.specs.declared.Flight.{Flight}
 use Rattle.process_ack.specs.Ack.{acked}
 use Rattle.process_ack.specs.Status.{newly_marked}
@@ -28,9 +27,8 @@ use Rattle.send_calls.specs.Calls.{flat_sealing, flat_take, flat_part, SealingCa
 use Rattle.send_calls.specs.declared.HuskSealing.{HuskSealing}
 use Rattle.send_calls.specs.declared.HuskTake.{HuskTake}
 use Rattle.send_calls.specs.declared.HuskPart.{HuskPart}
-use Rattle.taking.specs.Take.{take_answer}
-use Rattle.taking.specs.declared.TakeAnswer.TheVariants as taken
-use Rattle.taking.specs.declared.TakeAnswer.{TakeAnswer}
+use Rattle.taking.specs.Take.{TakeAnswer, take_answer}
+use Rattle.taking.specs.declared.TakeError.TheVariants as taken
 use Rattle.waiting_laws.specs.Calls.{Stores, ack·, Reply, stored}
 use Rattle.waiting_laws.specs.Queued.{Queued, Holds}
 use Rattle.waiting_laws.proofs.Seals.{question-told}
@@ -73,8 +71,8 @@ use Rattle.hosts_theorem.proofs.Out.{out-answer, sealing-answer}
 
 -- ---- what the sealing question says: 01's header of the record that it names, or nothing
 
-abbrev shown_by : Question → HuskSealing
-shown_by k = flat_sealing k.question k.nonce k.header
+abbrev shown_by : Asked → HuskSealing
+shown_by k = flat_sealing k
 
 abbrev Plain : HuskSealing → Type 0
 Plain r = (r.kind ≡ 2 → r.header ≡ sealed_header r.epoch r.number r.length) × ((r.kind ≡ 2 → ⊥) → r ≡ nothing_to_seal)
@@ -82,8 +80,8 @@ Plain r = (r.kind ≡ 2 → r.header ≡ sealed_header r.epoch r.number r.length
 plain : (s : Sending) (q : List ℕ) (ds : List (List Queued)) → Holds s q ds → Plain (shown_by (question_of s))
 unfolding unified_header
 plain s q ds h =
-    subst (λ (k : Question). Plain (shown_by k)) (sym (question-told s q ds h))
-    (by_test (λ (k : Question). Plain (shown_by k)) (λ t. (λ z. refl, λ n. absurd (n refl))) (λ t. (λ z. absurd (omega arith), λ n. refl)))
+    subst (λ (k : Asked). Plain (shown_by k)) (sym (question-told s q ds h))
+    (by_test (λ (k : Asked). Plain (shown_by k)) (λ t. (λ z. refl, λ n. absurd (n refl))) (λ t. (λ z. absurd (omega arith), λ n. refl)))
 
 -- ---- what holds of a log
 
@@ -266,19 +264,19 @@ module _ (h : Outgoing) (e : End) (o : StandsOut h e) (i : Matches e.out.stores 
 
 -- 12 is a take that is refused
 take-refused : (a : TakeAnswer) → (flat_take a).refusal ≡ 12 → (flat_take a).kind ≡ 0
-take-refused (taken.Taken n) z = absurd (omega arith)
-take-refused taken.OutOfRange z = refl
-take-refused taken.Nothing z = absurd (omega arith)
-take-refused taken.Unsealed z = refl
-take-refused (taken.Short n) z = refl
+take-refused (Ok (Some n)) z = absurd (omega arith)
+take-refused (Err taken.OutOfRange) z = refl
+take-refused (Ok None) z = absurd (omega arith)
+take-refused (Err taken.Unsealed) z = refl
+take-refused (Err (taken.Short n)) z = refl
 
 -- in place: and it is nowhere
 part-refused : (a : TakeAnswer) (start : ℕ) → (flat_part a start).refusal ≡ 12 → ((flat_part a start).kind ≡ 0) × ((flat_part a start).start ≡ 0)
-part-refused (taken.Taken n) start z = absurd (omega arith)
-part-refused taken.OutOfRange start z = (refl, refl)
-part-refused taken.Nothing start z = absurd (omega arith)
-part-refused taken.Unsealed start z = (refl, refl)
-part-refused (taken.Short n) start z = (refl, refl)
+part-refused (Ok (Some n)) start z = absurd (omega arith)
+part-refused (Err taken.OutOfRange) start z = (refl, refl)
+part-refused (Ok None) start z = absurd (omega arith)
+part-refused (Err taken.Unsealed) start z = (refl, refl)
+part-refused (Err (taken.Short n)) start z = (refl, refl)
 
 -- h the memory with what was lent in its place
 module _ (h : Outgoing) (f : sendWords.is_flat h.words ≡ true) (g : flat_to h.flight 12 ≡ true) where

@@ -1,10 +1,12 @@
 -- A call of reassembly at a host: what it enters in its log is the claim's event, and the answer is the one owed. Assumes nothing.
-use Rattle.std.specs.Prelude.{ℕ, length, List, ◌≡◌, refl}
+use Rattle.std.specs.Prelude.{Result, Ok, Err, ℕ, length, List, ◌≡◌, refl}
 use Rattle.std.proofs.Common.{eqb-true, sym, ap, ◌∙◌, arith}
 use Rattle.base.specs.Choose.{choose, by_test, if_true, if_false, test_cases}
 use Rattle.assembly.specs.Assembly.{is_sound, begun, taken}
 use Rattle.assembly.specs.declared.Piece.{Piece}
+use Rattle.assembly.specs.declared.PieceError.{PieceError}
 use Rattle.assembly.specs.declared.Piece.TheVariants as piece
+use Rattle.assembly.specs.declared.PieceError.TheVariants as refused
 use Rattle.assembly_calls.specs.Calls.{flat_piece, BeginCall, TakeCall}
 use Rattle.assembly_calls.specs.declared.HuskPiece.{HuskPiece}
 use Rattle.assembly_theorem.specs.Account as account
@@ -15,33 +17,33 @@ use Rattle.hosts_theorem.specs.Log.{verdict_in, verdict_of_begin, piece_told}
 -- ---- answers
 
 -- what the header's numbers tell is the verdict, and told by the claim's table they are the answer
-told-in : (p : Piece) → verdict_in (flat_piece p) ≡ verdict_of p
+told-in : (p : Result Piece PieceError) → verdict_in (flat_piece p) ≡ verdict_of p
 unfolding verdict_in choose
-told-in piece.Short = refl
-told-in piece.Setting = refl
-told-in piece.Reply = refl
-told-in piece.End = refl
-told-in piece.Malformed = refl
-told-in piece.Disagrees = refl
-told-in piece.TooMany = refl
-told-in (piece.Passed n) = refl
-told-in piece.Same = refl
-told-in piece.Held = refl
-told-in (piece.Message t n l) = refl
+told-in (Err refused.Short) = refl
+told-in (Err refused.Setting) = refl
+told-in (Err refused.Reply) = refl
+told-in (Ok piece.End) = refl
+told-in (Err refused.Malformed) = refl
+told-in (Err refused.Disagrees) = refl
+told-in (Err refused.TooMany) = refl
+told-in (Ok (piece.Passed n)) = refl
+told-in (Ok piece.Same) = refl
+told-in (Ok piece.Held) = refl
+told-in (Ok (piece.Message t n l)) = refl
 
-told_back : (p : Piece) → flat_piece p ≡ piece_told (verdict_of p)
+told_back : (p : Result Piece PieceError) → flat_piece p ≡ piece_told (verdict_of p)
 unfolding choose
-told_back piece.Short = refl
-told_back piece.Setting = refl
-told_back piece.Reply = refl
-told_back piece.End = refl
-told_back piece.Malformed = refl
-told_back piece.Disagrees = refl
-told_back piece.TooMany = refl
-told_back (piece.Passed n) = refl
-told_back piece.Same = refl
-told_back piece.Held = refl
-told_back (piece.Message t n l) = refl
+told_back (Err refused.Short) = refl
+told_back (Err refused.Setting) = refl
+told_back (Err refused.Reply) = refl
+told_back (Ok piece.End) = refl
+told_back (Err refused.Malformed) = refl
+told_back (Err refused.Disagrees) = refl
+told_back (Err refused.TooMany) = refl
+told_back (Ok (piece.Passed n)) = refl
+told_back (Ok piece.Same) = refl
+told_back (Ok piece.Held) = refl
+told_back (Ok (piece.Message t n l)) = refl
 
 -- 0 is begun and 12 refused
 begin_in : (w : List ℕ) → verdict_of_begin (choose (is_sound w) 0 12) ≡ choose (is_sound w) account.begun (account.turned 12)

@@ -1,11 +1,11 @@
 -- Hosts that start: for every setting in range the words that the five starting calls leave, so that the claim is not hollow. Assumes nothing.
-use Rattle.std.specs.Prelude.{ℕ, ◌≤◌, replicate, set, List, [], ◌≡◌, refl}
+use Rattle.std.specs.Prelude.{ℕ, ◌≤◌, replicate, set, List, [], ◌≡◌, refl, Ok}
 use Rattle.std.proofs.Common.{le-ltb}
 use Rattle.base.specs.Choose.{if_false}
 use Rattle.datagram.specs.Datagram.{begun}
 use Rattle.recv_keys.specs.Keys.{fresh}
 use Rattle.receiving.specs.Receiving.{fresh_of, made}
-use Rattle.receiving.specs.declared.Answer.TheVariants as answers
+use Rattle.receiving.specs.declared.Done.TheVariants as done
 use Rattle.recv_words.specs.Entries.{fresh_words}
 use Rattle.recv_calls.specs.Laws.{starts_as}
 use Rattle.send_words.specs.Words.{words, mtu-at, limit-at}
@@ -45,7 +45,7 @@ first_host s = record {
   seen = new_end s;
 }
 
-fresh-is : (min : ℕ) → min ≤ 17 → fresh_of min ≡ made answers.Done (fresh min) (begun 0)
+fresh-is : (min : ℕ) → min ≤ 17 → fresh_of min ≡ made (Ok done.Asked) (fresh min) (begun 0)
 unfolding fresh_of
 fresh-is min h = if_false _ _ (le-ltb 17 min h)
 
@@ -56,7 +56,7 @@ fresh-notes = refl
 
 pub starts : (s : Setting) → Startable s → Started s (first_host s)
 starts s o = record {
-  receiving = (starts_as s.min (fresh_words s.min) answers.Done (fresh_of s.min) refl (fresh-is s.min o.min), refl);
+  receiving = (starts_as s.min (fresh_words s.min) (Ok done.Asked) (fresh_of s.min) refl (fresh-is s.min o.min), refl);
   datagram = refl;
   sending = starts-done s.mtu s.limit (ranges-setting s.mtu s.limit (record { low = o.low; high = o.high; some = o.some; most = o.most }));
   queue = refl;

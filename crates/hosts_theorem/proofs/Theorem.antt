@@ -8,8 +8,7 @@ use Rattle.base.specs.Choose.{choose, by_test, if_false}
 use Rattle.outgoing.specs.State.{started, fresh_sending, no_waiting}
 use Rattle.outgoing.specs.declared.Sending.{Sending}
 use Rattle.recv_calls.specs.Flat.{opening_of}
-use Rattle.sealing.specs.Sealing.{question_of}
-use Rattle.sealing.specs.declared.Question as asked
+use Rattle.sealing.specs.Sealing.{Asked, question_of}
 use Rattle.waiting_laws.specs.Answers.{answered}
 use Rattle.waiting_laws.specs.Calls.{send·, ack·, Reply, only}
 use Rattle.history_theorem.specs.Account.{sealed_over}
@@ -335,9 +334,9 @@ fresh-state mtu limit = refl
 fresh-lent : (mtu limit : ℕ) (q : List ℕ) → none ≡ world.lends (fresh_sending mtu limit) q none
 unfolding world.lends question_of fresh_sending no_waiting
 fresh-lent mtu limit q =
-    by_test (λ (k : asked.Question). none ≡ lent_by k.question k.nonce k.header none q)
-    (λ s. by_test (λ (k : asked.Question). none ≡ lent_by k.question k.nonce k.header none q)
-    (λ t. ap (λ (k : asked.Question). lent_by k.question k.nonce k.header none q) (sym (if_false _ _ refl))) (λ t. refl))
+    by_test (λ (k : Asked). none ≡ lent_by k none q)
+    (λ s. by_test (λ (k : Asked). none ≡ lent_by k none q)
+    (λ t. ap (λ (k : Asked). lent_by k none q) (sym (if_false _ _ refl))) (λ t. refl))
     (λ s. refl)
 
 pub starts : (s : Setting) (h : Host) → Started s h → Stands h

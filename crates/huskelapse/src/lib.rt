@@ -1,7 +1,10 @@
 // The C interface, one static library for hosts: each call of recv_calls, classify_calls, mask_calls, send_calls, flight_calls, ack_calls,
-// status_calls and assembly_calls as a C function with the same contract. The library keeps no state.
+// status_calls and assembly_calls as a C function with the same contract, its refusal told as 01's number. The library keeps no state.
 #![tactic(auto)]
 
+ghost use Rattle.std.specs.Prelude.{◌≡◌};
+ghost use Rattle.receiving.specs.Receiving.{refusal_number};
+ghost use Rattle.recv_calls.specs.Flat.{number_of};
 ghost use Rattle.recv_calls.specs.Calls as receive;
 ghost use Rattle.classify_calls.specs.Calls as classify;
 ghost use Rattle.mask_calls.specs.Calls as masked;
@@ -13,15 +16,38 @@ ghost use Rattle.assembly_calls.specs.Calls as pieces;
 
 use ack_calls::HuskAcked;
 use answers::HuskTold;
+use assembly::PieceError;
 use assembly_calls::HuskPiece;
 use classify_calls::{HuskClass, PENDING};
+use mask_calls::MaskedKeyError;
 use mask_keys::{RECEIVE, SEND};
+use receiving::Refusal;
 use recv_calls::HuskReading;
 use recv_words::WORDS;
 use send_calls::{HuskPart, HuskSealing, HuskTake};
 use status_calls::{HuskQueued, HuskSaved};
 
 // ---- receiving
+
+// The C interface has numbers: that of a refusal, or 0.
+fn receive_number(a: Result<(), Refusal>) -> u8
+    ensures { result ≡ number_of a }
+{
+    match a {
+        Ok(()) => 0,
+        Err(r) => u8::from(r),
+    }
+}
+
+fn masked_receive_number(a: Result<(), MaskedKeyError<Refusal>>) -> u8
+    ensures { result ≡ masked.masked_number refusal_number a }
+{
+    match a {
+        Ok(()) => 0,
+        Err(MaskedKeyError::Refused(r)) => u8::from(r),
+        Err(MaskedKeyError::BadMaskKey) => 27,
+    }
+}
 
 #[unsafe(no_mangle)]
 pub extern "C" fn husk_receiving_init_words(
@@ -32,7 +58,7 @@ pub extern "C" fn husk_receiving_init_words(
 ) -> u8
     ensures { masked.FreshCall result w.new x.new k.new min_protected }
 {
-    mask_calls::fresh(w, x, k, min_protected)
+    receive_number(mask_calls::fresh(w, x, k, min_protected))
 }
 
 #[unsafe(no_mangle)]
@@ -44,7 +70,7 @@ pub extern "C" fn husk_receiving_key_words(
 ) -> u8
     ensures { masked.KeyReceiveCall result w.new w.old k.new k.old epoch iv.now }
 {
-    mask_calls::key_receive(w, k, epoch, iv)
+    receive_number(mask_calls::key_receive(w, k, epoch, iv))
 }
 
 #[unsafe(no_mangle)]
@@ -57,7 +83,7 @@ pub extern "C" fn husk_receiving_key_masked_words(
 ) -> u8
     ensures { masked.KeyReceiveMaskedCall result w.new w.old k.new k.old epoch iv.now mask_key.now }
 {
-    mask_calls::key_receive_masked(w, k, epoch, iv, mask_key)
+    masked_receive_number(mask_calls::key_receive_masked(w, k, epoch, iv, mask_key))
 }
 
 #[unsafe(no_mangle)]
@@ -75,14 +101,14 @@ pub extern "C" fn husk_receiving_remove_words(
 pub extern "C" fn husk_receiving_enable_encryption(w: &mut [u64; WORDS]) -> u8
     ensures { receive.EnablePeerEncryptionCall result w.new w.old }
 {
-    recv_calls::enable_peer_encryption(w)
+    receive_number(recv_calls::enable_peer_encryption(w))
 }
 
 #[unsafe(no_mangle)]
 pub extern "C" fn husk_receiving_release_application_data(w: &mut [u64; WORDS]) -> u8
     ensures { receive.ReleaseApplicationDataCall result w.new w.old }
 {
-    recv_calls::release_application_data(w)
+    receive_number(recv_calls::release_application_data(w))
 }
 
 #[unsafe(no_mangle)]
@@ -93,7 +119,7 @@ pub extern "C" fn husk_receiving_begin_words(
 ) -> u8
     ensures { classify.BeginCall result w.new w.old x.new x.old n }
 {
-    classify_calls::begin(w, x, n)
+    receive_number(classify_calls::begin(w, x, n))
 }
 
 #[unsafe(no_mangle)]
@@ -169,7 +195,7 @@ pub extern "C" fn husk_sending_init_words(
 ) -> u8
     ensures { masked.FreshSendCall result w.new k.new mtu limit }
 {
-    mask_calls::fresh_sending(w, k, mtu, limit)
+    send_keys::refusal(mask_calls::fresh_sending(w, k, mtu, limit))
 }
 
 #[unsafe(no_mangle)]
@@ -181,7 +207,7 @@ pub extern "C" fn husk_sending_key_words(
 ) -> u8
     ensures { masked.KeySendCall result w.new w.old k.new k.old epoch iv.now }
 {
-    mask_calls::key_send(w, k, epoch, iv)
+    send_keys::refusal(mask_calls::key_send(w, k, epoch, iv))
 }
 
 #[unsafe(no_mangle)]
@@ -194,7 +220,7 @@ pub extern "C" fn husk_sending_key_masked_words(
 ) -> u8
     ensures { masked.KeySendMaskedCall result w.new w.old k.new k.old epoch iv.now mask_key.now }
 {
-    mask_calls::key_send_masked(w, k, epoch, iv, mask_key)
+    mask_calls::masked_number(mask_calls::key_send_masked(w, k, epoch, iv, mask_key))
 }
 
 #[unsafe(no_mangle)]
@@ -207,7 +233,7 @@ pub extern "C" fn husk_sending_send(
 ) -> u8
     ensures { sends.SendCall result w.new w.old epoch content_type content.now queue.new queue.old }
 {
-    send_calls::send(w, epoch, content_type, content, queue)
+    send_keys::refusal(send_calls::send(w, epoch, content_type, content, queue))
 }
 
 #[unsafe(no_mangle)]
@@ -228,7 +254,7 @@ pub extern "C" fn husk_sending_sealed_words(
 ) -> u8
     ensures { masked.SealedCall result w.new w.old k.now length mask_0 mask_1 queue.new queue.old }
 {
-    mask_calls::sealed(w, k, length, mask_0, mask_1, queue)
+    sealing::refusal(mask_calls::sealed(w, k, length, mask_0, mask_1, queue))
 }
 
 #[unsafe(no_mangle)]
@@ -268,7 +294,7 @@ pub extern "C" fn husk_flight_init_words(
 pub extern "C" fn husk_flight_begin_words(f: &mut [u64; flight_words::WORDS]) -> u8
     ensures { flights.BeginFlightCall result f.new f.old }
 {
-    flight_calls::begin_flight(f)
+    send_keys::refusal(flight_calls::begin_flight(f))
 }
 
 #[unsafe(no_mangle)]
@@ -284,7 +310,16 @@ pub extern "C" fn husk_flight_send_words(
 ) -> u8
     ensures { flights.SendSavedCall result w.new w.old f.new f.old numbers.new numbers.old epoch content_type content.now queue.new queue.old kept.new kept.old }
 {
-    flight_calls::send_saved(w, f, numbers, epoch, content_type, content, queue, kept)
+    send_keys::refusal(flight_calls::send_saved(
+        w,
+        f,
+        numbers,
+        epoch,
+        content_type,
+        content,
+        queue,
+        kept,
+    ))
 }
 
 #[unsafe(no_mangle)]
@@ -299,7 +334,7 @@ pub extern "C" fn husk_flight_message_words(
 ) -> u8
     ensures { flights.CreateHandshakeCall result w.new w.old f.new f.old numbers.new numbers.old kind body.now queue.new queue.old kept.new kept.old }
 {
-    flight_calls::create_handshake(w, f, numbers, kind, body, queue, kept)
+    send_keys::refusal(flight_calls::create_handshake(w, f, numbers, kind, body, queue, kept))
 }
 
 // ---- resends and ACKs
@@ -383,6 +418,15 @@ pub extern "C" fn husk_sending_status(w: &[u64; send_words::WORDS]) -> HuskQueue
 
 // ---- whole handshake messages
 
+fn piece_number(a: Result<(), PieceError>) -> u8
+    ensures { result ≡ pieces.number_of a }
+{
+    match a {
+        Ok(()) => 0,
+        Err(e) => u8::from(e),
+    }
+}
+
 #[unsafe(no_mangle)]
 pub extern "C" fn husk_assembly_init(w: &mut [u64; assembly_steps::WORDS])
     ensures { pieces.FreshCall w.new }
@@ -394,7 +438,7 @@ pub extern "C" fn husk_assembly_init(w: &mut [u64; assembly_steps::WORDS])
 pub extern "C" fn husk_assembly_begin(w: &mut [u64; assembly_steps::WORDS], n: usize) -> u8
     ensures { pieces.BeginCall result w.new w.old n }
 {
-    assembly_calls::begin(w, n)
+    piece_number(assembly_calls::begin(w, n))
 }
 
 #[unsafe(no_mangle)]

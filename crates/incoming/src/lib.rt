@@ -5,11 +5,11 @@ ghost use Rattle.std.specs.Prelude.{◌≡◌, ◌≤◌, length};
 ghost use Rattle.incoming.specs.Inner.{inner_of};
 ghost use Rattle.incoming.specs.Padding.{left_of};
 
-// What an opened record holds: its content type and the length of the content in front of it, or zeros alone.
+// What an opened record holds: its content type, and the length of the content in front of it.
 #[derive(Clone, Copy)]
-pub enum Inner {
-    Found { content_type: u8, length: usize },
-    Nothing,
+pub struct Inner {
+    pub content_type: u8,
+    pub length: usize,
 }
 
 // Zeros are passed by as many as base::be64 reads, since one by one takes several times as long.
@@ -23,7 +23,7 @@ fn without_zero_words(d: &[u8], n: usize) -> usize
     let mut left = n;
     while WORD_LEN <= left {
         let start = left - WORD_LEN;
-        if base::be64(d, start) != 0 {
+        if base::be::<8>(d, start) != 0 {
             return left;
         }
         left = start;
@@ -31,8 +31,8 @@ fn without_zero_words(d: &[u8], n: usize) -> usize
     left
 }
 
-// Trailing zeros removed, the last byte left is the content type, and what precedes it the content.
-pub fn recover_inner_content_type(decrypted: &[u8]) -> Inner
+// Trailing zeros removed, the last byte left is the content type, and what precedes it the content; `None` of zeros alone.
+pub fn recover_inner_content_type(decrypted: &[u8]) -> Option<Inner>
     ensures { result ≡ inner_of decrypted.now }
 {
     let mut n = decrypted.len();
@@ -40,12 +40,12 @@ pub fn recover_inner_content_type(decrypted: &[u8]) -> Inner
         let last = n - 1;
         let byte = decrypted[last];
         if byte != 0 {
-            return Inner::Found {
+            return Some(Inner {
                 content_type: byte,
                 length: last,
-            };
+            });
         }
         n = without_zero_words(decrypted, last);
     }
-    Inner::Nothing
+    None
 }

@@ -1,5 +1,5 @@
 -- The flat structs of the C interface, and what they stand for.
-use Rattle.std.specs.Prelude.{true, false, ℕ}
+use Rattle.std.specs.Prelude.{Option, Some, None, true, false, ℕ}
 use Rattle.window.specs.declared.ReplayWindow.{ReplayWindow}
 use Rattle.window.specs.declared.Verdict.TheVariants as number
 use Rattle.window.specs.declared.Verdict.{Verdict}
@@ -8,10 +8,8 @@ use Rattle.record.specs.declared.Parsed.{Parsed}
 use Rattle.record.specs.declared.Plaintext.{Plaintext}
 use Rattle.record.specs.Record.{plain_head}
 use Rattle.record.specs.declared.Parsed.TheVariants as parse
-use Rattle.handshake.specs.declared.ParsedHeader.{ParsedHeader}
-use Rattle.handshake.specs.declared.ParsedHeader.TheVariants as header
+use Rattle.handshake.specs.declared.Header.{Header}
 use Rattle.incoming.specs.declared.Inner.{Inner}
-use Rattle.incoming.specs.declared.Inner.TheVariants as inner
 use Rattle.leaves.specs.declared.LeavesWindow.{LeavesWindow}
 use Rattle.leaves.specs.declared.LeavesParsed.{LeavesParsed}
 use Rattle.leaves.specs.declared.LeavesHeader.{LeavesHeader}
@@ -69,9 +67,9 @@ flat_parsed (parse.Invalid n) = bare 2 plain_head n
 flat_parsed (parse.Plaintext p) = flat_plaintext p
 flat_parsed (parse.Ciphertext c) = flat_ciphertext c
 
-abbrev pub flat_header : ParsedHeader → LeavesHeader
-flat_header header.Incomplete = record { found = false; msg_type = 0; length = 0; message_seq = 0; fragment_offset = 0; fragment_length = 0 }
-flat_header (header.Read h) = record {
+abbrev pub flat_header : Option Header → LeavesHeader
+flat_header None = record { found = false; msg_type = 0; length = 0; message_seq = 0; fragment_offset = 0; fragment_length = 0 }
+flat_header (Some h) = record {
   found = true;
   msg_type = h.msg_type;
   length = h.length;
@@ -80,6 +78,6 @@ flat_header (header.Read h) = record {
   fragment_length = h.fragment_length;
 }
 
-abbrev pub flat_inner : Inner → LeavesInner
-flat_inner inner.Nothing = record { found = false; content_type = 0; length = 0 }
-flat_inner (inner.Found t n) = record { found = true; content_type = t; length = n }
+abbrev pub flat_inner : Option Inner → LeavesInner
+flat_inner None = record { found = false; content_type = 0; length = 0 }
+flat_inner (Some i) = record { found = true; content_type = i.content_type; length = i.length }

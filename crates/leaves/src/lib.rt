@@ -11,7 +11,7 @@ ghost use Rattle.handshake.specs.Header.{header_bytes, parse_header};
 ghost use Rattle.incoming.specs.Inner.{inner_of};
 ghost use Rattle.leaves.specs.Flat.{window_of, flat_window, verdict_number, bare, flat_plaintext, flat_ciphertext, flat_parsed, flat_header, flat_inner};
 
-use handshake::{Header, ParsedHeader};
+use handshake::Header;
 use incoming::Inner;
 use record::{Ciphertext, PLAINTEXT_HEADER_LEN, Parsed, Plaintext};
 use window::{ReplayWindow, Verdict};
@@ -79,15 +79,33 @@ pub struct LeavesInner {
     pub length: usize,
 }
 
+impl From<ReplayWindow> for LeavesWindow {
+    ghost from_gives = { λ w r. r ≡ flat_window w };
+
+    fn from(w: ReplayWindow) -> LeavesWindow {
+        LeavesWindow {
+            max_seq: w.max_seq,
+            window: w.window,
+        }
+    }
+}
+
+impl From<LeavesWindow> for ReplayWindow {
+    ghost from_gives = { λ w r. r ≡ window_of w };
+
+    fn from(w: LeavesWindow) -> ReplayWindow {
+        ReplayWindow {
+            max_seq: w.max_seq,
+            window: w.window,
+        }
+    }
+}
+
 #[unsafe(no_mangle)]
 pub extern "C" fn leaves_window_new() -> LeavesWindow
     ensures { result ≡ flat_window unmarked }
 {
-    let w = ReplayWindow::new();
-    LeavesWindow {
-        max_seq: w.max_seq,
-        window: w.window,
-    }
+    LeavesWindow::from(ReplayWindow::new())
 }
 
 // 0 fresh, 1 seen, 2 too old.
@@ -105,26 +123,15 @@ fn verdict_number(v: Verdict) -> u8
 pub extern "C" fn leaves_window_check(w: LeavesWindow, seqno: u64) -> u8
     ensures { result ≡ verdict_number (verdict (window_of w) seqno) }
 {
-    let v = ReplayWindow {
-        max_seq: w.max_seq,
-        window: w.window,
-    };
-    verdict_number(v.check(seqno))
+    verdict_number(ReplayWindow::from(w).check(seqno))
 }
 
 #[unsafe(no_mangle)]
 pub extern "C" fn leaves_window_update(w: LeavesWindow, seqno: u64) -> LeavesWindow
     ensures { result ≡ flat_window (marking (window_of w) seqno) }
 {
-    let v = ReplayWindow {
-        max_seq: w.max_seq,
-        window: w.window,
-    };
-    let u = v.update(seqno);
-    LeavesWindow {
-        max_seq: u.max_seq,
-        window: u.window,
-    }
+    let v = ReplayWindow::from(w);
+    LeavesWindow::from(v.update(seqno))
 }
 
 #[unsafe(no_mangle)]
@@ -138,9 +145,9 @@ pub extern "C" fn leaves_reconstruct_sequence(partial: u64, expected: u64, s_fla
 pub extern "C" fn leaves_nonce_xor(iv: LeavesNonce, seq: u64) -> LeavesNonce
     ensures { result.bytes ≡ nonce_of iv.bytes seq }
 {
-    let b = iv.bytes;
-    let n = dtls_aead::nonce_xor(b, seq);
-    LeavesNonce { bytes: n }
+    LeavesNonce {
+        bytes: dtls_aead::nonce_xor(iv.bytes, seq),
+    }
 }
 
 // An answer without a record: the header's length and the length where it has them.
@@ -148,54 +155,60 @@ fn bare(kind: u8, header_len: usize, length: usize) -> LeavesParsed
     ensures { result ≡ bare kind header_len length }
 {
     LeavesParsed {
-        kind: kind,
+        kind,
         content_type: 0,
         epoch_bits: 0,
         s_flag: false,
         sequence_number: 0,
-        header_len: header_len,
-        length: length,
+        header_len,
+        length,
     }
 }
 
-fn flat_plaintext(p: Plaintext) -> LeavesParsed
-    ensures { result ≡ flat_plaintext p }
-{
-    LeavesParsed {
-        kind: 3,
-        content_type: p.content_type,
-        epoch_bits: 0,
-        s_flag: false,
-        sequence_number: p.sequence_number,
-        header_len: PLAINTEXT_HEADER_LEN,
-        length: p.length,
+impl From<Plaintext> for LeavesParsed {
+    ghost from_gives = { λ p r. r ≡ flat_plaintext p };
+
+    fn from(p: Plaintext) -> LeavesParsed {
+        LeavesParsed {
+            kind: 3,
+            content_type: p.content_type,
+            epoch_bits: 0,
+            s_flag: false,
+            sequence_number: p.sequence_number,
+            header_len: PLAINTEXT_HEADER_LEN,
+            length: p.length,
+        }
     }
 }
 
-fn flat_ciphertext(c: Ciphertext) -> LeavesParsed
-    ensures { result ≡ flat_ciphertext c }
-{
-    LeavesParsed {
-        kind: 4,
-        content_type: 0,
-        epoch_bits: c.epoch_bits,
-        s_flag: c.s_flag,
-        sequence_number: c.sequence_number,
-        header_len: c.header_len,
-        length: c.length,
+impl From<Ciphertext> for LeavesParsed {
+    ghost from_gives = { λ c r. r ≡ flat_ciphertext c };
+
+    fn from(c: Ciphertext) -> LeavesParsed {
+        LeavesParsed {
+            kind: 4,
+            content_type: 0,
+            epoch_bits: c.epoch_bits,
+            s_flag: c.s_flag,
+            sequence_number: c.sequence_number,
+            header_len: c.header_len,
+            length: c.length,
+        }
     }
 }
 
 // The answer flat: one struct for every kind.
-fn flat_parsed(p: Parsed) -> LeavesParsed
-    ensures { result ≡ flat_parsed p }
-{
-    match p {
-        Parsed::End => bare(0, 0, 0),
-        Parsed::Incomplete => bare(1, 0, 0),
-        Parsed::Invalid(n) => bare(2, PLAINTEXT_HEADER_LEN, n),
-        Parsed::Plaintext(r) => flat_plaintext(r),
-        Parsed::Ciphertext(r) => flat_ciphertext(r),
+impl From<Parsed> for LeavesParsed {
+    ghost from_gives = { λ p r. r ≡ flat_parsed p };
+
+    fn from(p: Parsed) -> LeavesParsed {
+        match p {
+            Parsed::End => bare(0, 0, 0),
+            Parsed::Incomplete => bare(1, 0, 0),
+            Parsed::Invalid(n) => bare(2, PLAINTEXT_HEADER_LEN, n),
+            Parsed::Plaintext(r) => LeavesParsed::from(r),
+            Parsed::Ciphertext(r) => LeavesParsed::from(r),
+        }
     }
 }
 
@@ -203,7 +216,7 @@ fn flat_parsed(p: Parsed) -> LeavesParsed
 pub extern "C" fn leaves_parse(d: &[u8]) -> LeavesParsed
     ensures { result ≡ flat_parsed (parsed d.now) }
 {
-    flat_parsed(record::parse(d))
+    LeavesParsed::from(record::parse(d))
 }
 
 #[unsafe(no_mangle)]
@@ -214,8 +227,9 @@ pub extern "C" fn leaves_plaintext_header(
 ) -> LeavesPlain
     ensures { result.bytes ≡ plaintext_header content_type sequence_number length }
 {
-    let b = headers::plaintext_header(content_type, sequence_number, length);
-    LeavesPlain { bytes: b }
+    LeavesPlain {
+        bytes: headers::plaintext_header(content_type, sequence_number, length),
+    }
 }
 
 #[unsafe(no_mangle)]
@@ -226,8 +240,9 @@ pub extern "C" fn leaves_unified_header(
 ) -> LeavesUnified
     ensures { result.bytes ≡ unified_header epoch sequence_number length }
 {
-    let b = headers::unified_header(epoch, sequence_number, length);
-    LeavesUnified { bytes: b }
+    LeavesUnified {
+        bytes: headers::unified_header(epoch, sequence_number, length),
+    }
 }
 
 #[unsafe(no_mangle)]
@@ -247,36 +262,39 @@ pub extern "C" fn leaves_handshake_header(
     }) }
 {
     let h = Header {
-        msg_type: msg_type,
-        length: length,
-        message_seq: message_seq,
-        fragment_offset: fragment_offset,
-        fragment_length: fragment_length,
+        msg_type,
+        length,
+        message_seq,
+        fragment_offset,
+        fragment_length,
     };
-    let b = h.serialize();
-    LeavesHandshake { bytes: b }
+    LeavesHandshake {
+        bytes: h.serialize(),
+    }
 }
 
-fn flat_header(p: ParsedHeader) -> LeavesHeader
-    ensures { result ≡ flat_header p }
-{
-    match p {
-        ParsedHeader::Incomplete => LeavesHeader {
-            found: false,
-            msg_type: 0,
-            length: 0,
-            message_seq: 0,
-            fragment_offset: 0,
-            fragment_length: 0,
-        },
-        ParsedHeader::Read(h) => LeavesHeader {
-            found: true,
-            msg_type: h.msg_type,
-            length: h.length,
-            message_seq: h.message_seq,
-            fragment_offset: h.fragment_offset,
-            fragment_length: h.fragment_length,
-        },
+impl From<Option<Header>> for LeavesHeader {
+    ghost from_gives = { λ p r. r ≡ flat_header p };
+
+    fn from(p: Option<Header>) -> LeavesHeader {
+        match p {
+            None => LeavesHeader {
+                found: false,
+                msg_type: 0,
+                length: 0,
+                message_seq: 0,
+                fragment_offset: 0,
+                fragment_length: 0,
+            },
+            Some(h) => LeavesHeader {
+                found: true,
+                msg_type: h.msg_type,
+                length: h.length,
+                message_seq: h.message_seq,
+                fragment_offset: h.fragment_offset,
+                fragment_length: h.fragment_length,
+            },
+        }
     }
 }
 
@@ -284,26 +302,25 @@ fn flat_header(p: ParsedHeader) -> LeavesHeader
 pub extern "C" fn leaves_parse_handshake_header(d: &[u8]) -> LeavesHeader
     ensures { result ≡ flat_header (parse_header d.now) }
 {
-    flat_header(Header::parse_header(d))
+    LeavesHeader::from(Header::parse_header(d))
 }
 
-fn flat_inner(p: Inner) -> LeavesInner
-    ensures { result ≡ flat_inner p }
-{
-    match p {
-        Inner::Nothing => LeavesInner {
-            found: false,
-            content_type: 0,
-            length: 0,
-        },
-        Inner::Found {
-            content_type,
-            length,
-        } => LeavesInner {
-            found: true,
-            content_type: content_type,
-            length: length,
-        },
+impl From<Option<Inner>> for LeavesInner {
+    ghost from_gives = { λ p r. r ≡ flat_inner p };
+
+    fn from(p: Option<Inner>) -> LeavesInner {
+        match p {
+            None => LeavesInner {
+                found: false,
+                content_type: 0,
+                length: 0,
+            },
+            Some(i) => LeavesInner {
+                found: true,
+                content_type: i.content_type,
+                length: i.length,
+            },
+        }
     }
 }
 
@@ -311,15 +328,14 @@ fn flat_inner(p: Inner) -> LeavesInner
 pub extern "C" fn leaves_recover_inner_content_type(d: &[u8]) -> LeavesInner
     ensures { result ≡ flat_inner (inner_of d.now) }
 {
-    flat_inner(incoming::recover_inner_content_type(d))
+    LeavesInner::from(incoming::recover_inner_content_type(d))
 }
 
 #[unsafe(no_mangle)]
 pub extern "C" fn leaves_chacha_mask(key: &[u8; 32], sample: &[u8; 16], out: &mut [u8; 2])
     ensures { out.new ≡ mask_of key.now sample.now }
 {
-    let m = chacha::mask(*key, *sample);
-    *out = m;
+    *out = chacha::mask(*key, *sample);
 }
 
 // Word k of the mask's block; beyond its sixteen words 0.

@@ -1,20 +1,19 @@
 -- Reading in an epoch with a mask key, as a definition: the reading there was, and where it asks for a mask in such an epoch, the mask reply there was with the mask
 -- made of the key. The contracts say just that. Assumes nothing.
-use Rattle.std.specs.Prelude.{true, false, List, [], ◌∷◌, ◌≡◌, ℕ, eqb, length, get_or}
+use Rattle.std.specs.Prelude.{true, List, ◌≡◌, ℕ, eqb, length, get_or}
 use Rattle.std.proofs.Math.Option.{Option, none, some}
 use Rattle.std.proofs.Math.Path.{refl, ap}
-use Rattle.std.proofs.Common.{sym, subst, ◌∙◌, arith, eq-eqb, ne_eqb}
+use Rattle.std.proofs.Common.{subst, ◌∙◌, arith, eq-eqb, ne_eqb}
 use Rattle.base.specs.Choose.{choose, if_true, if_false}
 use Rattle.datagram.specs.declared.Reading.TheVariants as says
 use Rattle.datagram.specs.declared.Reading.{Reading}
-use Rattle.recv_keys.specs.declared.RecvKeys.{RecvKeys}
 use Rattle.receiving.specs.Receiving.{begin_of, read_of, mask_of}
 use Rattle.receiving.specs.declared.Read.{Read}
 use Rattle.receiving.specs.declared.Receiving.{Receiving}
 use Rattle.recv_words.specs.Words.{keys_of, is_flat}
 use Rattle.recv_key_steps.specs.Kept.{state_of}
 use Rattle.recv_calls.specs.Calls as receive
-use Rattle.recv_calls.specs.Flat.{answer_of, bare, flat_reading}
+use Rattle.recv_calls.specs.Flat.{answer_of, flat_reading}
 use Rattle.recv_calls.specs.declared.HuskReading.{HuskReading}
 use Rattle.mask_keys.specs.Keys.{receive_key, mask_at}
 use Rattle.mask_calls.specs.Calls.{asked_key, GoesOn, ReadCall, BeginReadCall}

@@ -2,21 +2,25 @@
 // keyed with one, and then its masks are made here. The host is asked for none, and a sealing reply brings none.
 #![tactic(auto)]
 
-ghost use Rattle.std.specs.Prelude.{true, List, ◌≡◌, ℕ, ◌<◌, length};
+ghost use Rattle.std.specs.Prelude.{true, Err, List, ◌≡◌, ℕ, ◌<◌, length};
 ghost use Rattle.base.specs.Choose.{choose};
 ghost use Rattle.recv_keys.specs.Keys.{most_epochs};
 ghost use Rattle.recv_keys.specs.Laws.{Under};
-ghost use Rattle.receiving.specs.Receiving.{key_of};
+ghost use Rattle.receiving.specs.Receiving.{key_of, refusal_number};
 ghost use Rattle.recv_words.specs.Words.{keys_of, is_flat};
 ghost use Rattle.recv_key_steps.specs.Kept.{state_of};
-ghost use Rattle.recv_calls.specs.Flat.{answer_of};
+ghost use Rattle.recv_calls.specs.Flat.{answer_of, number_of};
+ghost use Rattle.mask_calls.specs.declared.MaskedKeyError.TheVariants.{Refused};
 ghost use Rattle.send_words.specs.Words as sendWords;
 ghost use Rattle.outgoing.specs.State.{keying_state};
+ghost use Rattle.sealing.specs.Sealing as sealings;
+ghost use Rattle.send_keys.specs.Answer as sendAnswers;
 ghost use Rattle.send_keys.specs.Answer.{refusal};
 ghost use Rattle.mask_keys.specs.Keys.{key_size, send_slots, filled, emptied, entry_of, send_slot};
 ghost use Rattle.mask_calls.specs.Calls.{
   KeyReceiveCall,
   length_as,
+  masked_number,
   KeyReceiveMaskedCall,
   MovesUp,
   RemoveReceiveCall,
@@ -28,6 +32,7 @@ ghost use Rattle.mask_calls.specs.Calls.{
   FreshCall,
   FreshSendCall,
   KeySendCall,
+  IsMaskedNumber,
   KeySendMaskedCall,
   seal_mask,
   SealedCall,
@@ -36,9 +41,12 @@ ghost use Rattle.mask_calls.specs.Calls.{
 use answers::HuskTold;
 use classify_calls::PENDING;
 use mask_keys::{KEY, RECEIVE, SEND};
+use receiving::Refusal;
 use recv_calls::HuskReading;
-use recv_keys::{EPOCHS, Found};
+use recv_keys::EPOCHS;
 use recv_words::{COUNT, HIGHEST, WORDS};
+use sealing::SealError;
+use send_keys::SendError;
 
 // Refusals of keying.
 const OUT_OF_RANGE: u8 = 12;
@@ -74,48 +82,65 @@ fn empty_entry(k: &mut [u8; RECEIVE], i: u64)
 }
 
 // The entry of an epoch keyed to receive.
-fn entry_of(w: &[u64; WORDS], epoch: u16) -> Found
+fn entry_of(w: &[u64; WORDS], epoch: u16) -> Option<usize>
     ensures { result ≡ entry_of (keys_of w.now) epoch }
 {
     let count = w[COUNT];
     if count <= EPOCHS as u64 {
         return recv_words::find_epoch(w, count as usize, epoch);
     }
-    Found::Nothing
+    None
 }
 
 // ---- keying and removing
 
 // `recv_calls::key_receive`, with no mask key.
-pub fn key_receive(w: &mut [u64; WORDS], k: &mut [u8; RECEIVE], epoch: u16, iv: &[u8; 12]) -> u8
-    ensures { KeyReceiveCall result w.new w.old k.new k.old epoch iv.now }
+pub fn key_receive(
+    w: &mut [u64; WORDS],
+    k: &mut [u8; RECEIVE],
+    epoch: u16,
+    iv: &[u8; 12],
+) -> Result<(), Refusal>
+    ensures { KeyReceiveCall (number_of result) w.new w.old k.new k.old epoch iv.now }
 {
     let count = w[COUNT];
-    let r = recv_calls::key_receive(w, epoch, iv);
-    if r == 0 {
-        empty_entry(k, count);
-        return r;
+    recv_calls::key_receive(w, epoch, iv)?;
+    empty_entry(k, count);
+    Ok(())
+}
+
+// Why an epoch is not keyed with a mask key: as with none, or the mask key has another length.
+#[derive(Clone, Copy, Debug, PartialEq, Eq)]
+pub enum MaskedKeyError<E> {
+    Refused(E),
+    BadMaskKey,
+}
+
+impl<E> From<E> for MaskedKeyError<E> {
+    ghost from_gives = { λ e r. r ≡ Refused e };
+
+    fn from(e: E) -> MaskedKeyError<E> {
+        MaskedKeyError::Refused(e)
     }
-    r
 }
 
 // Why an epoch cannot be keyed to receive with a mask key of another length.
-fn bad_length(w: &[u64; WORDS], epoch: u16) -> u8
-    ensures { (iv : List ℕ) → result ≡ choose (is_flat w.now) (length_as (answer_of (key_of (state_of w.now) epoch iv).answer)) 12 }
+fn bad_length(w: &[u64; WORDS], epoch: u16) -> MaskedKeyError<Refusal>
+    ensures { (iv : List ℕ) → masked_number refusal_number (Err result) ≡ choose (is_flat w.now) (length_as (answer_of (key_of (state_of w.now) epoch iv).answer)) 12 }
 {
     if recv_words::is_flat(w) {
         if recv_words::words_sound(w) {
             if epoch < 2 {
-                return BAD_EPOCH;
+                return MaskedKeyError::Refused(Refusal::Unusable);
             }
             if epoch <= words::low(w[HIGHEST]) {
-                return BAD_EPOCH;
+                return MaskedKeyError::Refused(Refusal::Unusable);
             }
-            return BAD_MASK_KEY;
+            return MaskedKeyError::BadMaskKey;
         }
-        return OUT_OF_RANGE;
+        return MaskedKeyError::Refused(Refusal::Setting);
     }
-    OUT_OF_RANGE
+    MaskedKeyError::Refused(Refusal::Setting)
 }
 
 // `recv_calls::key_receive`, with a mask key.
@@ -125,29 +150,26 @@ pub fn key_receive_masked(
     epoch: u16,
     iv: &[u8; 12],
     key: &[u8],
-) -> u8
-    ensures { KeyReceiveMaskedCall result w.new w.old k.new k.old epoch iv.now key.now }
+) -> Result<(), MaskedKeyError<Refusal>>
+    ensures { KeyReceiveMaskedCall (masked_number refusal_number result) w.new w.old k.new k.old epoch iv.now key.now }
 {
-    if key.len() == KEY {
-        let count = w[COUNT];
-        let r = recv_calls::key_receive(w, epoch, iv);
-        if r == 0 {
-            fill_entry(k, count, key);
-            return r;
-        }
-        return r;
+    if key.len() != KEY {
+        return Err(bad_length(w, epoch));
     }
-    bad_length(w, epoch)
+    let count = w[COUNT];
+    recv_calls::key_receive(w, epoch, iv)?;
+    fill_entry(k, count, key);
+    Ok(())
 }
 
 // The slot of an entry goes, and those behind it move up.
-fn leave(k: &mut [u8; RECEIVE], f: Found)
+fn leave(k: &mut [u8; RECEIVE], f: Option<usize>)
     requires { Under most_epochs f }
     ensures { MovesUp f k.new k.old }
 {
     match f {
-        Found::At(i) => mask_keys::move_up(k, i),
-        Found::Nothing => {}
+        Some(i) => mask_keys::move_up(k, i),
+        None => {}
     }
 }
 
@@ -173,25 +195,25 @@ pub fn fresh(
     x: &mut [u64; PENDING],
     k: &mut [u8; RECEIVE],
     min_protected: usize,
-) -> u8
-    ensures { FreshCall result w.new x.new k.new min_protected }
+) -> Result<(), Refusal>
+    ensures { FreshCall (number_of result) w.new x.new k.new min_protected }
 {
     *k = [0u8; RECEIVE];
     classify_calls::fresh(w, x, min_protected)
 }
 
 // The entry of an epoch, if it has a mask key.
-fn keyed_entry(w: &[u64; WORDS], k: &[u8; RECEIVE], epoch: u16) -> Found
+fn keyed_entry(w: &[u64; WORDS], k: &[u8; RECEIVE], epoch: u16) -> Option<usize>
     ensures { Held k.now (entry_of (keys_of w.now) epoch) result }
 {
     match entry_of(w, epoch) {
-        Found::At(i) => {
+        Some(i) => {
             if mask_keys::has_key(k, i) {
-                return Found::At(i);
+                return Some(i);
             }
-            Found::Nothing
+            None
         }
-        Found::Nothing => Found::Nothing,
+        None => None,
     }
 }
 
@@ -201,11 +223,11 @@ fn go_on(w: &mut [u64; WORDS], k: &[u8; RECEIVE], a: HuskReading, d: &mut [u8]) 
     ensures { GoesOn (asked_key a w.old k.now) result w.new a w.old d.new d.old }
 {
     match keyed_entry(w, k, a.epoch) {
-        Found::At(i) => {
+        Some(i) => {
             let m = mask_keys::mask_at(k, i, d, a.start);
             recv_calls::mask(w, m[0], m[1], d)
         }
-        Found::Nothing => a,
+        None => a,
     }
 }
 
@@ -249,8 +271,8 @@ pub fn fresh_sending(
     k: &mut [u8; SEND],
     mtu: usize,
     limit: usize,
-) -> u8
-    ensures { FreshSendCall result w.new k.new mtu limit }
+) -> Result<(), SendError>
+    ensures { FreshSendCall (refusal result) w.new k.new mtu limit }
 {
     *k = [0u8; SEND];
     send_calls::fresh(w, mtu, limit)
@@ -273,32 +295,39 @@ pub fn key_send(
     k: &mut [u8; SEND],
     epoch: u16,
     iv: &[u8; 12],
-) -> u8
-    ensures { KeySendCall result w.new w.old k.new k.old epoch iv.now }
+) -> Result<(), SendError>
+    ensures { KeySendCall (refusal result) w.new w.old k.new k.old epoch iv.now }
 {
-    let r = send_calls::key_send(w, epoch, iv);
-    if r == 0 {
-        mask_keys::empty(k, send_slot(epoch));
-        return r;
+    send_calls::key_send(w, epoch, iv)?;
+    mask_keys::empty(k, send_slot(epoch));
+    Ok(())
+}
+
+// The number of an answer where a mask key is given; 0 where the epoch is keyed.
+pub fn masked_number<E: Into<u8>>(a: Result<(), MaskedKeyError<E>>) -> u8
+    ensures { IsMaskedNumber E.converts a result }
+{
+    match a {
+        Ok(()) => 0,
+        Err(MaskedKeyError::Refused(e)) => e.into(),
+        Err(MaskedKeyError::BadMaskKey) => 27,
     }
-    r
 }
 
 // Why an epoch cannot be keyed to send with a mask key of another length.
-fn bad_send_length(w: &[u64; send_words::WORDS], epoch: u16) -> u8
-    ensures { (iv : List ℕ) → result ≡ choose (sendWords.is_flat w.now) (length_as (refusal (keying_state (sendWords.state_of w.now) epoch iv).answer)) 12 }
+fn bad_send_length(w: &[u64; send_words::WORDS], epoch: u16) -> MaskedKeyError<SendError>
+    ensures { (iv : List ℕ) → masked_number sendAnswers.number_of (Err result) ≡ choose (sendWords.is_flat w.now) (length_as (refusal (keying_state (sendWords.state_of w.now) epoch iv).answer)) 12 }
 {
     if send_words::is_flat(w) {
-        let n = send_keys::refusal(send_key_steps::key_answer(w, epoch));
-        if n == OUT_OF_RANGE {
-            return n;
-        }
-        if n == BAD_EPOCH {
-            return n;
-        }
-        return BAD_MASK_KEY;
+        return match send_key_steps::key_answer(w, epoch) {
+            Ok(()) => MaskedKeyError::BadMaskKey,
+            Err(e) => match e {
+                SendError::OutOfRange | SendError::BadEpoch => MaskedKeyError::Refused(e),
+                _ => MaskedKeyError::BadMaskKey,
+            },
+        };
     }
-    OUT_OF_RANGE
+    MaskedKeyError::Refused(SendError::OutOfRange)
 }
 
 // `send_calls::key_send`, with a mask key.
@@ -308,18 +337,15 @@ pub fn key_send_masked(
     epoch: u16,
     iv: &[u8; 12],
     key: &[u8],
-) -> u8
-    ensures { KeySendMaskedCall result w.new w.old k.new k.old epoch iv.now key.now }
+) -> Result<(), MaskedKeyError<SendError>>
+    ensures { KeySendMaskedCall (masked_number sendAnswers.number_of result) w.new w.old k.new k.old epoch iv.now key.now }
 {
     if key.len() == KEY {
-        let r = send_calls::key_send(w, epoch, iv);
-        if r == 0 {
-            mask_keys::fill(k, send_slot(epoch), key);
-            return r;
-        }
-        return r;
+        send_calls::key_send(w, epoch, iv)?;
+        mask_keys::fill(k, send_slot(epoch), key);
+        return Ok(());
     }
-    bad_send_length(w, epoch)
+    Err(bad_send_length(w, epoch))
 }
 
 // The mask of the sealing that is asked: the key's where its epoch has one, else what the reply brings.
@@ -370,8 +396,8 @@ pub fn sealed(
     mask_0: u8,
     mask_1: u8,
     queue: &mut [u8],
-) -> u8
-    ensures { SealedCall result w.new w.old k.now length mask_0 mask_1 queue.new queue.old }
+) -> Result<(), SealError>
+    ensures { SealedCall (sealings.refusal result) w.new w.old k.now length mask_0 mask_1 queue.new queue.old }
 {
     let m = seal_mask(w, k, mask_0, mask_1, queue);
     send_calls::sealed(w, length, m[0], m[1], queue)

@@ -1,13 +1,11 @@
 -- Mask keys by epoch, and the mask that they spare the host (02, 6; RFC 9147, section 4.2.3). A key lies in a slot of 33 bytes: 1 where it holds a
 -- key, and the key's 32. Assumes nothing.
-use Rattle.std.specs.Prelude.{Bool, List, ◌∷◌, ℕ, ◌+◌, ◌*◌, ltb, leb, eqb, get_or, replicate}
+use Rattle.std.specs.Prelude.{Bool, List, ◌∷◌, ℕ, ◌+◌, ◌*◌, ltb, leb, eqb, get_or, replicate, Some, None}
 use Rattle.std.proofs.Math.Option.{Option, none, some}
 use Rattle.base.specs.Choose.{choose, either}
 use Rattle.base.specs.Parts.{part, splice}
 use Rattle.chacha.specs.Chacha.{mask_of}
-use Rattle.recv_keys.specs.Keys.{most_epochs, find}
-use Rattle.recv_keys.specs.declared.Found.TheVariants as found
-use Rattle.recv_keys.specs.declared.Found.{Found}
+use Rattle.recv_keys.specs.Keys.{most_epochs, find, Found}
 use Rattle.recv_keys.specs.declared.RecvKeys.{RecvKeys}
 
 -- ---- slots
@@ -62,12 +60,12 @@ keyed_as size n = choose (eqb size key_size) n (choose (either (eqb n 12) (eqb n
 -- ---- which key
 
 unfoldable pub key_in : List ℕ → Found → Option (List ℕ)
-key_in k (found.At i) = choose (has_key k i) (some (key_at k i)) none
-key_in k found.Nothing = none
+key_in k (Some i) = choose (has_key k i) (some (key_at k i)) none
+key_in k None = none
 
 -- the entry of an epoch that is keyed to receive; a slot stands for each
 unfoldable pub entry_of : RecvKeys → ℕ → Found
-entry_of r e = choose (leb r.count most_epochs) (find r.entries e r.count) found.Nothing
+entry_of r e = choose (leb r.count most_epochs) (find r.entries e r.count) None
 
 unfoldable pub receive_key : RecvKeys → List ℕ → ℕ → Option (List ℕ)
 receive_key r k e = key_in k (entry_of r e)
@@ -77,7 +75,7 @@ abbrev pub send_slot : ℕ → ℕ
 send_slot e = choose (eqb e 2) 0 1
 
 unfoldable pub send_key : List ℕ → ℕ → Option (List ℕ)
-send_key k e = key_in k (found.At (send_slot e))
+send_key k e = key_in k (Some (send_slot e))
 
 -- ---- the mask
 

@@ -19,7 +19,9 @@ pub const SEND: usize = 66;
 
 // ---- slots
 
+// A slot by its number, in the bytes that the C host lends: a type of the slots would leave the same bound on the number.
 // Slot i holds a key.
+#[tactic(auto, unfolding(crate::specs::Keys::has_key))]
 pub fn has_key(k: &[u8], i: usize) -> bool
     requires { (i + 1) * slot_size ≤ length k.now }
     ensures { result ≡ has_key k.now i }
@@ -34,10 +36,8 @@ pub fn fill(k: &mut [u8], i: usize, key: &[u8])
     ensures { k.new ≡ splice (slot_at i) (1 ∷ key.now) k.old }
 {
     let at = i * SLOT;
-    let from = at + 1;
-    let to = from + KEY;
     k[at] = 1;
-    base::move_bytes(key, &mut k[from..to]);
+    k[at + 1..at + SLOT].copy_from_slice(key);
 }
 
 // Slot i left without a key: nothing of one stays in it.
@@ -46,9 +46,7 @@ pub fn empty(k: &mut [u8], i: usize)
     ensures { k.new ≡ splice (slot_at i) (replicate slot_size 0) k.old }
 {
     let at = i * SLOT;
-    let to = at + SLOT;
-    let zeros = [0u8; SLOT];
-    base::move_bytes(&zeros, &mut k[at..to]);
+    k[at..at + SLOT].fill(0);
 }
 
 // Slot i goes, and those behind it move up.
@@ -56,51 +54,23 @@ pub fn move_up(k: &mut [u8], i: usize)
     requires { ((i + 1) * slot_size ≤ length k.old) × (length k.old ≤ 1000) }
     ensures { (length k.new ≡ length k.old) × ((n : ℕ) → get_or k.new n 0 ≡ moved_up i k.old n) }
 {
-    let mut j = i * SLOT;
-    while j < k.len() {
-        let n = j + SLOT;
-        let b = base::byte_or_zero(k, n);
-        k[j] = b as u8;
-        j += 1;
-    }
+    let at = i * SLOT;
+    k.copy_within(at + SLOT.., at);
+    let last = k.len() - SLOT;
+    k[last..].fill(0);
 }
 
 // ---- the mask
 
-fn count_of(b: &[u8]) -> usize
-    ensures { result ≡ length b.now }
-{
-    b.len()
-}
-
-// How many bytes a key has.
-fn sized(b: &[u8; KEY]) -> usize
-    ensures { length b.now ≡ key_size }
-{
-    count_of(b)
-}
-
-// A key copied. Through an array of its length the compiler makes plain moves of it.
-fn copy_key(s: &[u8], key: &mut [u8; KEY])
-    requires { length s.now ≡ key_size }
-    ensures { key.new ≡ s.now }
-{
-    sized(key);
-    let mut i = 0;
-    while i < KEY {
-        key[i] = s[i];
-        i += 1;
-    }
-}
-
 // The key in slot i.
+#[tactic(auto, unfolding(crate::specs::Keys::key_at))]
 fn key_at(k: &[u8], i: usize) -> [u8; KEY]
     requires { (i + 1) * slot_size ≤ length k.now }
     ensures { result ≡ key_at k.now i }
 {
     let from = i * SLOT + 1;
     let mut key = [0u8; KEY];
-    copy_key(base::fragment(k, from, KEY), &mut key);
+    key.copy_from_slice(&k[from..from + KEY]);
     key
 }
 
@@ -110,11 +80,7 @@ fn sample_at(d: &[u8], at: usize) -> [u8; SAMPLE]
 {
     let s = base::fragment(d, at, SAMPLE);
     let mut sample = [0u8; SAMPLE];
-    let mut i = 0;
-    while i < s.len() {
-        sample[i] = s[i];
-        i += 1;
-    }
+    sample[..s.len()].copy_from_slice(s);
     sample
 }
 

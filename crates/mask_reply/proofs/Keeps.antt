@@ -1,5 +1,6 @@
 -- A mask reply keeps the ranges, and where it is refused, 12 or 15, state and datagram. Assumes nothing.
-use Rattle.std.specs.Prelude.{ℕ, ◌-◌, true, List, ◌≡◌, refl}
+use Rattle.recv_keys.specs.Keys.{Found}
+use Rattle.std.specs.Prelude.{ℕ, ◌-◌, true, List, ◌≡◌, refl, Some, None}
 use Rattle.base.specs.Choose.{by_test}
 use Rattle.datagram.specs.Datagram.{question_sound, is_sound}
 use Rattle.datagram.specs.Keeps.{Good, passed-keeps, question-keeps, refused, never, Goes, end_fits}
@@ -10,8 +11,6 @@ use Rattle.datagram.specs.declared.Question.TheVariants as question
 use Rattle.datagram.specs.declared.Question.{Question}
 use Rattle.datagram.specs.declared.Step.{Step}
 use Rattle.records.specs.Records.{opening_asked}
-use Rattle.recv_keys.specs.declared.Found.TheVariants as found
-use Rattle.recv_keys.specs.declared.Found.{Found}
 use Rattle.recv_keys.specs.declared.RecvEpochEntry.{RecvEpochEntry}
 use Rattle.recv_keys.specs.declared.RecvKeys.{RecvKeys}
 use Rattle.mask_reply.proofs.Leads.{by-judged}
@@ -28,8 +27,8 @@ module _ (k : RecvKeys) (b : Datagram) (a : Ask) (r : Ready k b) (h : Held k a (
 
   masked-keeps : (m d : List ℕ) (f : Found) → Good k (masked_by f k b a m d).0
   unfolding masked_by masked_at
-  masked-keeps m d found.Nothing = r
-  masked-keeps m d (found.At i) = judged-keeps _ _
+  masked-keeps m d None = r
+  masked-keeps m d (Some i) = judged-keeps _ _
 
 masking-keeps : (k : RecvKeys) (b : Datagram) (m d : List ℕ) (q : Question) → Ready k b → question_sound k q (b.size - b.at) ≡ true
     → Good k (masking q k b m d).0
@@ -55,8 +54,8 @@ Rests b d p = refused p.0.reading ≡ true → (p.0.datagram ≡ b) × (p.1 ≡ 
 
 masked-rests : (f : Found) (k : RecvKeys) (b : Datagram) (a : Ask) (m d : List ℕ) → Rests b d (masked_by f k b a m d)
 unfolding masked_by masked_at
-masked-rests found.Nothing k b a m d t = (refl, refl)
-masked-rests (found.At i) k b a m d t = never (judged-goes _ b a _) t
+masked-rests None k b a m d t = (refl, refl)
+masked-rests (Some i) k b a m d t = never (judged-goes _ b a _) t
 
 masking-rests : (q : Question) (k : RecvKeys) (b : Datagram) (m d : List ℕ) → Rests b d (masking q k b m d)
 unfolding masking

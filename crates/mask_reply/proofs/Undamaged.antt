@@ -4,10 +4,10 @@ use Prim.Native.Nat.{ℕ, zero, suc, ◌+◌, ◌*◌, ◌/◌, ◌%◌, ◌<◌
 use Rattle.std.proofs.Common.{div-one, get_or-drop, inl, inr, ⊎_elim, ◌∙◌}
 use Rattle.std.specs.Int.Bits.{bit_xor}
 use Rattle.std.proofs.Math.ListN.{length, get_or}
-use Rattle.std.specs.Prelude.{drop, Bool, false, ◌⊎◌, ◌≡◌}
+use Rattle.std.specs.Prelude.{drop, Bool, false, ◌⊎◌, ◌≡◌, Some}
 use Rattle.std.proofs.Math.Seq.{ext_get_or}
 use Rattle.std.proofs.Math.Bool.{true}
-use mathlib.Core.List.{List, [], ◌∷◌, ◌++◌}
+use mathlib.Core.List.{List, ◌∷◌, ◌++◌}
 use Rattle.std.proofs.Math.Path.{refl, sym, ap}
 use native.Mathlib.Omega.{arith}
 use Rattle.base.specs.Bytes.{be, be_at, xor_twice, xors}
@@ -19,10 +19,8 @@ use Rattle.datagram.specs.declared.Datagram.{Datagram}
 use Rattle.datagram.specs.declared.Question.TheVariants as question
 use Rattle.datagram.specs.declared.Step.{Step}
 use Rattle.record.specs.Record.{sealed_head, partial_of, unified_header}
-use Rattle.recv_keys.specs.Keys.{entry_at, find}
+use Rattle.recv_keys.specs.Keys.{entry_at, find, Found}
 use Rattle.window.specs.Used.{expected}
-use Rattle.recv_keys.specs.declared.Found.TheVariants as found
-use Rattle.recv_keys.specs.declared.Found.{Found}
 use Rattle.recv_keys.specs.declared.RecvEpochEntry.{RecvEpochEntry}
 use Rattle.recv_keys.specs.declared.RecvKeys.{RecvKeys}
 use Rattle.sequence.proofs.Laws.{near}
@@ -150,7 +148,7 @@ rebuilt-near w s p n e small above below = near s p (expected w) n (omega arith)
 
 module _ (k : RecvKeys) (b : Datagram) (a : Ask) (i n : ℕ) (m d : List ℕ) where
   -- number bytes of either width
-  rules : (s : Bool) → is_sound k b ≡ true → length d ≡ b.size → b.question ≡ question.Mask a → find k.entries a.epoch k.count ≡ found.At i
+  rules : (s : Bool) → is_sound k b ≡ true → length d ≡ b.size → b.question ≡ question.Mask a → find k.entries a.epoch k.count ≡ Some i
       → a.s_flag ≡ s → partial_of (drop b.at (unmasked d b.at s m)) s ≡ n % block_of s → n ≤ 0xFFFF_FFFF_FFFF
       → n < max (block_of s) (expected (entry_at k i).replay + block_of s / 2) → expected (entry_at k i).replay < n + block_of s / 2
       → (v : Verdict) → verdict (entry_at k i).replay n ≡ v
@@ -168,7 +166,7 @@ module _ (k : RecvKeys) (b : Datagram) (a : Ask) (i n : ℕ) (m d : List ℕ) wh
       with_step x = (x, unmasked d b.at s m)
 
   -- two number bytes
-  pub mask-rules : is_sound k b ≡ true → length d ≡ b.size → b.question ≡ question.Mask a → find k.entries a.epoch k.count ≡ found.At i
+  pub mask-rules : is_sound k b ≡ true → length d ≡ b.size → b.question ≡ question.Mask a → find k.entries a.epoch k.count ≡ Some i
       → a.s_flag ≡ true → b.at + 2 < length d
       → get_or d (b.at + 1) 0 ≡ bit_xor (n / 256 % 256) (get_or m 0 0) → get_or d (b.at + 2) 0 ≡ bit_xor (n % 256) (get_or m 1 0)
       → n ≤ 0xFFFF_FFFF_FFFF → n < max 65536 (expected (entry_at k i).replay + 32768) → expected (entry_at k i).replay < n + 32768
@@ -177,7 +175,7 @@ module _ (k : RecvKeys) (b : Datagram) (a : Ask) (i n : ℕ) (m d : List ℕ) wh
   mask-rules t l q f s room high low = rules true t l q f s (number-bytes d m b.at n room high low)
 
   -- one number byte
-  pub mask-rules-short : is_sound k b ≡ true → length d ≡ b.size → b.question ≡ question.Mask a → find k.entries a.epoch k.count ≡ found.At i
+  pub mask-rules-short : is_sound k b ≡ true → length d ≡ b.size → b.question ≡ question.Mask a → find k.entries a.epoch k.count ≡ Some i
       → a.s_flag ≡ false → b.at + 1 < length d → get_or d (b.at + 1) 0 ≡ bit_xor (n % 256) (get_or m 0 0)
       → n ≤ 0xFFFF_FFFF_FFFF → n < max 256 (expected (entry_at k i).replay + 128) → expected (entry_at k i).replay < n + 128
       → (v : Verdict) → verdict (entry_at k i).replay n ≡ v

@@ -1,5 +1,5 @@
 -- The reply to a mask question (01, "Readings of an arriving datagram", refusals 8, 9 and 15; 02, 5, refusals 9 and 26; RFC 9147, sections 4.2.2, 4.2.3 and 4.5.1).
-use Rattle.std.specs.Prelude.{ℕ, ◌+◌, ltb, eqb, length, get_or, drop, Bool, true, false, List, [], ◌∷◌}
+use Rattle.std.specs.Prelude.{ℕ, ◌+◌, ltb, eqb, length, get_or, drop, Bool, true, false, List, [], ◌∷◌, Some, None}
 use Rattle.base.specs.Bytes.{xors}
 use Rattle.base.specs.Choose.{choose}
 use Rattle.base.specs.Parts.{splice}
@@ -13,10 +13,8 @@ use Rattle.datagram.specs.declared.Reason.TheVariants as reason
 use Rattle.datagram.specs.declared.Step.{Step}
 use Rattle.record.specs.Record.{partial_of}
 use Rattle.records.specs.Records.{opening_asked}
-use Rattle.recv_keys.specs.Keys.{entry_at, find}
+use Rattle.recv_keys.specs.Keys.{entry_at, find, Found}
 use Rattle.window.specs.Used.{expected}
-use Rattle.recv_keys.specs.declared.Found.TheVariants as found
-use Rattle.recv_keys.specs.declared.Found.{Found}
 use Rattle.recv_keys.specs.declared.RecvEpochEntry.{RecvEpochEntry}
 use Rattle.recv_keys.specs.declared.RecvKeys.{RecvKeys}
 use Rattle.sequence.specs.Sequence.{block_of, nearest}
@@ -60,8 +58,8 @@ masked_at e b a m d = (
 
 -- under the epoch that was resolved before the question
 unfoldable pub masked_by : Found → RecvKeys → Datagram → Ask → List ℕ → List ℕ → Step × List ℕ
-masked_by found.Nothing k b a m d = (told b says.Setting, d)
-masked_by (found.At i) k b a m d = masked_at (entry_at k i) b a m d
+masked_by None k b a m d = (told b says.Setting, d)
+masked_by (Some i) k b a m d = masked_at (entry_at k i) b a m d
 
 unfoldable pub masking : Question → RecvKeys → Datagram → List ℕ → List ℕ → Step × List ℕ
 masking question.Nothing k b m d = (told b says.Reply, d)

@@ -24,6 +24,7 @@ fn unmask(d: &mut [u8], at: usize, s_flag: bool, mask: [u8; 2])
     d[i] = x;
 }
 
+#[tactic(auto, unfolding(crate::specs::Mask::rebuilt))]
 fn rebuild(w: ReplayWindow, partial: u64, s_flag: bool) -> u64
     requires { w.max_seq ≤ 281474976710655 }
     ensures { result ≡ rebuilt w partial s_flag }

@@ -1,6 +1,6 @@
 -- What the state of a receiving end and its account say of the epochs with a mask key: an epoch in which a mask is asked is keyed; the slot of a keyed epoch holds
 -- the key given for it, through keying and removing. Assumes nothing.
-use Rattle.std.specs.Prelude.{ℕ, suc, ◌+◌, ◌-◌, ◌<◌, ◌≤◌, length, List}
+use Rattle.std.specs.Prelude.{ℕ, suc, ◌+◌, ◌-◌, ◌<◌, ◌≤◌, length, List, Some, None}
 use Rattle.std.proofs.Common.{le-leb, ◌∙◌, arith}
 use Rattle.std.proofs.lemmas.Bool.{false≢true}
 use Rattle.std.proofs.Math.Bool.{true}
@@ -9,10 +9,8 @@ use Rattle.base.specs.Choose.{if_true, both_right}
 use Rattle.datagram.specs.Datagram.{ask_sound, ask_keyed, question_sound}
 use Rattle.datagram.specs.declared.Question.TheVariants as question
 use Rattle.datagram.specs.declared.Question.{Question}
-use Rattle.recv_keys.specs.Keys.{most_epochs, find, was_found, is_keyed}
+use Rattle.recv_keys.specs.Keys.{most_epochs, find, was_found, is_keyed, Found}
 use Rattle.recv_keys.specs.Laws.{not_full}
-use Rattle.recv_keys.specs.declared.Found.TheVariants as found
-use Rattle.recv_keys.specs.declared.Found.{Found}
 use Rattle.mask_keys.specs.Keys.{receive_size, key_in, entry_of, receive_key}
 use Rattle.mask_calls.specs.Calls.{MovesUp}
 use Rattle.history_theorem.specs.Account.{nothing, a_mask, an_opening, is_in, without, key_owed}
@@ -95,15 +93,15 @@ module _ (y : Receiver) (i : Sound y) where
       in_keys : is_in e (keyed_in y.state.keys) ≡ true
       in_keys = sym (ap (is_in e) i.tally.keyed) ∙ m
 
-      found_none : find y.state.keys.entries e y.state.keys.count ≡ found.Nothing → ⊥
+      found_none : find y.state.keys.entries e y.state.keys.count ≡ None → ⊥
       found_none q = false≢true (sym (ap was_found q) ∙ find_in y.state.keys.entries e y.state.keys.count ∙ in_keys)
 
       by-found : (p : Found) → find y.state.keys.entries e y.state.keys.count ≡ p → MovesUp p j k
           → (length j ≡ length k) × Agree (without e y.account.keyed) j f
-      by-found (found.At n) q u = (
+      by-found (Some n) q u = (
         u.0,
         agree-moved j k f e u.0 (omega (arith, long)) y.account.keyed n
             (found-place y.state.keys.entries y.state.keys.count e n q ∙ sym (ap (place_of e) i.tally.keyed))
             u.1 falls-keyed (omega (arith, count-is, count_most)) m a,
       )
-      by-found found.Nothing q u = absurd (found_none q)
+      by-found None q u = absurd (found_none q)

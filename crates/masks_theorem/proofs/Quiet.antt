@@ -1,12 +1,11 @@
 -- Calls that mask keys do not change leave the epochs keyed, ask no mask, and leave the application epoch to send in. Assumes nothing.
-use Rattle.std.specs.Prelude.{ℕ, zero, suc, ◌+◌, length, List, [], ◌∷◌, ◌≡◌, refl}
+use Rattle.opening_reply.specs.Opening.{Opening}
+use Rattle.std.specs.Prelude.{ℕ, zero, suc, ◌+◌, length, List, [], ◌∷◌, ◌≡◌, refl, Some, None}
 use Rattle.std.proofs.Common.{leb-true, ⊎_elim, sym, ap, ◌∙◌, arith}
 use Rattle.std.proofs.Math.Option.{Option, none, some}
 use Rattle.base.specs.Choose.{choose, by_test, eq-or_ne}
 use Rattle.datagram.specs.declared.Reading.TheVariants as says
 use Rattle.datagram.specs.declared.Reading.{Reading}
-use Rattle.opening_reply.specs.declared.Opening.TheVariants as reply
-use Rattle.opening_reply.specs.declared.Opening.{Opening}
 use Rattle.recv_calls.specs.Flat.{opening_of}
 use Rattle.waiting_laws.specs.Calls.{SendCall, key_send·, send·, save·, message·, begin_flight·, resend·, note·, send_ack·, ack·, fill·, sealed·, take·}
 use Rattle.history_theorem.specs.Account.{tag_size, Shown, nothing, a_mask, an_opening, Account}
@@ -105,8 +104,8 @@ mask-asks-none (an_opening e n at head body) m r p = reply-asks-none r p
 open_asks-none : (w : Shown) (o : Opening) (r : Reading) → Proper (an_open_reply o) w r → NotMask r
 open_asks-none nothing o r p = reply-asks-none r p
 open_asks-none (a_mask e q) o r p = reply-asks-none r p
-open_asks-none (an_opening e n at head body) reply.No r p = settled-asks-none r p
-open_asks-none (an_opening e n at head body) (reply.Yes l) r p =
+open_asks-none (an_opening e n at head body) None r p = settled-asks-none r p
+open_asks-none (an_opening e n at head body) (Some l) r p =
     ⊎_elim (λ q. settled-asks-none r (p.0 q)) (λ q. reply-asks-none r (p.1 q)) (eq-or_ne (l + tag_size) (length body))
 
 -- ---- what is left of a datagram behind an alert

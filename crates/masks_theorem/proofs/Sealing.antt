@@ -1,6 +1,6 @@
 -- The slots of a sending host hold the mask keys given for epoch 2 and the application epoch, and the mask of a sealing is made of the key given for the epoch that
 -- the question shows. Assumes nothing.
-use Rattle.std.specs.Prelude.{ℕ, ◌*◌, ◌≤◌, ◌<◌, eqb, length, get_or, true, List, [], ◌∷◌, ◌⊎◌, ◌≡◌, refl}
+use Rattle.std.specs.Prelude.{ℕ, ◌*◌, ◌≤◌, ◌<◌, eqb, length, get_or, true, List, [], ◌∷◌, ◌⊎◌, ◌≡◌, refl, Some, None, Ok, Err}
 use Rattle.std.proofs.Common.{eqb-true, ⊎_elim, sym, subst, ◌∙◌, arith}
 use Rattle.std.proofs.lemmas.Bool.{eqb-false}
 use Rattle.std.proofs.Math.Option.{Option, none, some}
@@ -11,9 +11,7 @@ use Rattle.mask_keys.specs.Keys.{key_size, slot_size, send_slots, send_size, fil
 use Rattle.mask_keys.proofs.Laws.{key_filled, other-filled, length-filled, none-emptied, other-emptied, length-emptied}
 use Rattle.mask_calls.specs.Calls as masked
 use Rattle.mask_calls.specs.Calls.{seal_mask, mask_by}
-use Rattle.sealing.specs.Sealing.{question_of}
-use Rattle.sealing.specs.declared.SealQuestion.{SealQuestion}
-use Rattle.sealing.specs.declared.SealQuestion.TheVariants as ask
+use Rattle.sealing.specs.Sealing.{Asked, question_of}
 use Rattle.send_words.specs.Words as sendWords
 use Rattle.send_calls.specs.Calls as sends
 use Rattle.send_calls.specs.declared.HuskSealing.{HuskSealing}
@@ -132,18 +130,18 @@ module _ (agreed : ℕ → Option (List ℕ)) (app : ℕ) (k : List ℕ) (f : Gi
   unfolding seal_mask
   mask_is w p old lent flat shown under q m n =
       let x = question_of (sendWords.state_of w) in
-      by-question x.question x.nonce x.header (shown ∙ ap (λ (r : HuskSealing). shows_now r p old) (if_true _ _ flat))
+      by-question x (shown ∙ ap (λ (r : HuskSealing). shows_now r p old) (if_true _ _ flat))
     where
       same : (a b : Option (List ℕ)) → a ≡ b → (at : ℕ) → masked.mask_or a q at (m ∷ n ∷ []) ≡ mask_or b q at (m ∷ n ∷ [])
       same a none z at = ap (λ (o : Option (List ℕ)). masked.mask_or o q at (m ∷ n ∷ [])) z
       same a (some key) z at = ap (λ (o : Option (List ℕ)). masked.mask_or o q at (m ∷ n ∷ [])) z
 
-      by-question : (x : SealQuestion) (v t : List ℕ) → lent ≡ shows_now (sends.flat_sealing x v t) p old → mask_by x k q (m ∷ n ∷ []) ≡ mask_shown f lent q (m ∷ n ∷ [])
-      by-question ask.Nothing v t z = sym (ap (λ (o : Option Lent). mask_shown f o q (m ∷ n ∷ [])) (z ∙ if_false _ _ refl))
-      by-question ask.OutOfRange v t z = sym (ap (λ (o : Option Lent). mask_shown f o q (m ∷ n ∷ [])) (z ∙ if_false _ _ refl))
-      by-question (ask.Seal e num at len) v t z =
+      by-question : (x : Asked) → lent ≡ shows_now (sends.flat_sealing x) p old → mask_by x k q (m ∷ n ∷ []) ≡ mask_shown f lent q (m ∷ n ∷ [])
+      by-question (Ok None) z = sym (ap (λ (o : Option Lent). mask_shown f o q (m ∷ n ∷ [])) (z ∙ if_false _ _ refl))
+      by-question (Err x) z = sym (ap (λ (o : Option Lent). mask_shown f o q (m ∷ n ∷ [])) (z ∙ if_false _ _ refl))
+      by-question (Ok (Some x)) z =
           let some-lent = z ∙ if_true _ _ refl in
-          same (send_key k e) (f e) (send_key_is agreed app k f i e (under _ some-lent)) at
+          same (send_key k x.epoch) (f x.epoch) (send_key_is agreed app k f i x.epoch (under _ some-lent)) x.start
           ∙ sym (ap (λ (o : Option Lent). mask_shown f o q (m ∷ n ∷ [])) some-lent)
 
   -- and it is the sender's: of the agreed key, or what the host brought

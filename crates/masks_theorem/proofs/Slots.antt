@@ -1,12 +1,10 @@
 -- The slots for mask keys hold the keys that the host gave, for each epoch keyed to receive: keying, removing and searching. Assumes nothing.
-use Rattle.std.specs.Prelude.{ℕ, zero, suc, ◌+◌, ◌*◌, ◌<◌, ◌≤◌, eqb, length, get_or, Bool, true, false, List, [], ◌∷◌, ◌≡◌, refl}
+use Rattle.std.specs.Prelude.{ℕ, zero, suc, ◌+◌, ◌*◌, ◌<◌, ◌≤◌, eqb, length, get_or, Bool, true, false, List, [], ◌∷◌, ◌≡◌, refl, Some}
 use Rattle.std.proofs.Common.{eqb-true, eq-eqb, true≢false, sym, ap, subst, ◌∙◌, arith}
 use Rattle.std.proofs.lemmas.Bool.{false≢true}
 use Rattle.std.proofs.Math.Option.{Option, none, some}
 use Rattle.base.specs.Choose.{choose, if_true, if_false, by_test, test_cases, either_true, either-false}
-use Rattle.recv_keys.specs.Keys.{no_entry, entry_at, find}
-use Rattle.recv_keys.specs.declared.Found.TheVariants.{At}
-use Rattle.recv_keys.specs.declared.Found.{Found}
+use Rattle.recv_keys.specs.Keys.{no_entry, entry_at, find, Found}
 use Rattle.recv_keys.specs.declared.RecvEpochEntry.{RecvEpochEntry}
 use Rattle.recv_keys.specs.declared.RecvKeys.{RecvKeys}
 use Rattle.mask_keys.specs.Keys.{key_size, slot_size, has_key, key_at, filled, emptied, moved_up, key_in}
@@ -19,7 +17,7 @@ use Rattle.masks_theorem.specs.Hosts.{Given}
 -- ---- the slots of the keyed epochs, the last keyed first
 
 abbrev pub key_of : List ℕ → ℕ → Option (List ℕ)
-key_of k i = key_in k (At i)
+key_of k i = key_in k (Some i)
 
 abbrev pub Agree : List ℕ → List ℕ → Given → Type 0
 Agree [] k f = Unit {0}
@@ -121,11 +119,11 @@ abbrev pub place_of : ℕ → List ℕ → ℕ
 place_of e [] = 0
 place_of e (x ∷ es) = choose (eqb x e) (length es) (place_of e es)
 
-pub found-place : (l : List RecvEpochEntry) (n e i : ℕ) → find l e n ≡ At i → i ≡ place_of e (epochs_in l n)
+pub found-place : (l : List RecvEpochEntry) (n e i : ℕ) → find l e n ≡ Some i → i ≡ place_of e (epochs_in l n)
 unfolding find
 found-place l zero e i q = let z : ◌≡◌ {A = ℕ} 0 1 = cc in absurd (omega arith)
 found-place l (suc n) e i q =
-    by_test (λ (p : Found). p ≡ At i → i ≡ place_of e (epochs_in l (suc n)))
+    by_test (λ (p : Found). p ≡ Some i → i ≡ place_of e (epochs_in l (suc n)))
     (λ t r. let s : n ≡ i = cc in sym s ∙ sym (epochs-long l n) ∙ sym (if_true _ _ t))
     (λ t r. found-place l n e i r ∙ sym (if_false _ _ t)) q
 

@@ -1,5 +1,6 @@
 -- Each call that mask keys change is calls of crate hosts_theorem whose contracts and rules are met, and the slots go on holding the keys given. Assumes nothing.
-use Rattle.std.specs.Prelude.{ℕ, length, ◌⊎◌, ◌≡◌, refl}
+use Rattle.recv_keys.specs.Keys.{Found}
+use Rattle.std.specs.Prelude.{ℕ, length, ◌⊎◌, ◌≡◌, refl, None}
 use Rattle.std.proofs.Common.{ne_eqb, eqb-true, inl, inr, ⊎_elim, sym, ◌∙◌, arith}
 use Rattle.std.proofs.lemmas.Bool.{eqb-false}
 use Rattle.std.proofs.Math.Dec.{eqb}
@@ -9,8 +10,6 @@ use Rattle.std.proofs.Math.Option.{Option, none, some}
 use Rattle.std.proofs.Math.Path.{ap, subst}
 use Rattle.base.specs.Choose.{choose, if_true, if_false, by_test, test_cases}
 use Rattle.answers.specs.declared.HuskTold.{HuskTold}
-use Rattle.recv_keys.specs.declared.Found.TheVariants as found
-use Rattle.recv_keys.specs.declared.Found.{Found}
 use Rattle.receiving.specs.declared.Receiving.{Receiving}
 use Rattle.mask_keys.specs.Keys.{key_size, receive_size, filled, emptied, entry_of}
 use Rattle.mask_keys.proofs.Laws.{length-filled, length-emptied}
@@ -142,7 +141,7 @@ loses-owed none e = inl refl
 loses-owed (some t) e = by_test (λ (n : ℕ). (n ≡ 0) ⊎ (n ≡ 6)) (λ b. inr refl) (λ b. inl refl)
 
 module _ (agreed : ℕ → Option (List ℕ)) (y : Receiver) (s : Sound y) (e : ℕ) (z : Receiving) (r : HuskTold) (owed : r ≡ removal_told (remove_owed y e)) where
-  pub removes_hold : (j k : List ℕ) (f : Given) → MovesUp (choose (eqb r.refusal 0) (entry_of y.state.keys e) found.Nothing) j k
+  pub removes_hold : (j k : List ℕ) (f : Given) → MovesUp (choose (eqb r.refusal 0) (entry_of y.state.keys e) None) j k
       → HoldsIn agreed y.account k f → HoldsIn agreed (removed_to y z e).account j f
   unfolding remove_owed
   removes_hold j k f up i =

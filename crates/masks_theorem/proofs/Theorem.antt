@@ -1,8 +1,9 @@
 -- What is claimed of every list of calls with mask keys holds. Assumes nothing.
+use Rattle.recv_keys.specs.Keys.{Found}
 use Prim.Native.Nat.{ℕ, zero, suc, ◌+◌, ◌*◌, ◌≤◌, ◌<◌}
 use Rattle.std.proofs.Common.{ne_eqb, eqb-true, ltb-true, ltb-false, inl, inr, ⊎_elim, sym, subst, ◌∙◌, arith}
 use Rattle.std.proofs.lemmas.Bool.{eqb-false}
-use Rattle.std.specs.Prelude.{eqb, ltb, length, replicate, true, false, List, [], ◌∷◌, ◌⊎◌, ◌≡◌, refl}
+use Rattle.std.specs.Prelude.{eqb, ltb, length, replicate, true, false, List, [], ◌∷◌, ◌⊎◌, ◌≡◌, refl, None}
 use Rattle.std.proofs.Math.ListN.{get_or}
 use Rattle.std.proofs.lemmas.List.{length-replicate}
 use Rattle.std.proofs.Math.Option.{Option, none, some}
@@ -10,8 +11,6 @@ use Rattle.std.proofs.Math.Path.{ap}
 use Rattle.base.specs.Choose.{choose, either, if_true, if_false, by_test, test_cases, either-false}
 use Rattle.datagram.specs.declared.Reading.TheVariants as says
 use Rattle.datagram.specs.declared.Reading.{Reading}
-use Rattle.recv_keys.specs.declared.Found.TheVariants as found
-use Rattle.recv_keys.specs.declared.Found.{Found}
 use Rattle.recv_keys.specs.declared.RecvKeys.{RecvKeys}
 use Rattle.receiving.specs.Receiving.{answer_number, key_of}
 use Rattle.receiving.specs.declared.Receiving.{Receiving}
@@ -239,7 +238,7 @@ module _ (agreed : Agreed) (masks : Side → Masks) where
           fair = ((tt, tt), tt);
           holding = record {
             into = removes_hold (agreed (far s)) h.seen.into.into (sound-own all s f h w) e (state_of v) r l.0 j k.receiving k.received
-                (subst (λ (x : RecvKeys). MovesUp (choose (eqb r.refusal 0) (entry_of x e) found.Nothing) j k.receiving) keys_stand m.1) i.into;
+                (subst (λ (x : RecvKeys). MovesUp (choose (eqb r.refusal 0) (entry_of x e) None) j k.receiving) keys_stand m.1) i.into;
             out = i.out;
           };
           owed = λ n. subst (λ (p : Found). MovesUp p j k.receiving) (if_false _ _ (ne_eqb r.refusal 0 n)) m.1;

@@ -2,7 +2,6 @@
 use Rattle.std.specs.Prelude.{true, false, List, ◌≡◌, refl, ℕ, ◌+◌, ◌≤◌, ◌%◌, length, get_or, set}
 use Rattle.std.proofs.Common.{sym, ap, ◌∙◌}
 use Rattle.base.specs.Choose.{if_true, if_false}
-use Rattle.send_keys.specs.declared.SendAnswer.{SendAnswer}
 use Rattle.flight.specs.Flight.{counted}
 use Rattle.flight.specs.Save.{save_state}
 use Rattle.messages.specs.Cut.{epoch_of}
@@ -13,7 +12,7 @@ use Rattle.send_words.specs.Words.{words, message-at, lows_from, state_of, is_fl
 use Rattle.send_words.specs.Partly.{Partly}
 use Rattle.flight_words.specs.Words.{saved-at, flight_of, flat_to}
 use Rattle.save_steps.specs.Save.{Saves}
-use Rattle.send_keys.specs.Answer.{is_done}
+use Rattle.send_keys.specs.Answer.{SendAnswer, is_done}
 
 -- what the words v and g, the queue p and the contents j stand for behind an answer
 abbrev pub laid_as : SendAnswer → List ℕ → List ℕ → List ℕ → List ℕ → List ℕ → Laid

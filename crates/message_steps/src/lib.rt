@@ -16,7 +16,7 @@ ghost use Rattle.message_steps.specs.Create.{piece_in, Pieces, Creates};
 use flight_words::SAVED;
 use messages::{Cut, Plan};
 use record::{HANDSHAKE, MAX_BODY};
-use send_keys::SendAnswer;
+use send_keys::SendError;
 use send_words::{LIMIT, MESSAGE, MTU};
 
 // The dry run over a body of n bytes, behind the queue's end.
@@ -39,24 +39,24 @@ fn message_answer(
     kept: usize,
     kind: u8,
     n: usize,
-) -> SendAnswer
+) -> Result<(), SendError>
     ensures { result ≡ message_answer (state_of w.now) (counted saved) room kept kind n }
 {
     let epoch = messages::epoch_of(kind);
     if !send_steps::is_ready(w, room) {
-        return SendAnswer::OutOfRange;
+        return Err(SendError::OutOfRange);
     }
     if !flight::has_room(saved, w[MTU] as usize, kept) {
-        return SendAnswer::OutOfRange;
+        return Err(SendError::OutOfRange);
     }
     if MAX_BODY < n {
-        return SendAnswer::BadRecord;
+        return Err(SendError::BadRecord);
     }
     if !send_steps::is_keyed(w, epoch) {
-        return SendAnswer::KeysAbsent;
+        return Err(SendError::KeysAbsent);
     }
     if 65535 <= w[MESSAGE] % 65536 {
-        return SendAnswer::MessagesSpent;
+        return Err(SendError::MessagesSpent);
     }
     let next = send_steps::next_of(w, epoch);
     let plan = plan_of(w, epoch, n);
@@ -73,7 +73,7 @@ fn send_piece(
     size: usize,
     memory: &mut [u8],
     kept: &mut [u8],
-) -> SendAnswer
+) -> Result<(), SendError>
     requires { (at + size ≤ length body.now) × (length body.now ≤ 16384) }
     ensures { Saves result (epoch_of kind) 22 (piece_in kind w.old body.now at size) w.old w.new f.old f.new memory.old memory.new kept.old kept.new }
 {
@@ -81,17 +81,12 @@ fn send_piece(
     let seq = words::low(w[MESSAGE]);
     let n = 12 + size;
     let saved = f[SAVED] as usize;
-    let v = save_steps::save_answer(w, saved, memory.len(), kept.len(), epoch, HANDSHAKE, n);
-    let a = v.answer;
-    let p = v.place;
-    if send_keys::is_done(a) {
-        let from = saved * (w[MTU] as usize);
-        let end = from + n;
-        messages::write_content(&mut kept[from..end], kind, seq, body, at, size);
-        save_steps::lay_saved(w, f, p, epoch, HANDSHAKE, &kept[from..end], memory);
-        return a;
-    }
-    a
+    let p = save_steps::save_answer(w, saved, memory.len(), kept.len(), epoch, HANDSHAKE, n)?;
+    let from = saved * (w[MTU] as usize);
+    let end = from + n;
+    messages::write_content(&mut kept[from..end], kind, seq, body, at, size);
+    save_steps::lay_saved(w, f, p, epoch, HANDSHAKE, &kept[from..end], memory);
+    Ok(())
 }
 
 // The pieces sent, one after the other, and saved.
@@ -102,20 +97,18 @@ fn send_all(
     body: &[u8],
     memory: &mut [u8],
     kept: &mut [u8],
-) -> SendAnswer
+) -> Result<(), SendError>
     requires { InRange (queue_of w.old) × (length body.now ≤ 16384) }
     ensures { Pieces result kind body.now w.old w.new f.old f.new memory.old memory.new kept.old kept.new }
 {
     let over = queue::record_len(messages::epoch_of(kind), 12);
-    let mut a = SendAnswer::Done;
+    let mut a = Ok(());
     let mut at = 0;
-    let mut n: usize = 0;
-    while n < 13 {
+    for _n in 0..13usize {
         let used = send_steps::last_len(w);
         let size = messages::piece_size(w[MTU] as usize, over, used, body.len() - at);
         a = send_piece(w, f, kind, body, at, size, memory, kept);
         at += size;
-        n += 1;
         let all = body.len() - at == 0;
         if all {
             return a;
@@ -129,7 +122,6 @@ fn put_message(w: &mut [u64; send_words::WORDS], seq: u64)
     requires { seq < 65535 }
     ensures { Partly (numbered (state_of w.old) (seq + 1)) w.old w.new }
 {
-    send_words::sized(w);
     w[MESSAGE] = seq + 1;
 }
 
@@ -141,16 +133,14 @@ pub fn create_handshake(
     body: &[u8],
     memory: &mut [u8],
     kept: &mut [u8],
-) -> SendAnswer
+) -> Result<(), SendError>
     ensures { Creates result kind body.now w.old w.new f.old f.new memory.old memory.new kept.old kept.new }
 {
     let seq = w[MESSAGE] % 65536;
     let saved = f[SAVED] as usize;
-    let a = message_answer(w, saved, memory.len(), kept.len(), kind, body.len());
-    if send_keys::is_done(a) {
-        send_all(w, f, kind, body, memory, kept);
-        put_message(w, seq);
-        return a;
-    }
-    a
+    message_answer(w, saved, memory.len(), kept.len(), kind, body.len())?;
+    // What the dry run found to fit is sent: no piece is refused.
+    let _ = send_all(w, f, kind, body, memory, kept);
+    put_message(w, seq);
+    Ok(())
 }

@@ -5,10 +5,9 @@ use Rattle.std.proofs.lemmas.Bool.{false≢true}
 use Rattle.std.proofs.Common.{arith, ltb-false}
 use Rattle.base.specs.Choose.{by_test, if_false}
 use Rattle.outgoing.specs.declared.Sending.{Sending}
-use Rattle.send_keys.specs.declared.SendAnswer.{SendAnswer}
 use Rattle.flight.specs.declared.Flight.{Flight}
 use Rattle.flight.specs.Save.{save_answer, save_state}
-use Rattle.send_keys.specs.Answer.{is_done}
+use Rattle.send_keys.specs.Answer.{SendAnswer, is_done}
 use Rattle.messages.specs.Cut.{epoch_of, overhead, pieces, total, pieces_whole}
 use Rattle.messages.specs.Message.{first_cut, count_of, message_answer, message_state, message_queue, message_kept}
 

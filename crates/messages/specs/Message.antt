@@ -1,5 +1,5 @@
 -- Sending a handshake message (01, refusals 12, 14, 17, 21, 18, 19, 20), wholly or not at all. Assumes nothing.
-use Rattle.std.specs.Prelude.{true, List, ◌++◌, ◌≡◌, refl, ℕ, zero, suc, ◌+◌, ◌-◌, ◌<◌, ◌≤◌, ltb, leb, eqb, length}
+use Rattle.std.specs.Prelude.{true, List, ◌++◌, ◌≡◌, refl, ℕ, zero, suc, ◌+◌, ◌-◌, ◌<◌, ◌≤◌, ltb, leb, eqb, length, Ok, Err}
 use Rattle.std.proofs.lemmas.Bool.{false≢true}
 use Rattle.std.proofs.Common.{sym, ap, ◌∙◌, arith, length-append, length-take, length-drop, ltb-false, leb-true, leb-false, eq-eqb, ne_eqb}
 use Rattle.outgoing.specs.State.{numbered}
@@ -9,13 +9,12 @@ use Rattle.handshake.specs.Header.{header_bytes, length-header}
 use Rattle.queue.specs.Queue.{is_ready, last_len, InRange, ready}
 use Rattle.send_keys.specs.Keys.{is_keyed, next_of}
 use Rattle.outgoing.specs.declared.Sending.{Sending}
-use Rattle.send_keys.specs.declared.SendAnswer.{SendAnswer}
-use Rattle.send_keys.specs.declared.SendAnswer.TheVariants.{Done, OutOfRange, BadRecord, KeysAbsent, MessagesSpent, FlightFull, QueueFull, NumbersSpent}
+use Rattle.send_keys.specs.declared.SendError.TheVariants.{OutOfRange, BadRecord, KeysAbsent, MessagesSpent, FlightFull, QueueFull, NumbersSpent}
 use Rattle.flight.specs.declared.Flight.{Flight}
 use Rattle.flight.specs.declared.Saved.{Saved}
 use Rattle.flight.specs.Flight.{counted, is_kept}
 use Rattle.flight.specs.Save.{save_state, save_queue, save_kept, save_range}
-use Rattle.send_keys.specs.Answer.{is_done}
+use Rattle.send_keys.specs.Answer.{SendAnswer, is_done}
 use Rattle.messages.specs.declared.Cut.{Cut}
 use Rattle.messages.specs.Cut.{epoch_of, overhead, piece_size, cut_behind, plan_count, plan_reach}
 
@@ -65,9 +64,9 @@ reach_of s kind n = plan_reach 13 s.queue.mtu (overhead (epoch_of kind)) (first_
 -- 18, 19, 20 over what the dry run found
 abbrev pub plan_answer : ℕ → ℕ → ℕ → ℕ → ℕ → SendAnswer
 plan_answer saved limit next count reach =
-    choose (ltb 12 (saved + count)) FlightFull
-    (choose (ltb limit reach) QueueFull
-    (choose (ltb 281474976710655 (next + count)) NumbersSpent Done))
+    choose (ltb 12 (saved + count)) (Err FlightFull)
+    (choose (ltb limit reach) (Err QueueFull)
+    (choose (ltb 281474976710655 (next + count)) (Err NumbersSpent) (Ok tt)))
 
 -- each number over the whole message before the next: 12, 14, 17, 21, 18, 19, 20. A thirteenth piece is one too many, so thirteen are
 -- enough to see
@@ -75,16 +74,16 @@ unfoldable pub message_answer : Sending → Flight → ℕ → ℕ → ℕ → �
 message_answer s f room kept kind n =
     choose (is_ready s.queue room)
     (choose (is_kept f s.queue.mtu kept)
-    (choose (ltb 16384 n) BadRecord
+    (choose (ltb 16384 n) (Err BadRecord)
     (choose (is_keyed s.keys (epoch_of kind))
-    (choose (leb 65535 s.message_seq) MessagesSpent
+    (choose (leb 65535 s.message_seq) (Err MessagesSpent)
     (plan_answer f.saved s.queue.limit (next_of s.keys (epoch_of kind)) (count_of s kind n) (reach_of s kind n)))
-    KeysAbsent))
-    OutOfRange)
-    OutOfRange
+    (Err KeysAbsent)))
+    (Err OutOfRange))
+    (Err OutOfRange)
 
 abbrev pub beginning : Sending → Flight → List ℕ → List ℕ → Laid
-beginning s f q m = record { saved = record { answer = Done; state = s; flight = f }; queue = q; kept = m }
+beginning s f q m = record { saved = record { answer = Ok tt; state = s; flight = f }; queue = q; kept = m }
 
 abbrev pub sent_all : Sending → Flight → List ℕ → List ℕ → ℕ → List ℕ → Laid
 sent_all s f q m kind body = send_all 13 kind body 0 (beginning s f q m)

@@ -9,10 +9,14 @@ ghost use Rattle.messages.specs.Cut.{epoch_of, piece_size, cut_next, plan_count,
 ghost use Rattle.send_keys.specs.Keys.{used};
 ghost use Rattle.messages.specs.Message.{content_of, plan_answer};
 
+use flight::RECORDS;
 use handshake::Header;
 use queue::Tail;
 use record::LAST_NUMBER;
-use send_keys::SendAnswer;
+use send_keys::SendError;
+
+// The bytes of a handshake header.
+const HEADER_LEN: usize = 12;
 
 // What is left to cut: the queue's end, and the bytes of the body that are left.
 #[derive(Clone, Copy)]
@@ -28,37 +32,29 @@ pub struct Plan {
     pub reach: usize,
 }
 
-fn greater(a: usize, b: usize) -> usize
-    ensures { result ≡ Prim.Native.Nat.max a b }
-{
-    if a < b {
-        return b;
-    }
-    a
-}
-
 // ClientHello and ServerHello use epoch 0, every other message epoch 2.
+#[tactic(auto, unfolding(crate::specs::Cut::epoch_of, base::specs::Choose::choose, base::specs::Choose::either))]
 pub fn epoch_of(kind: u8) -> u16
     ensures { result ≡ epoch_of kind }
 {
-    if kind == 1 {
-        return 0;
+    match kind {
+        1 | 2 => 0,
+        _ => 2,
     }
-    if kind == 2 {
-        return 0;
-    }
-    2
 }
 
 // How many bytes of the body the next piece takes.
+#[tactic(auto, unfolding(crate::specs::Cut::piece_size, base::specs::Choose::choose))]
 pub fn piece_size(mtu: usize, over: usize, used: usize, rest: usize) -> usize
     requires { (576 ≤ mtu) × (over ≤ 34) × (used ≤ 65535) }
     ensures { result ≡ piece_size mtu over used rest }
 {
-    if used + over < mtu {
-        return base::lesser(rest, mtu - used - over);
-    }
-    base::lesser(rest, mtu - over)
+    let room = if used + over < mtu {
+        mtu - used - over
+    } else {
+        mtu - over
+    };
+    rest.min(room)
 }
 
 // What is left behind the next piece.
@@ -86,22 +82,19 @@ pub fn survey(mtu: usize, over: usize, from: Cut) -> Plan
     ensures { (result.count ≡ plan_count 13 mtu over from) × (result.reach ≡ plan_reach 13 mtu over from) }
 {
     let mut c = from;
-    let mut n: usize = 0;
-    let mut top = 0;
-    while n < 13 {
+    let mut top: usize = 0;
+    for n in 0..13 {
         c = cut_next(mtu, over, c);
-        let t = c.tail;
-        top = greater(top, t.count);
-        n += 1;
+        top = top.max(c.tail.count);
         if c.rest == 0 {
             return Plan {
-                count: n,
+                count: n + 1,
                 reach: top,
             };
         }
     }
     Plan {
-        count: n,
+        count: 13,
         reach: top,
     }
 }
@@ -112,9 +105,6 @@ pub fn write_content(d: &mut [u8], kind: u8, seq: u16, body: &[u8], at: usize, s
     ensures { d.new ≡ content_of kind seq body.now at size }
 {
     let to = at + size;
-    let start = 0;
-    let inner = start + 12;
-    let end = inner + size;
     let h = Header {
         msg_type: kind,
         length: body.len() as u32,
@@ -122,35 +112,24 @@ pub fn write_content(d: &mut [u8], kind: u8, seq: u16, body: &[u8], at: usize, s
         fragment_offset: at as u32,
         fragment_length: size as u32,
     };
-    let header = h.serialize();
-    queue::copy(&header, &mut d[start..inner]);
-    queue::copy(&body[at..to], &mut d[inner..end]);
-}
-
-// Whether so many numbers from one on would use 2^48 - 1.
-fn is_over(next: u64, count: usize) -> bool
-    requires { count ≤ 13 }
-    ensures { result ≡ tests.ltb 281474976710655 (next + count) }
-{
-    if LAST_NUMBER < next {
-        return true;
-    }
-    LAST_NUMBER < next + count as u64
+    d[..HEADER_LEN].copy_from_slice(&h.serialize());
+    d[HEADER_LEN..].copy_from_slice(&body[at..to]);
 }
 
 // Whether flight, queue and numbers have room for what was planned.
-pub fn plan_answer(saved: usize, limit: usize, next: u64, p: Plan) -> SendAnswer
+#[tactic(auto, unfolding(base::specs::Choose::choose))]
+pub fn plan_answer(saved: usize, limit: usize, next: u64, p: Plan) -> Result<(), SendError>
     requires { (saved ≤ 12) × (p.count ≤ 13) }
     ensures { result ≡ plan_answer saved limit next p.count p.reach }
 {
-    if 12 < saved + p.count {
-        return SendAnswer::FlightFull;
+    if RECORDS < saved + p.count {
+        return Err(SendError::FlightFull);
     }
     if limit < p.reach {
-        return SendAnswer::QueueFull;
+        return Err(SendError::QueueFull);
     }
-    if is_over(next, p.count) {
-        return SendAnswer::NumbersSpent;
+    if LAST_NUMBER < next.saturating_add(p.count as u64) {
+        return Err(SendError::NumbersSpent);
     }
-    SendAnswer::Done
+    Ok(())
 }

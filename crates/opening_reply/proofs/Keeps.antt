@@ -1,5 +1,5 @@
 -- An opening reply keeps the ranges; where it is refused, 12 or 15, nothing changes; only a yes moves a window. Assumes nothing.
-use Rattle.std.specs.Prelude.{ℕ, ◌-◌, ◌≤◌, length, true, List, ◌⊎◌, ◌≡◌}
+use Rattle.std.specs.Prelude.{ℕ, ◌-◌, ◌≤◌, length, true, List, ◌⊎◌, ◌≡◌, Some, None, Option}
 use Rattle.std.proofs.Common.{eqb-true}
 use Rattle.std.proofs.Math.Logic.{inl, inr}
 use Rattle.std.proofs.Math.Path.{refl, ap}
@@ -11,19 +11,14 @@ use Rattle.datagram.specs.declared.Ask.{Ask}
 use Rattle.datagram.specs.declared.Datagram.{Datagram}
 use Rattle.datagram.specs.declared.Question.TheVariants as question
 use Rattle.datagram.specs.declared.Question.{Question}
-use Rattle.incoming.specs.declared.Inner.TheVariants as inner
 use Rattle.incoming.specs.declared.Inner.{Inner}
 use Rattle.recv_keys.specs.Keeps.{InRange, marked_in_range}
-use Rattle.recv_keys.specs.Keys.{find, marked}
+use Rattle.recv_keys.specs.Keys.{find, marked, Found}
 use Rattle.recv_keys.specs.Laws.{found-keyed}
-use Rattle.recv_keys.specs.declared.Found.TheVariants as found
-use Rattle.recv_keys.specs.declared.Found.{Found}
 use Rattle.recv_keys.specs.declared.RecvKeys.{RecvKeys}
 use Rattle.record.specs.Record.{tag_size}
-use Rattle.opening_reply.specs.Opening.{typed, opened_at, opened_by, openings, opened_step}
+use Rattle.opening_reply.specs.Opening.{typed, opened_at, opened_by, openings, opened_step, Opening}
 use Rattle.opening_reply.specs.declared.Marked.{Marked}
-use Rattle.opening_reply.specs.declared.Opening.TheVariants as reply
-use Rattle.opening_reply.specs.declared.Opening.{Opening}
 use Rattle.opening_reply.specs.Keeps.{Marks}
 
 -- the ranges hold behind an opening
@@ -31,11 +26,11 @@ abbrev pub Fine : Marked → Type 0
 Fine m = Good m.keys m.step
 
 module _ (k : RecvKeys) (b : Datagram) (a : Ask) (n : ℕ) (r : Ready k b) (h : Held k a (b.size - b.at)) (low : n ≤ 0xFFFF_FFFF_FFFF) where
-  typed-keeps : (l : RecvKeys) → InRange l → (i : Inner) → Good l (typed b a n i)
+  typed-keeps : (l : RecvKeys) → InRange l → (i : Option Inner) → Good l (typed b a n i)
   unfolding typed counted question_sound
-  typed-keeps l g inner.Nothing =
+  typed-keeps l g None =
       record { keys = g; size = r.size; at = end_fits k b a r h; readings = r.readings; question = refl }
-  typed-keeps l g (inner.Found t m) =
+  typed-keeps l g (Some held) =
       counted-keeps l (moved b b.at b.readings) _ _
       (record { keys = g; size = r.size; at = r.at; readings = r.readings; question = refl })
       (end_fits k b a r h)
@@ -43,9 +38,9 @@ module _ (k : RecvKeys) (b : Datagram) (a : Ask) (n : ℕ) (r : Ready k b) (h : 
   opened-at-keeps : (d : List ℕ) (o : Opening) (f : Found) → length k.entries ≡ 5 → find k.entries a.epoch k.count ≡ f
       → Fine (opened_by f o k b a n d)
   unfolding opened_by opened_at
-  opened-at-keeps d o found.Nothing long q = r
-  opened-at-keeps d reply.No (found.At i) long q = passed-keeps k b _ r (end_fits k b a r h)
-  opened-at-keeps d (reply.Yes len) (found.At i) long q =
+  opened-at-keeps d o None long q = r
+  opened-at-keeps d None (Some i) long q = passed-keeps k b _ r (end_fits k b a r h)
+  opened-at-keeps d (Some len) (Some i) long q =
       by_test Fine
       (λ t.
       typed-keeps (marked k i n)
@@ -72,18 +67,18 @@ pub record Effect (k : RecvKeys) (b : Datagram) (o : Opening) (m : Marked) : Typ
   pub stays : refused m.step.reading ≡ true → (m.keys ≡ k) × (m.step.datagram ≡ b)
   pub moves : (m.keys ≡ k) ⊎ Marks k b o m.keys
 
-pub typed-goes : (b : Datagram) (a : Ask) (n : ℕ) (i : Inner) → Goes (typed b a n i)
+pub typed-goes : (b : Datagram) (a : Ask) (n : ℕ) (i : Option Inner) → Goes (typed b a n i)
 unfolding typed
-typed-goes b a n inner.Nothing = refl
-typed-goes b a n (inner.Found t l) = counted-goes b _ _ refl
+typed-goes b a n None = refl
+typed-goes b a n (Some held) = counted-goes b _ _ refl
 
 module _ (k : RecvKeys) (b : Datagram) (a : Ask) (n : ℕ) (d : List ℕ) (waits : b.question ≡ question.Opening a n) where
   opened-effect-at : (o : Opening) (f : Found) → find k.entries a.epoch k.count ≡ f → Effect k b o (opened_by f o k b a n d)
   unfolding opened_by opened_at
-  opened-effect-at o found.Nothing q = record { stays = λ t. (refl, refl); moves = inl refl }
-  opened-effect-at reply.No (found.At i) q = record { stays = λ t. never refl t; moves = inl refl }
-  opened-effect-at (reply.Yes len) (found.At i) q =
-      by_test (Effect k b (reply.Yes len))
+  opened-effect-at o None q = record { stays = λ t. (refl, refl); moves = inl refl }
+  opened-effect-at None (Some i) q = record { stays = λ t. never refl t; moves = inl refl }
+  opened-effect-at (Some len) (Some i) q =
+      by_test (Effect k b (Some len))
       (λ t. record {
         stays = λ u. never (typed-goes b a n _) u;
         moves = inr
@@ -93,7 +88,7 @@ module _ (k : RecvKeys) (b : Datagram) (a : Ask) (n : ℕ) (d : List ℕ) (waits
               place = i;
               waits = waits;
               found = q;
-              said = ap reply.Yes (eqb-true len (a.length - tag_size) t);
+              said = ap Some (eqb-true len (a.length - tag_size) t);
               keys = refl;
             });
       })

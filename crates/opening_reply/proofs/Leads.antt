@@ -10,8 +10,7 @@ use Rattle.datagram.specs.declared.Question.TheVariants as question
 use Rattle.datagram.specs.declared.Question.{Question}
 use Rattle.datagram.specs.declared.Reading.TheVariants as says
 use Rattle.recv_keys.specs.declared.RecvKeys.{RecvKeys}
-use Rattle.opening_reply.specs.Opening.{still, openings, opened_step, cancelled_ask, cancelled}
-use Rattle.opening_reply.specs.declared.Opening.{Opening}
+use Rattle.opening_reply.specs.Opening.{still, openings, opened_step, cancelled_ask, cancelled, Opening}
 
 module _ (k : RecvKeys) (b : Datagram) (o : Opening) (d : List ℕ) where
   pub opened-asks : (q : Question) → is_sound k b ≡ true → length d ≡ b.size → b.question ≡ q → opened_step k b o d ≡ openings q o k b d

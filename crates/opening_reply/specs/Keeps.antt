@@ -1,14 +1,12 @@
 -- An opening reply keeps the ranges; where it is refused, 12 or 15, nothing changes; only a yes moves a window. Assumes nothing.
-use Rattle.std.specs.Prelude.{ℕ, ◌-◌, length, ◌≡◌}
+use Rattle.opening_reply.specs.Opening.{Opening}
+use Rattle.std.specs.Prelude.{ℕ, ◌-◌, ◌≡◌, Some}
 use Rattle.datagram.specs.declared.Ask.{Ask}
 use Rattle.datagram.specs.declared.Datagram.{Datagram}
 use Rattle.datagram.specs.declared.Question.TheVariants as question
 use Rattle.recv_keys.specs.Keys.{find, marked}
-use Rattle.recv_keys.specs.declared.Found.TheVariants as found
 use Rattle.recv_keys.specs.declared.RecvKeys.{RecvKeys}
 use Rattle.record.specs.Record.{tag_size}
-use Rattle.opening_reply.specs.declared.Opening.TheVariants as reply
-use Rattle.opening_reply.specs.declared.Opening.{Opening}
 
 -- ---- what an opening reply does to the keys
 
@@ -18,6 +16,6 @@ pub record Marks (k : RecvKeys) (b : Datagram) (o : Opening) (l : RecvKeys) : Ty
   pub number : ℕ
   pub place : ℕ
   pub waits : b.question ≡ question.Opening ask number
-  pub found : find k.entries ask.epoch k.count ≡ found.At place
-  pub said : o ≡ reply.Yes (ask.length - tag_size)
+  pub found : find k.entries ask.epoch k.count ≡ Some place
+  pub said : o ≡ Some (ask.length - tag_size)
   pub keys : l ≡ marked k place number

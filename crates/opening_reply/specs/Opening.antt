@@ -1,5 +1,5 @@
 -- The reply to an opening question (01, "Readings of an arriving datagram", refusals 10, 11 and 15), and the removal of a question's epoch.
-use Rattle.std.specs.Prelude.{ℕ, ◌+◌, ◌-◌, eqb, length, true, false, List}
+use Rattle.std.specs.Prelude.{ℕ, ◌+◌, ◌-◌, eqb, length, true, false, List, Some, None, Option}
 use Rattle.base.specs.Choose.{choose}
 use Rattle.base.specs.Parts.{part}
 use Rattle.datagram.specs.Datagram.{is_sound, told, moved, passed, counted, end_asked}
@@ -12,17 +12,12 @@ use Rattle.datagram.specs.declared.Reading.{Reading}
 use Rattle.datagram.specs.declared.Reason.TheVariants as reason
 use Rattle.datagram.specs.declared.Step.{Step}
 use Rattle.incoming.specs.Inner.{inner_of}
-use Rattle.incoming.specs.declared.Inner.TheVariants as inner
 use Rattle.incoming.specs.declared.Inner.{Inner}
-use Rattle.recv_keys.specs.Keys.{find, marked}
-use Rattle.recv_keys.specs.declared.Found.TheVariants as found
-use Rattle.recv_keys.specs.declared.Found.{Found}
+use Rattle.recv_keys.specs.Keys.{find, marked, Found}
 use Rattle.recv_keys.specs.declared.RecvKeys.{RecvKeys}
 use Rattle.record.specs.Record.{tag_size}
 use Rattle.opening_reply.specs.declared.Cancelled.{Cancelled}
 use Rattle.opening_reply.specs.declared.Marked.{Marked}
-use Rattle.opening_reply.specs.declared.Opening.TheVariants as reply
-use Rattle.opening_reply.specs.declared.Opening.{Opening}
 
 -- ---- the opening
 
@@ -30,20 +25,24 @@ abbrev pub still : RecvKeys → Step → Marked
 still k t = record { step = t; keys = k }
 
 -- 11, or the content type and the content before it
-unfoldable pub typed : Datagram → Ask → ℕ → Inner → Step
-typed b a n inner.Nothing = passed b (end_asked b a) reason.NoContentType
-typed b a n (inner.Found t l) = counted b (end_asked b a) (says.Opened a.epoch n t (b.at + a.header_len) l)
+unfoldable pub typed : Datagram → Ask → ℕ → Option Inner → Step
+typed b a n None = passed b (end_asked b a) reason.NoContentType
+typed b a n (Some i) = counted b (end_asked b a) (says.Opened a.epoch n i.content_type (b.at + a.header_len) i.length)
 
 -- no: 10; yes, with the plaintext 16 bytes shorter at the start of the protected part: the number is marked; another length: 15
+-- what a reply to an opening question says: nothing, or so many bytes of plaintext at the start of the protected part
+abbrev pub Opening : Type 0
+Opening = Option ℕ
+
 unfoldable pub opened_at : ℕ → Opening → RecvKeys → Datagram → Ask → ℕ → List ℕ → Marked
-opened_at i reply.No k b a n d = still k (passed b (end_asked b a) reason.NotOpened)
-opened_at i (reply.Yes len) k b a n d =
+opened_at i None k b a n d = still k (passed b (end_asked b a) reason.NotOpened)
+opened_at i (Some len) k b a n d =
     choose (eqb len (a.length - tag_size)) (still (marked k i n) (typed b a n (inner_of (part (b.at + a.header_len) len d))))
     (still k (told b says.Reply))
 
 unfoldable pub opened_by : Found → Opening → RecvKeys → Datagram → Ask → ℕ → List ℕ → Marked
-opened_by found.Nothing o k b a n d = still k (told b says.Setting)
-opened_by (found.At i) o k b a n d = opened_at i o k b a n d
+opened_by None o k b a n d = still k (told b says.Setting)
+opened_by (Some i) o k b a n d = opened_at i o k b a n d
 
 unfoldable pub openings : Question → Opening → RecvKeys → Datagram → List ℕ → Marked
 openings question.Nothing o k b d = still k (told b says.Reply)

@@ -7,13 +7,6 @@ ghost use Rattle.opening_reply.specs.Opening.{cancelled_ask};
 use datagram::{Ask, Datagram, Question, Step};
 use recv_keys::RecvKeys;
 
-// The reply to an opening question: no, or yes with so many bytes of plaintext at the start of the protected part.
-#[derive(Clone, Copy)]
-pub enum Opening {
-    No,
-    Yes(usize),
-}
-
 // A step with the keys behind it.
 #[derive(Clone, Copy)]
 pub struct Marked {
@@ -29,6 +22,7 @@ pub struct Cancelled {
 }
 
 // The epoch of a question removed.
+#[tactic(auto, unfolding(crate::specs::Opening::cancelled_ask, base::specs::Choose::choose))]
 pub fn cancel_ask(a: Ask, b: Datagram, epoch: u16) -> Cancelled
     requires { b.at + a.header_len + a.length ≤ 16384 }
     ensures { result ≡ cancelled_ask a b epoch }

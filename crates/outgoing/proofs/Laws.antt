@@ -1,16 +1,15 @@
 -- Laws of a send: refused means unchanged, the ranges are kept, numbers are used in order, "queue full" only if no slot is free.
 -- Assumes nothing.
-use Rattle.std.specs.Prelude.{true, false, List, ℕ, ◌+◌, leb}
+use Rattle.std.specs.Prelude.{true, false, List, ℕ, ◌+◌, leb, Err}
 use Rattle.std.proofs.Math.Path.{◌≡◌, ap}
 use Rattle.std.proofs.Common.{◌∙◌, arith, leb-true}
 use Rattle.base.specs.Choose.{by_test, both_left, both_right, if_true, if_false}
 use Rattle.queue.specs.Queue.{is_setting, InRange, ready, laid-range, full_only}
 use Rattle.queue.specs.Laid.{record_len}
 use Rattle.send_keys.specs.Keys.{next_of, used-next}
-use Rattle.send_keys.specs.Answer.{is_done}
+use Rattle.send_keys.specs.Answer.{SendAnswer, is_done}
 use Rattle.outgoing.specs.declared.Sending.{Sending}
-use Rattle.send_keys.specs.declared.SendAnswer.{SendAnswer}
-use Rattle.send_keys.specs.declared.SendAnswer.TheVariants.{QueueFull}
+use Rattle.send_keys.specs.declared.SendError.TheVariants.{QueueFull}
 use Rattle.outgoing.specs.State.{fresh_sending}
 use Rattle.outgoing.specs.Send.{spot_of, laid_state, send_answer, send_state, send_memory}
 use Rattle.outgoing.proofs.Send.{send_clear, clear-fits, allowed-fits}
@@ -54,17 +53,17 @@ module _ (s : Sending) (room e t n : ℕ) where
   send_next d = ap (λ (u : Sending). next_of u.keys e) (if_true _ _ d) ∙ used-next s.keys e
 
   -- 19 only if every slot of the ring is in use
-  pub full_is_full : send_answer s room e t n ≡ QueueFull → s.queue.count ≡ s.queue.limit
+  pub full_is_full : send_answer s room e t n ≡ Err QueueFull → s.queue.count ≡ s.queue.limit
   unfolding send_answer
   full_is_full =
-      by_test (λ (a : SendAnswer). a ≡ QueueFull → s.queue.count ≡ s.queue.limit)
-      (λ r. by_test (λ (a : SendAnswer). a ≡ QueueFull → s.queue.count ≡ s.queue.limit)
-      (λ u. by_test (λ (a : SendAnswer). a ≡ QueueFull → s.queue.count ≡ s.queue.limit)
-      (λ l. by_test (λ (a : SendAnswer). a ≡ QueueFull → s.queue.count ≡ s.queue.limit)
-      (λ k. by_test (λ (a : SendAnswer). a ≡ QueueFull → s.queue.count ≡ s.queue.limit)
+      by_test (λ (a : SendAnswer). a ≡ Err QueueFull → s.queue.count ≡ s.queue.limit)
+      (λ r. by_test (λ (a : SendAnswer). a ≡ Err QueueFull → s.queue.count ≡ s.queue.limit)
+      (λ u. by_test (λ (a : SendAnswer). a ≡ Err QueueFull → s.queue.count ≡ s.queue.limit)
+      (λ l. by_test (λ (a : SendAnswer). a ≡ Err QueueFull → s.queue.count ≡ s.queue.limit)
+      (λ k. by_test (λ (a : SendAnswer). a ≡ Err QueueFull → s.queue.count ≡ s.queue.limit)
       (λ f z. full_only s.queue (record_len e n) (allowed-fits s.queue.mtu e t n l) (ready r).range.count
       (leb-true s.queue.limit (spot_of s e n).datagram f))
-      (λ f. by_test (λ (a : SendAnswer). a ≡ QueueFull → s.queue.count ≡ s.queue.limit)
+      (λ f. by_test (λ (a : SendAnswer). a ≡ Err QueueFull → s.queue.count ≡ s.queue.limit)
       (λ p z. absurd (let w : ◌≡◌ {A = ℕ} 0 1 = cc in omega arith))
       (λ p z. absurd (let w : ◌≡◌ {A = ℕ} 0 1 = cc in omega arith))))
       (λ k z. absurd (let w : ◌≡◌ {A = ℕ} 0 1 = cc in omega arith)))

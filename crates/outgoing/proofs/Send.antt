@@ -7,9 +7,8 @@ use Rattle.queue.specs.declared.Queue.{Queue}
 use Rattle.queue.specs.Queue.{tail_of, place_of, Fits, ready, placed}
 use Rattle.queue.specs.Laid.{record_len, len_over}
 use Rattle.send_keys.specs.Keys.{next_of}
-use Rattle.send_keys.specs.Answer.{is_done}
+use Rattle.send_keys.specs.Answer.{SendAnswer, is_done}
 use Rattle.outgoing.specs.declared.Sending.{Sending}
-use Rattle.send_keys.specs.declared.SendAnswer.{SendAnswer}
 use Rattle.outgoing.specs.State.{is_allowed}
 use Rattle.outgoing.specs.Send.{spot_of, send_answer, Open, Clear}
 

@@ -1,5 +1,5 @@
 -- Sending one record (01, "Datagrams to send"; refusals 12, 13, 14, 17, 19, 20). Assumes nothing.
-use Rattle.std.specs.Prelude.{Bool, true, List, ℕ, ◌+◌, ◌<◌, ◌≤◌, leb, eqb, length}
+use Rattle.std.specs.Prelude.{Bool, true, List, ℕ, ◌+◌, ◌<◌, ◌≤◌, leb, eqb, length, Ok, Err}
 use Rattle.base.specs.Choose.{choose, either}
 use Rattle.base.specs.Parts.{splice}
 use Rattle.queue.specs.declared.Place.{Place}
@@ -7,12 +7,11 @@ use Rattle.queue.specs.declared.Queue.{Queue}
 use Rattle.queue.specs.Queue.{is_ready, slot_of, tail_of, place_of, laid, start_of, Ready}
 use Rattle.queue.specs.Laid.{record_len, record_bytes}
 use Rattle.send_keys.specs.Keys.{is_usable, is_keyed, next_of, used}
-use Rattle.send_keys.specs.Answer.{is_done}
+use Rattle.send_keys.specs.Answer.{SendAnswer, is_done}
 use Rattle.record.specs.Record.{sealed_tail}
 use Rattle.outgoing.specs.declared.Waiting.{Waiting}
 use Rattle.outgoing.specs.declared.Sending.{Sending}
-use Rattle.send_keys.specs.declared.SendAnswer.{SendAnswer}
-use Rattle.send_keys.specs.declared.SendAnswer.TheVariants.{Done, OutOfRange, BadEpoch, BadRecord, KeysAbsent, QueueFull, NumbersSpent}
+use Rattle.send_keys.specs.declared.SendError.TheVariants.{OutOfRange, BadEpoch, BadRecord, KeysAbsent, QueueFull, NumbersSpent}
 use Rattle.outgoing.specs.declared.Sent.{Sent}
 use Rattle.outgoing.specs.State.{is_allowed, with_queue, with_waiting, with_keys}
 
@@ -57,12 +56,12 @@ send_answer s room e t n =
     (choose (is_usable s.keys e)
     (choose (is_allowed s.queue.mtu e t n)
     (choose (is_keyed s.keys e)
-    (choose (is_full s e n) QueueFull
-    (choose (is_spent s e) NumbersSpent Done))
-    KeysAbsent)
-    BadRecord)
-    BadEpoch)
-    OutOfRange
+    (choose (is_full s e n) (Err QueueFull)
+    (choose (is_spent s e) (Err NumbersSpent) (Ok tt)))
+    (Err KeysAbsent))
+    (Err BadRecord))
+    (Err BadEpoch))
+    (Err OutOfRange)
 
 -- wholly or not at all
 unfoldable pub send_state : SendAnswer → Sending → ℕ → ℕ → Sent

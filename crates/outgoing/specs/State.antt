@@ -1,5 +1,5 @@
 -- The sending side's state: fresh values, what may be sent, keying (01, "Datagrams to send" and refusals 12, 13, 14, 23). Assumes nothing.
-use Rattle.std.specs.Prelude.{Bool, true, false, List, ◌≡◌, ℕ, ◌≤◌, leb, eqb, replicate}
+use Rattle.std.specs.Prelude.{Bool, true, false, List, ◌≡◌, ℕ, ◌≤◌, leb, eqb, replicate, Ok, Err}
 use Rattle.std.proofs.Common.{leb-true}
 use Rattle.queue.specs.declared.Queue.{Queue}
 use Rattle.base.specs.Choose.{choose, both, either, both_left, both_right}
@@ -11,9 +11,8 @@ use Rattle.send_keys.specs.Answer.{is_done}
 use Rattle.send_keys.specs.Keys.{no_keys, key_answer, keyed}
 use Rattle.outgoing.specs.declared.Waiting.{Waiting}
 use Rattle.outgoing.specs.declared.Sending.{Sending}
-use Rattle.send_keys.specs.declared.SendAnswer.TheVariants.{Done, OutOfRange}
+use Rattle.send_keys.specs.declared.SendError.TheVariants.{OutOfRange}
 use Rattle.outgoing.specs.declared.Sent.{Sent}
-use Rattle.outgoing.specs.declared.Keying.{Keying}
 
 unfoldable pub no_waiting : Waiting
 no_waiting = record { any = false; slot = 0; start = 0; length = 0; epoch = 0; number = 0 }
@@ -29,7 +28,7 @@ fresh_sending mtu limit = record {
 
 -- 12 for settings outside their range; the state then has them as given, so that every later call is 12 again
 unfoldable pub started : ℕ → ℕ → Sent
-started mtu limit = record { answer = choose (is_setting mtu limit) Done OutOfRange; state = fresh_sending mtu limit }
+started mtu limit = record { answer = choose (is_setting mtu limit) (Ok tt) (Err OutOfRange); state = fresh_sending mtu limit }
 
 -- "Content types sent: 21, 22, 23, 26; in plaintext 21, 22, 26"
 unfoldable pub is_content_type : ℕ → ℕ → Bool
@@ -57,7 +56,7 @@ abbrev pub with_keys : Sending → SendKeys → Sending
 with_keys s k = record { queue = s.queue; waiting = s.waiting; keys = k; message_seq = s.message_seq }
 
 -- keying: 12, 13, 23; a refused one changes nothing
-unfoldable pub keying_state : Sending → ℕ → List ℕ → Keying
+unfoldable pub keying_state : Sending → ℕ → List ℕ → Sent
 keying_state s e iv = record {
   answer = key_answer s.keys (is_sound s.queue) e;
   state = choose (is_done (key_answer s.keys (is_sound s.queue) e)) (with_keys s (keyed s.keys e iv)) s;

@@ -6,7 +6,7 @@ ghost use Rattle.send_keys.specs.declared.SendKeys.{SendKeys};
 ghost use Rattle.outgoing.specs.State.{no_waiting, is_content_type, is_allowed};
 
 use queue::Queue;
-use send_keys::{SendAnswer, SendKeys};
+use send_keys::{SendError, SendKeys};
 
 // The oldest record that waits for its sealing, if any: its slot, where it starts there, the length of what is to be sealed, its
 // epoch and number.
@@ -28,18 +28,14 @@ pub struct Sending {
     pub message_seq: u16,
 }
 
+// What a call of the sending side answers and leaves.
 #[derive(Clone, Copy)]
 pub struct Sent {
-    pub answer: SendAnswer,
+    pub answer: Result<(), SendError>,
     pub state: Sending,
 }
 
-#[derive(Clone, Copy)]
-pub struct Keying {
-    pub answer: SendAnswer,
-    pub state: Sending,
-}
-
+#[tactic(auto, unfolding(crate::specs::State::no_waiting))]
 pub fn no_waiting() -> Waiting
     ensures { result ≡ no_waiting }
 {
@@ -54,6 +50,7 @@ pub fn no_waiting() -> Waiting
 }
 
 // Whether a record of this type may be sent in an epoch: application data is never in plaintext.
+#[tactic(auto, unfolding(crate::specs::State::is_content_type, base::specs::Choose::choose, base::specs::Choose::either))]
 fn is_content_type(epoch: u16, t: u8) -> bool
     ensures { result ≡ is_content_type epoch t }
 {
@@ -67,6 +64,7 @@ fn is_content_type(epoch: u16, t: u8) -> bool
 }
 
 // Whether type and length are allowed.
+#[tactic(auto, unfolding(crate::specs::State::is_allowed, base::specs::Choose::both))]
 pub fn is_allowed(mtu: usize, epoch: u16, t: u8, n: usize) -> bool
     ensures { result ≡ is_allowed mtu epoch t n }
 {

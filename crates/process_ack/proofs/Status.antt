@@ -10,7 +10,7 @@ use Rattle.flight.specs.declared.Entry.{Entry}
 use Rattle.flight.specs.declared.Flight.{Flight}
 use Rattle.flight.specs.Flight.{no_entry, entry_at}
 use Rattle.flight.specs.Status.{unmarked_after}
-use Rattle.process_ack.specs.declared.Acked.{Acked}
+use Rattle.flight.specs.declared.Acted.{Acted}
 use Rattle.process_ack.specs.Ack.{is_formed, pairs_in, is_acked, with_mark, mark_at, marks_after, emptied, acked}
 use Rattle.process_ack.proofs.Ack.{marks-saved}
 use Rattle.process_ack.specs.Status.{newly_marked}
@@ -67,7 +67,7 @@ module _ (f : Flight) (d : List ℕ) where
   newly_behind =
       let none : unmarked_after f f.saved - unmarked_after f f.saved ≡ 0 = omega arith in
       test_cases (ltb 12 f.saved)
-      (λ t. if_true _ _ t ∙ sym none ∙ ap (λ (x : Acked). unmarked_after f f.saved - unmarked_after x.flight f.saved) (sym (if_true _ _ t)))
+      (λ t. if_true _ _ t ∙ sym none ∙ ap (λ (x : Acted). unmarked_after f f.saved - unmarked_after x.flight f.saved) (sym (if_true _ _ t)))
       (λ t. if_false _ _ t ∙ test_cases (is_formed d)
       (λ o.
       if_true _ _ o
@@ -75,12 +75,12 @@ module _ (f : Flight) (d : List ℕ) where
       ∙ ap (λ (k : ℕ). unmarked_after f f.saved - k)
       (sym (unmarked-same _ _ (emptied-entries (marks_after d (pairs_in d) f f.saved)) f.saved) ∙ ap (λ (g : Flight). unmarked_after g f.saved) (sym (if_true _ _ o))))
       (λ o. if_false _ _ o ∙ sym none ∙ ap (λ (g : Flight). unmarked_after f f.saved - unmarked_after g f.saved) (sym (if_false _ _ o)))
-      ∙ ap (λ (x : Acked). unmarked_after f f.saved - unmarked_after x.flight f.saved) (sym (if_false _ _ t)))
+      ∙ ap (λ (x : Acted). unmarked_after f f.saved - unmarked_after x.flight f.saved) (sym (if_false _ _ t)))
 
   pub fewer-behind : unmarked_after (acked f d).flight f.saved ≤ unmarked_after f f.saved
   unfolding acked
   fewer-behind =
-      by_test (λ (x : Acked). unmarked_after x.flight f.saved ≤ unmarked_after f f.saved) (λ t. omega arith)
+      by_test (λ (x : Acted). unmarked_after x.flight f.saved ≤ unmarked_after f f.saved) (λ t. omega arith)
       (λ t. by_test (λ (g : Flight). unmarked_after g f.saved ≤ unmarked_after f f.saved)
       (λ o.
       let g = marks_after d (pairs_in d) f f.saved in
@@ -93,7 +93,7 @@ module _ (f : Flight) (d : List ℕ) where
   pub saved-behind : (acked f d).flight.saved ≤ f.saved
   unfolding acked emptied
   saved-behind =
-      by_test (λ (x : Acked). x.flight.saved ≤ f.saved) (λ t. omega arith)
+      by_test (λ (x : Acted). x.flight.saved ≤ f.saved) (λ t. omega arith)
       (λ t. by_test (λ (g : Flight). g.saved ≤ f.saved)
       (λ o.
       let e = marks-saved d (pairs_in d) f f.saved in

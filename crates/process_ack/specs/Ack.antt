@@ -1,14 +1,14 @@
 -- Acting on an ACK (01, "Flights acknowledged or sent again"): its form, the records that it names, and the flight that is done. Assumes nothing.
-use Rattle.std.specs.Prelude.{Bool, true, false, List, ltb, eqb, length, get_or, set}
+use Rattle.std.specs.Prelude.{Bool, true, false, List, ltb, eqb, length, get_or, set, Ok, Err}
 use Prim.Native.Nat.{ℕ, zero, suc, ◌+◌, ◌-◌, ◌*◌, ◌/◌, ◌%◌, min}
 use Rattle.base.specs.Bytes.{be_at}
 use Rattle.base.specs.Choose.{choose, both}
-use Rattle.send_keys.specs.declared.SendAnswer.TheVariants.{Done, OutOfRange}
+use Rattle.send_keys.specs.declared.SendError.TheVariants.{OutOfRange}
 use Rattle.flight.specs.declared.Entry.{Entry}
 use Rattle.flight.specs.declared.Flight.{Flight}
 use Rattle.flight.specs.Flight.{entry_at, with_saved}
 use Rattle.process_ack.specs.declared.Tally.{Tally}
-use Rattle.process_ack.specs.declared.Acked.{Acked}
+use Rattle.flight.specs.declared.Acted.{Acted}
 
 -- "under 2 bytes, a false length, or a length not a multiple of 16 marks nothing"
 unfoldable pub is_formed : List ℕ → Bool
@@ -63,7 +63,7 @@ unfoldable pub emptied : Flight → Flight
 emptied f = choose (tally_after f f.saved).any (choose (tally_after f f.saved).unmarked f (with_saved f f.entries 0)) f
 
 -- 12 for a flight out of its range; nothing else is refused
-unfoldable pub acked : Flight → List ℕ → Acked
+unfoldable pub acked : Flight → List ℕ → Acted
 acked f d =
-    choose (ltb 12 f.saved) (record { answer = OutOfRange; flight = f })
-    (record { answer = Done; flight = choose (is_formed d) (emptied (marks_after d (pairs_in d) f f.saved)) f })
+    choose (ltb 12 f.saved) (record { answer = Err OutOfRange; flight = f })
+    (record { answer = Ok tt; flight = choose (is_formed d) (emptied (marks_after d (pairs_in d) f f.saved)) f })

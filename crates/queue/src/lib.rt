@@ -10,6 +10,13 @@ ghost use Rattle.queue.specs.Laid.{trailer_of, record_len, record_bytes};
 
 use record::{PLAINTEXT_HEADER_LEN, SEALED_HEADER_LEN, SEALED_OVERHEAD, SEALED_TAIL_LEN};
 
+// The settings' bounds: the MTU, and how many datagrams the queue may have.
+const LEAST_MTU: usize = 576;
+
+const MOST_MTU: usize = 1500;
+
+const SLOTS: usize = 16;
+
 // Settings, the ring's first slot, how many datagrams wait in it, whether the last is closed to further records, and the length
 // of the datagram in each slot.
 #[derive(Clone, Copy)]
@@ -19,7 +26,7 @@ pub struct Queue {
     pub first: usize,
     pub count: usize,
     pub closed: bool,
-    pub lengths: [u16; 16],
+    pub lengths: [u16; SLOTS],
 }
 
 // The queue's end: the last datagram's length, whether a record may join it, how many datagrams there are.
@@ -38,22 +45,15 @@ pub struct Place {
 }
 
 // Whether the settings are in range.
+#[tactic(auto, unfolding(crate::specs::Queue::is_setting, base::specs::Choose::both))]
 pub fn is_setting(mtu: usize, limit: usize) -> bool
     ensures { result ≡ is_setting mtu limit }
 {
-    if mtu < 576 {
-        return false;
-    }
-    if 1500 < mtu {
-        return false;
-    }
-    if limit < 1 {
-        return false;
-    }
-    limit <= 16
+    LEAST_MTU <= mtu && mtu <= MOST_MTU && 1 <= limit && limit <= SLOTS
 }
 
 // The slot of a datagram, counted from the front.
+#[tactic(auto, unfolding(crate::specs::Queue::slot_of, base::specs::Choose::choose))]
 pub fn slot_of(first: usize, limit: usize, i: usize) -> usize
     requires { (first < limit) × (i < limit) × (limit ≤ 16) }
     ensures { (result ≡ slot_of first limit i) × (result < limit) }
@@ -66,52 +66,21 @@ pub fn slot_of(first: usize, limit: usize, i: usize) -> usize
 }
 
 // A record of n bytes joins the last datagram if that may be joined and the sum is at most the MTU; else it opens a new one.
+#[tactic(auto, unfolding(crate::specs::Queue::place_of, base::specs::Choose::both, base::specs::Choose::choose))]
 pub fn place_of(mtu: usize, t: Tail, n: usize) -> Place
     requires { Tailed t × (n ≤ 65535) }
     ensures { result ≡ place_of mtu t n }
 {
-    let used = t.used;
-    let count = t.count;
-    if t.joinable {
-        if used + n <= mtu {
-            return Place {
-                datagram: count - 1,
-                offset: used,
-            };
-        }
+    if t.joinable && t.used + n <= mtu {
+        return Place {
+            datagram: t.count - 1,
+            offset: t.used,
+        };
     }
     Place {
-        datagram: count,
+        datagram: t.count,
         offset: 0,
     }
-}
-
-// Copies a slice over another of the same length.
-pub fn copy(src: &[u8], dst: &mut [u8])
-    requires { length src.now ≡ length dst.old }
-    ensures { dst.new ≡ src.now }
-{
-    let mut i = 0;
-    while i < src.len() && i < dst.len() {
-        dst[i] = src[i];
-        i += 1;
-    }
-}
-
-// Eight bytes of a number, the highest first.
-pub fn eight(x: u64) -> [u8; 8]
-    ensures { result ≡ be 8 x }
-{
-    [
-        (x / 0x100_0000_0000_0000 % 256) as u8,
-        (x / 0x1_0000_0000_0000 % 256) as u8,
-        (x / 0x100_0000_0000 % 256) as u8,
-        (x / 0x1_0000_0000 % 256) as u8,
-        (x / 0x100_0000 % 256) as u8,
-        (x / 0x1_0000 % 256) as u8,
-        (x / 0x100 % 256) as u8,
-        (x % 256) as u8,
-    ]
 }
 
 // A content type and a tag that begins with a mark. The mark is copied in whole: the compiler then stores it as one word.
@@ -119,10 +88,8 @@ fn marked(content_type: u8, mark: [u8; 8]) -> [u8; SEALED_TAIL_LEN]
     ensures { result ≡ content_type ∷ (mark ++ be 8 0) }
 {
     let mut t = [0u8; SEALED_TAIL_LEN];
-    let from = 1;
-    let to = from + 8;
     t[0] = content_type;
-    copy(&mark, &mut t[from..to]);
+    t[1..9].copy_from_slice(&mark);
     t
 }
 
@@ -130,8 +97,8 @@ fn marked(content_type: u8, mark: [u8; 8]) -> [u8; SEALED_TAIL_LEN]
 fn trailer(content_type: u8, epoch: u16, number: u64) -> [u8; SEALED_TAIL_LEN]
     ensures { result ≡ trailer_of content_type epoch number }
 {
-    let mark = epoch as u64 * 0x1_0000_0000_0000 + number % 0x1_0000_0000_0000;
-    marked(content_type, eight(mark))
+    let mark = u64::from(epoch) * 0x1_0000_0000_0000 + number % 0x1_0000_0000_0000;
+    marked(content_type, mark.to_be_bytes())
 }
 
 // A plaintext record written from a place on.
@@ -143,7 +110,8 @@ fn lay_plaintext(d: &mut [u8], at: usize, content_type: u8, number: u64, content
     let inner = at + PLAINTEXT_HEADER_LEN;
     let end = inner + n;
     let header = headers::plaintext_header(content_type, number, n as u16);
-    copy(&header, &mut d[at..inner]);
+    d[at..inner].copy_from_slice(&header);
+    // By `move_bytes`: `copy_from_slice` takes a nanosecond or two more a record.
     base::move_bytes(content, &mut d[inner..end]);
 }
 
@@ -166,12 +134,14 @@ fn lay_ciphertext(
     let after = end + SEALED_TAIL_LEN;
     let header = headers::unified_header(epoch, number, (n + SEALED_TAIL_LEN) as u16);
     let behind = trailer(content_type, epoch, number);
-    copy(&header, &mut d[at..inner]);
-    copy(&behind, &mut d[end..after]);
+    d[at..inner].copy_from_slice(&header);
+    d[end..after].copy_from_slice(&behind);
+    // By `move_bytes`: `copy_from_slice` takes a nanosecond or two more a record.
     base::move_bytes(content, &mut d[inner..end]);
 }
 
 // Bytes of a record whose content has n.
+#[tactic(auto, unfolding(crate::specs::Laid::record_len, base::specs::Choose::choose))]
 pub fn record_len(epoch: u16, n: usize) -> usize
     requires { n ≤ 16384 }
     ensures { result ≡ record_len epoch n }

@@ -26,11 +26,9 @@ fn head_of(p: Parsed) -> usize
     ensures { result ≡ head_of p }
 {
     match p {
-        Parsed::Plaintext(_) => record::PLAINTEXT_HEADER_LEN,
+        Parsed::Plaintext(_) | Parsed::Invalid(_) => record::PLAINTEXT_HEADER_LEN,
         Parsed::Ciphertext(r) => r.header_len,
-        Parsed::Invalid(_) => record::PLAINTEXT_HEADER_LEN,
-        Parsed::End => 0,
-        Parsed::Incomplete => 0,
+        Parsed::End | Parsed::Incomplete => 0,
     }
 }
 
@@ -41,8 +39,7 @@ fn size_of(p: Parsed) -> usize
         Parsed::Plaintext(r) => r.length,
         Parsed::Ciphertext(r) => r.length,
         Parsed::Invalid(n) => n,
-        Parsed::End => 0,
-        Parsed::Incomplete => 0,
+        Parsed::End | Parsed::Incomplete => 0,
     }
 }
 
@@ -60,29 +57,20 @@ pub fn rest(d: &[u8], p: Parsed) -> &[u8]
     base::behind(base::behind(d, head_of(p)), size_of(p))
 }
 
-fn minus(a: usize, b: usize) -> usize
-    ensures { result ≡ a - b }
-{
-    if b < a {
-        return a - b;
-    }
-    0
-}
-
 // The offset behind what was found where `left` bytes follow it; the datagram's end if it ends there.
 fn next_of(p: Parsed, size: usize, left: usize) -> usize
     ensures { result ≡ next_of p size left }
 {
     match p {
-        Parsed::End => size,
-        Parsed::Incomplete => size,
-        Parsed::Invalid(_) => minus(size, left),
-        Parsed::Plaintext(_) => minus(size, left),
-        Parsed::Ciphertext(_) => minus(size, left),
+        Parsed::End | Parsed::Incomplete => size,
+        Parsed::Invalid(_) | Parsed::Plaintext(_) | Parsed::Ciphertext(_) => {
+            size.saturating_sub(left)
+        }
     }
 }
 
 // What is found at an offset of a datagram, and the offset behind it.
+#[tactic(auto, unfolding(crate::specs::Reader::step_at))]
 pub fn step_at(d: &[u8], at: usize) -> Step
     ensures { result ≡ step_at d.now at }
 {
@@ -95,32 +83,34 @@ pub fn step_at(d: &[u8], at: usize) -> Step
     }
 }
 
-// A reader at the front of a datagram.
-pub fn new<'a>(datagram: &'a [u8]) -> Reader<'a>
-    ensures { (result.datagram ≡ datagram.entry) × (result.at ≡ 0) }
-{
-    Reader { datagram, at: 0 }
-}
+impl<'a> Reader<'a> {
+    // A reader at the front of a datagram.
+    pub fn new(datagram: &'a [u8]) -> Reader<'a>
+        ensures { (result.datagram ≡ datagram.entry) × (result.at ≡ 0) }
+    {
+        Reader { datagram, at: 0 }
+    }
 
-// What the reader finds next.
-pub fn next<'a>(r: Reader<'a>) -> Step
-    ensures { result ≡ step_at r.entry.datagram.now r.entry.at }
-{
-    step_at(r.datagram, r.at)
-}
+    // What the reader finds next.
+    pub fn next(self) -> Step
+        ensures { result ≡ step_at self.entry.datagram.now self.entry.at }
+    {
+        step_at(self.datagram, self.at)
+    }
 
-// Advances a reader that is lent, and says what was found.
-pub fn advance<'s, 'a>(r: &'s mut Reader<'a>) -> Step
-    ensures { (result ≡ step_at r.old.datagram.now r.old.at) × (r.new.datagram ≡ r.old.datagram) × (r.new.at ≡ result.at) }
-{
-    let s = step_at(r.datagram, r.at);
-    r.at = s.at;
-    s
+    // Advances a reader that is lent, and says what was found.
+    pub fn advance(&mut self) -> Step
+        ensures { (result ≡ step_at self.old.datagram.now self.old.at) × (self.new.datagram ≡ self.old.datagram) × (self.new.at ≡ result.at) }
+    {
+        let s = self.next();
+        self.at = s.at;
+        s
+    }
 }
 
 // What a datagram begins with, by a reader over it.
 pub fn first(datagram: &[u8]) -> Step
     ensures { result ≡ step_at datagram.now 0 }
 {
-    next(new(datagram))
+    Reader::new(datagram).next()
 }

@@ -1,4 +1,5 @@
 pub mod State
 pub mod Steps
+pub mod Kept
 pub mod Writing
 pub mod Room

@@ -1,12 +1,11 @@
 -- The calls of the receive side as one type: what each makes of the state and answers.
-use Rattle.std.specs.Prelude.{ℕ, Bool, true, false, List, [], ◌∷◌}
+use Rattle.opening_reply.specs.Opening.{Opening}
+use Rattle.std.specs.Prelude.{ℕ, Bool, true, false, List, [], ◌∷◌, Some, None, Ok, Err}
 use Rattle.datagram.specs.Datagram.{reading_number}
 use Rattle.datagram.specs.Keeps.{refused}
-use Rattle.opening_reply.specs.declared.Opening.TheVariants as reply
-use Rattle.opening_reply.specs.declared.Opening.{Opening}
-use Rattle.receiving.specs.Receiving.{answer_number, key_of, remove_of, encrypt_of, release_of, begin_of, read_of, mask_of, opened_of}
-use Rattle.receiving.specs.declared.Answer.TheVariants as answers
-use Rattle.receiving.specs.declared.Answer.{Answer}
+use Rattle.receiving.specs.Receiving.{answer_number, key_of, remove_of, encrypt_of, release_of, begin_of, read_of, mask_of, opened_of, Answer}
+use Rattle.receiving.specs.declared.Done.TheVariants as done
+use Rattle.receiving.specs.declared.Refusal.TheVariants as refusal
 use Rattle.receiving.specs.declared.Kept.{Kept}
 use Rattle.receiving.specs.declared.Read.{Read}
 use Rattle.receiving.specs.declared.Receiving.{Receiving}
@@ -28,12 +27,8 @@ pub record Outcome : Type 0 where
   pub refused : Bool
 
 abbrev pub answer_refused : Answer → Bool
-answer_refused answers.Done = false
-answer_refused answers.Dropped = false
-answer_refused answers.Setting = true
-answer_refused answers.TooLong = true
-answer_refused answers.Unusable = true
-answer_refused answers.Full = true
+answer_refused (Ok d) = false
+answer_refused (Err r) = true
 
 abbrev told : Kept → Outcome
 told k = record { state = k.state; number = answer_number k.answer; refused = answer_refused k.answer }
@@ -60,8 +55,8 @@ quiet releasing = true
 quiet (beginning n) = true
 quiet (reading d) = true
 quiet (masking m d) = true
-quiet (opening reply.No d) = true
-quiet (opening (reply.Yes n) d) = false
+quiet (opening None d) = true
+quiet (opening (Some n) d) = false
 
 -- the state behind a list of calls, the first first
 abbrev pub run : List Call → Receiving → Receiving

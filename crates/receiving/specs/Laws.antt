@@ -1,6 +1,6 @@
 -- Laws of the calls of the receive side: the ranges hold from a fresh state on, refused means unchanged, which calls move windows, what
 -- removing and beginning cancel. Assumes nothing.
-use Rattle.std.specs.Prelude.{ℕ, ◌-◌, ◌<◌, ◌≤◌, length, Bool, true, false, List, [], ◌∷◌, ◌⊎◌, ◌≡◌, refl}
+use Rattle.std.specs.Prelude.{ℕ, ◌-◌, ◌<◌, ◌≤◌, length, Bool, true, false, List, [], ◌∷◌, ◌⊎◌, ◌≡◌, refl, Some, None, Ok}
 use Rattle.std.proofs.lemmas.Bool.{eqb-false, false≢true}
 use Rattle.std.proofs.Common.{ltb-false, le-ltb, length-set, ⊎_elim, sym, ◌∙◌, arith}
 use Rattle.std.proofs.Math.Path.{ap}
@@ -16,22 +16,18 @@ use Rattle.mask_reply.proofs.Keeps.{mask-keeps, mask-rests}
 use Rattle.opening_reply.proofs.Keeps.{opened-effect, opened-keeps}
 use Rattle.opening_reply.specs.Keeps.{Marks}
 use Rattle.opening_reply.proofs.Leads.{cancel_drops}
-use Rattle.opening_reply.specs.Opening.{cancelled_ask, cancelled, opened_step}
+use Rattle.opening_reply.specs.Opening.{cancelled_ask, cancelled, opened_step, Opening}
 use Rattle.opening_reply.specs.declared.Cancelled.{Cancelled}
-use Rattle.opening_reply.specs.declared.Opening.TheVariants as reply
-use Rattle.opening_reply.specs.declared.Opening.{Opening}
 use Rattle.records.proofs.Keeps.{read_keeps, read_stays}
 use Rattle.recv_keys.specs.Keeps.{fresh_in_range, installed_in_range, installed-keyed, left_in_range, left-keyed, found-epoch}
-use Rattle.recv_keys.specs.Keys.{find, fresh, is_full, installed, left, marked, is_keyed}
+use Rattle.recv_keys.specs.Keys.{find, fresh, is_full, installed, left, marked, is_keyed, Found}
 use Rattle.recv_keys.specs.Laws.{found-keyed}
-use Rattle.recv_keys.specs.declared.Found.TheVariants as found
-use Rattle.recv_keys.specs.declared.Found.{Found}
 use Rattle.recv_keys.specs.declared.RecvKeys.{RecvKeys}
 use Rattle.receiving.specs.Calls.Call.{keying, removing, encrypting, releasing, beginning, reading, masking, opening}
 use Rattle.receiving.specs.Calls.{Call, answer_refused, after, quiet, run}
 use Rattle.receiving.specs.Leads.{remove_at}
 use Rattle.receiving.specs.Receiving.{sound, made, fresh_of, key_of, leaving, removed_by, remove_of, encrypt_of, release_of, begin_of, mask_of}
-use Rattle.receiving.specs.declared.Answer.TheVariants as answers
+use Rattle.receiving.specs.declared.Done.TheVariants as done
 use Rattle.receiving.specs.declared.Kept.{Kept}
 use Rattle.receiving.specs.declared.Receiving.{Receiving}
 
@@ -104,7 +100,7 @@ key_made s epoch iv m =
 
 -- ---- removing
 
-module _ (k : RecvKeys) (b : Datagram) (epoch i : ℕ) (r : Ready k b) (found : find k.entries epoch k.count ≡ found.At i) where
+module _ (k : RecvKeys) (b : Datagram) (epoch i : ℕ) (r : Ready k b) (found : find k.entries epoch k.count ≡ Some i) where
   within : i < k.count
   within = found-keyed k.entries epoch k.count i found
 
@@ -165,8 +161,8 @@ leaving-made c k r l = by_test Well (λ t. record { ready = r; long = l }) (λ t
 removed-made : (s : Receiving) (epoch : ℕ) → Made s → (f : Found) → find s.keys.entries epoch s.keys.count ≡ f
     → Made (removed_by f s epoch).state
 unfolding removed_by
-removed-made s epoch m found.Nothing q = m
-removed-made s epoch m (found.At i) q =
+removed-made s epoch m None q = m
+removed-made s epoch m (Some i) q =
     leaving-made _ (left s.keys i)
     (cancelled-ready s.keys s.datagram epoch i m.ready q s.datagram.question refl m.ready.question)
     (left-long s.keys i)
@@ -271,8 +267,8 @@ key_stays s epoch iv =
 
 removed-stays : (s : Receiving) (epoch : ℕ) (f : Found) → Keeps s (removed_by f s epoch)
 unfolding removed_by leaving
-removed-stays s epoch found.Nothing = λ e. refl
-removed-stays s epoch (found.At i) = by_test (Keeps s) (λ t e. never refl e) (λ t e. never refl e)
+removed-stays s epoch None = λ e. refl
+removed-stays s epoch (Some i) = by_test (Keeps s) (λ t e. never refl e) (λ t e. never refl e)
 
 remove_stays : (s : Receiving) (epoch : ℕ) → Keeps s (remove_of s epoch)
 unfolding remove_of
@@ -338,17 +334,17 @@ quiet-windows releasing s e = release_quiet s
 quiet-windows (beginning n) s e = begin_quiet s n
 quiet-windows (reading d) s e = (refl, refl)
 quiet-windows (masking m d) s e = (refl, refl)
-quiet-windows (opening (reply.Yes n) d) s e = absurd (false≢true e)
-quiet-windows (opening reply.No d) s e =
+quiet-windows (opening (Some n) d) s e = absurd (false≢true e)
+quiet-windows (opening None d) s e =
     ⊎_elim (λ p. (ap (λ (k : RecvKeys). k.entries) p, ap (λ (k : RecvKeys). k.count) p))
-    (λ w. let p = w.said in let z : ◌≡◌ {A = ℕ} 0 1 = cc in absurd (omega arith)) (opened-effect s.keys s.datagram reply.No d).moves
+    (λ w. let p = w.said in let z : ◌≡◌ {A = ℕ} 0 1 = cc in absurd (omega arith)) (opened-effect s.keys s.datagram None d).moves
 
 -- ---- what cancels a question
 
 -- removing the epoch of the record under a question drops it by 6, and the cut goes on behind it
-pub remove_cancels : (s : Receiving) (epoch i : ℕ) (a : Ask) → sound s ≡ true → find s.keys.entries epoch s.keys.count ≡ found.At i
+pub remove_cancels : (s : Receiving) (epoch i : ℕ) (a : Ask) → sound s ≡ true → find s.keys.entries epoch s.keys.count ≡ Some i
     → a.epoch ≡ epoch → (s.datagram.question ≡ question.Mask a) ⊎ ((n : ℕ) × (s.datagram.question ≡ question.Opening a n))
-    → remove_of s epoch ≡ made answers.Dropped (left s.keys i) (moved s.datagram (end_asked s.datagram a) s.datagram.readings)
+    → remove_of s epoch ≡ made (Ok done.Dropped) (left s.keys i) (moved s.datagram (end_asked s.datagram a) s.datagram.readings)
 unfolding leaving
 remove_cancels s epoch i a t f e q =
     remove_at s epoch i t f
@@ -356,6 +352,6 @@ remove_cancels s epoch i a t f e q =
     ∙ if_true _ _ refl
 
 -- beginning a datagram leaves no question
-pub begin_cancels : (s : Receiving) (n : ℕ) → sound s ≡ true → n ≤ 16384 → begin_of s n ≡ made answers.Done s.keys (begun n)
+pub begin_cancels : (s : Receiving) (n : ℕ) → sound s ≡ true → n ≤ 16384 → begin_of s n ≡ made (Ok done.Asked) s.keys (begun n)
 unfolding begin_of
 begin_cancels s n t h = if_true _ _ t ∙ if_false _ _ (le-ltb 16384 n h)

@@ -1,15 +1,12 @@
 -- The least length of a protected part is the one given at the start, behind every list of calls. Assumes nothing.
-use Rattle.std.specs.Prelude.{ℕ, List, [], ◌∷◌, ◌≡◌}
+use Rattle.std.specs.Prelude.{ℕ, List, [], ◌∷◌, ◌≡◌, Some, None}
 use Rattle.std.proofs.Common.{⊎_elim, ap, ◌∙◌}
 use Rattle.std.proofs.Math.Path.{refl}
 use Rattle.base.specs.Choose.{by_test}
 use Rattle.opening_reply.proofs.Keeps.{opened-effect}
 use Rattle.opening_reply.specs.Keeps.{Marks}
-use Rattle.opening_reply.specs.Opening.{opened_step}
-use Rattle.opening_reply.specs.declared.Opening.{Opening}
-use Rattle.recv_keys.specs.Keys.{find, installed, left, marked}
-use Rattle.recv_keys.specs.declared.Found.TheVariants as found
-use Rattle.recv_keys.specs.declared.Found.{Found}
+use Rattle.opening_reply.specs.Opening.{opened_step, Opening}
+use Rattle.recv_keys.specs.Keys.{find, installed, left, marked, Found}
 use Rattle.recv_keys.specs.declared.RecvKeys.{RecvKeys}
 use Rattle.receiving.specs.Calls.Call.{keying, removing, encrypting, releasing, beginning, reading, masking, opening}
 use Rattle.receiving.specs.Calls.{Call, after, run}
@@ -35,8 +32,8 @@ module _ (s : Receiving) where
 
   removed-least : (e : ℕ) (f : Found) → Same (removed_by f s e)
   unfolding removed_by leaving left
-  removed-least e found.Nothing = refl
-  removed-least e (found.At i) = by_test Same (λ t. refl) (λ t. refl)
+  removed-least e None = refl
+  removed-least e (Some i) = by_test Same (λ t. refl) (λ t. refl)
 
   remove_least : (e : ℕ) → Same (remove_of s e)
   unfolding remove_of

@@ -1,6 +1,6 @@
 -- No list of calls from a fresh state meets 12. Assumes nothing.
 use Prim.Native.Nat.{ℕ, ◌+◌, ◌-◌, ◌≤◌}
-use Rattle.std.specs.Prelude.{drop, true, false, ◌≡◌, refl}
+use Rattle.std.specs.Prelude.{drop, true, false, ◌≡◌, refl, Some, None}
 use Rattle.std.proofs.lemmas.Bool.{false≢true}
 use Rattle.std.proofs.Common.{true≢false, sym, ap, ◌∙◌, arith}
 use mathlib.Core.List.{List}
@@ -22,16 +22,12 @@ use Rattle.incoming.specs.Inner.{inner_of}
 use Rattle.mask_reply.proofs.Keeps.{judged-goes}
 use Rattle.mask_reply.specs.Mask.{masked_at, masked_by, masking as answering, mask_step}
 use Rattle.opening_reply.proofs.Keeps.{typed-goes}
-use Rattle.opening_reply.specs.Opening.{typed, opened_at, opened_by, openings, opened_step}
+use Rattle.opening_reply.specs.Opening.{typed, opened_at, opened_by, openings, opened_step, Opening}
 use Rattle.opening_reply.specs.declared.Marked.{Marked}
-use Rattle.opening_reply.specs.declared.Opening.TheVariants as reply
-use Rattle.opening_reply.specs.declared.Opening.{Opening}
 use Rattle.record.specs.Record.{parsed}
 use Rattle.records.proofs.Keeps.{step-goes}
 use Rattle.records.specs.Records.{opening_asked, asked_again, asking, read_step}
-use Rattle.recv_keys.specs.Keys.{find, was_found, is_keyed}
-use Rattle.recv_keys.specs.declared.Found.TheVariants as found
-use Rattle.recv_keys.specs.declared.Found.{Found}
+use Rattle.recv_keys.specs.Keys.{find, was_found, is_keyed, Found}
 use Rattle.recv_keys.specs.declared.RecvKeys.{RecvKeys}
 use Rattle.receiving.specs.Calls.Call.{keying, removing, encrypting, releasing, beginning, reading, masking, opening}
 use Rattle.receiving.specs.Calls.{Call, after, run}
@@ -73,15 +69,15 @@ Not t = reading_number t.reading ≡ 12 → ⊥
 step_not : (t : Step) → Goes t → Not t
 step_not t = goes_not t.reading
 
-keyed-found : (k : RecvKeys) (x : ℕ) → is_keyed k x ≡ true → find k.entries x k.count ≡ found.Nothing → ⊥
+keyed-found : (k : RecvKeys) (x : ℕ) → is_keyed k x ≡ true → find k.entries x k.count ≡ None → ⊥
 unfolding is_keyed was_found
 keyed-found k x t q = false≢true (sym (ap was_found q) ∙ t)
 
 again_not : (k : RecvKeys) (b : Datagram) (a : Ask) (n : ℕ) → is_keyed k a.epoch ≡ true → (f : Found)
     → find k.entries a.epoch k.count ≡ f → Not (asked_again f k b a n)
 unfolding asked_again opening_asked
-again_not k b a n t found.Nothing q e = keyed-found k a.epoch t q
-again_not k b a n t (found.At i) q e = omega arith
+again_not k b a n t None q e = keyed-found k a.epoch t q
+again_not k b a n t (Some i) q e = omega arith
 
 asking_not : (k : RecvKeys) (b : Datagram) (d : List ℕ) (q : Question) → question_sound k q (b.size - b.at) ≡ true → Not (asking q k b d)
 unfolding asking question_sound
@@ -92,8 +88,8 @@ asking_not k b d (question.Opening a n) t e = again_not k b a n (held-opening k 
 masked_not : (k : RecvKeys) (b : Datagram) (a : Ask) (m d : List ℕ) → is_keyed k a.epoch ≡ true → (f : Found)
     → find k.entries a.epoch k.count ≡ f → Not (masked_by f k b a m d).0
 unfolding masked_by masked_at
-masked_not k b a m d t found.Nothing q e = keyed-found k a.epoch t q
-masked_not k b a m d t (found.At i) q e = step_not (masked_by (found.At i) k b a m d).0 (judged-goes _ b a _) e
+masked_not k b a m d t None q e = keyed-found k a.epoch t q
+masked_not k b a m d t (Some i) q e = step_not (masked_by (Some i) k b a m d).0 (judged-goes _ b a _) e
 
 masking_not : (k : RecvKeys) (b : Datagram) (m d : List ℕ) (q : Question) → question_sound k q (b.size - b.at) ≡ true → Not (answering q k b m d).0
 unfolding answering question_sound
@@ -107,9 +103,9 @@ NotMarked m = Not m.step
 opened_not : (k : RecvKeys) (b : Datagram) (a : Ask) (n : ℕ) (d : List ℕ) → is_keyed k a.epoch ≡ true → (o : Opening) (f : Found)
     → find k.entries a.epoch k.count ≡ f → NotMarked (opened_by f o k b a n d)
 unfolding opened_by opened_at
-opened_not k b a n d t o found.Nothing q = λ e. keyed-found k a.epoch t q
-opened_not k b a n d t reply.No (found.At i) q = λ e. omega arith
-opened_not k b a n d t (reply.Yes len) (found.At i) q =
+opened_not k b a n d t o None q = λ e. keyed-found k a.epoch t q
+opened_not k b a n d t None (Some i) q = λ e. omega arith
+opened_not k b a n d t (Some len) (Some i) q =
     by_test NotMarked (λ u. step_not (typed b a n (inner_of (part (b.at + a.header_len) len d))) (typed-goes b a n _)) (λ u e. omega arith)
 
 openings_not : (k : RecvKeys) (b : Datagram) (o : Opening) (d : List ℕ) (q : Question) → question_sound k q (b.size - b.at) ≡ true
@@ -153,8 +149,8 @@ NotKept k = answer_number k.answer ≡ 12 → ⊥
 
 removed_not : (s : Receiving) (epoch : ℕ) (f : Found) → NotKept (removed_by f s epoch)
 unfolding removed_by leaving
-removed_not s epoch found.Nothing = λ e. omega arith
-removed_not s epoch (found.At i) = by_test NotKept (λ t e. omega arith) (λ t e. omega arith)
+removed_not s epoch None = λ e. omega arith
+removed_not s epoch (Some i) = by_test NotKept (λ t e. omega arith) (λ t e. omega arith)
 
 module _ (s : Receiving) (m : Made s) where
   key_not : (epoch : ℕ) (iv : List ℕ) → NotKept (key_of s epoch iv)

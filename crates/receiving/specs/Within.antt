@@ -1,7 +1,7 @@
 -- The part of the datagram that a reading or a question names lies within it, whatever stands in the state. Assumes nothing.
-use Rattle.std.specs.Prelude.{ℕ, ◌+◌, ◌-◌, ◌≤◌, length, drop, true, List, ◌∷◌, ◌≡◌}
+use Rattle.std.specs.Prelude.{ℕ, ◌+◌, ◌-◌, ◌≤◌, length, drop, true, List, ◌∷◌, ◌≡◌, Some, None, Option}
 use borrow.Author.Tests.{eqb-true, ltb-false}
-use Rattle.std.proofs.Common.{length-drop, length-append, sym, ap, subst, ◌∙◌, arith}
+use Rattle.std.proofs.Common.{length-drop, length-append, sym, ap, subst, arith}
 use Rattle.std.proofs.Math.Path.{refl}
 use Rattle.base.specs.Choose.{by_test}
 use Rattle.base.specs.Parts.{part, length_part}
@@ -15,24 +15,19 @@ use Rattle.datagram.specs.declared.Question.{Question}
 use Rattle.datagram.specs.declared.Reading.TheVariants as says
 use Rattle.datagram.specs.declared.Reading.{Reading}
 use Rattle.datagram.specs.declared.Step.{Step}
-use Rattle.incoming.specs.Inner.{inner_of, zeros, inner-holds}
-use Rattle.incoming.specs.declared.Inner.TheVariants as inner
+use Rattle.incoming.specs.Inner.{inner_of, zeros, inner-holds, holding}
 use Rattle.incoming.specs.declared.Inner.{Inner}
 use Rattle.mask_reply.proofs.Leads.{by-judged}
 use Rattle.mask_reply.specs.Mask.{judged, masked_at, masked_by, masking, mask_step}
-use Rattle.opening_reply.specs.Opening.{typed, opened_at, opened_by, openings, opened_step}
+use Rattle.opening_reply.specs.Opening.{typed, opened_at, opened_by, openings, opened_step, Opening}
 use Rattle.opening_reply.specs.declared.Marked.{Marked}
-use Rattle.opening_reply.specs.declared.Opening.TheVariants as reply
-use Rattle.opening_reply.specs.declared.Opening.{Opening}
 use Rattle.record.specs.Laws.{Whole, Inside, inside}
 use Rattle.record.specs.Record.{tag_size, parsed}
 use Rattle.record.specs.declared.Ciphertext.{Ciphertext}
 use Rattle.record.specs.declared.Parsed.TheVariants as parse
 use Rattle.record.specs.declared.Parsed.{Parsed}
 use Rattle.records.specs.Records.{locked_step, sealed_step, step_of, opening_asked, asked_again, asking, read_step}
-use Rattle.recv_keys.specs.Keys.{find}
-use Rattle.recv_keys.specs.declared.Found.TheVariants as found
-use Rattle.recv_keys.specs.declared.Found.{Found}
+use Rattle.recv_keys.specs.Keys.{Found}
 use Rattle.recv_keys.specs.declared.RecvEpochEntry.{RecvEpochEntry}
 use Rattle.recv_keys.specs.declared.RecvKeys.{RecvKeys}
 use Rattle.receiving.specs.Receiving.{read_of, mask_of, opened_of}
@@ -69,8 +64,8 @@ counted-lies n b next x h = by_test (Lies n) (λ t. tt) (λ t. h)
 module _ (k : RecvKeys) (b : Datagram) (n : ℕ) (fits : b.at + n ≤ b.size) where
   locked-lies : (c : Ciphertext) → Whole c n → (f : Found) → Lies b.size (locked_step f k b c)
   unfolding locked_step
-  locked-lies c w found.Nothing = tt
-  locked-lies c w (found.At i) =
+  locked-lies c w None = tt
+  locked-lies c w (Some i) =
       by_test (Lies b.size) (λ t. tt)
       (λ t. by_test (Lies b.size) (λ u. tt) (λ u. omega (arith, w.fits, ltb-false c.length tag_size t)))
 
@@ -92,8 +87,8 @@ module _ (k : RecvKeys) (b : Datagram) (r : Ready k b) (a : Ask) (h : Held k a (
 
   again-lies : (n : ℕ) (f : Found) → Lies b.size (asked_again f k b a n)
   unfolding asked_again
-  again-lies n found.Nothing = tt
-  again-lies n (found.At i) = opening-lies _ n
+  again-lies n None = tt
+  again-lies n (Some i) = opening-lies _ n
 
 asking-lies : (k : RecvKeys) (b : Datagram) (d : List ℕ) (q : Question) → Ready k b → length d ≡ b.size
     → question_sound k q (b.size - b.at) ≡ true → Lies b.size (asking q k b d)
@@ -130,8 +125,8 @@ module _ (k : RecvKeys) (b : Datagram) (r : Ready k b) (a : Ask) (h : Held k a (
 
   masked-lies : (m d : List ℕ) (f : Found) → Lies b.size (masked_by f k b a m d).0
   unfolding masked_by masked_at
-  masked-lies m d found.Nothing = tt
-  masked-lies m d (found.At i) = judged-lies _ _
+  masked-lies m d None = tt
+  masked-lies m d (Some i) = judged-lies _ _
 
 masking-lies : (k : RecvKeys) (b : Datagram) (m d : List ℕ) (q : Question) → Ready k b → question_sound k q (b.size - b.at) ≡ true
     → Lies b.size (masking q k b m d).0
@@ -156,26 +151,26 @@ mask-within s m d =
 -- ---- a reply to an opening
 
 -- a content is shorter than what was opened
-inner-short : (x : List ℕ) (t l : ℕ) → inner_of x ≡ inner.Found t l → l ≤ length x
+inner-short : (x : List ℕ) (t l : ℕ) → inner_of x ≡ holding t l → l ≤ length x
 inner-short x t l e =
     let g = inner-holds x e in
     omega (arith, g.long, ap length g.bytes, length-append g.content (t ∷ zeros g.padding))
 
 module _ (k : RecvKeys) (b : Datagram) (r : Ready k b) (a : Ask) (h : Held k a (b.size - b.at)) (d : List ℕ) (long : length d ≡ b.size) where
-  typed-lies : (n : ℕ) (i : Inner) → ((t l : ℕ) → i ≡ inner.Found t l → l ≤ a.length) → Lies b.size (typed b a n i)
+  typed-lies : (n : ℕ) (i : Option Inner) → ((t l : ℕ) → i ≡ holding t l → l ≤ a.length) → Lies b.size (typed b a n i)
   unfolding typed
-  typed-lies n inner.Nothing short = tt
-  typed-lies n (inner.Found t l) short =
-      counted-lies b.size b _ _ (omega (arith, short t l refl, end_fits k b a r h))
+  typed-lies n None short = tt
+  typed-lies n (Some x) short =
+      counted-lies b.size b _ _ (omega (arith, short x.content_type x.length refl, end_fits k b a r h))
 
   abbrev Marks : Marked → Type 0
   Marks m = Lies b.size m.step
 
   opened-lies : (n : ℕ) (o : Opening) (f : Found) → Marks (opened_by f o k b a n d)
   unfolding opened_by opened_at
-  opened-lies n o found.Nothing = tt
-  opened-lies n reply.No (found.At i) = tt
-  opened-lies n (reply.Yes len) (found.At i) =
+  opened-lies n o None = tt
+  opened-lies n None (Some i) = tt
+  opened-lies n (Some len) (Some i) =
       by_test Marks
       (λ t. typed-lies n _ (λ u l e.
       let start = b.at + a.header_len in

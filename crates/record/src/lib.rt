@@ -43,6 +43,8 @@ pub const HANDSHAKE: u8 = 22;
 pub const APPLICATION_DATA: u8 = 23;
 
 pub const ACK: u8 = 26;
+// The bytes of an epoch and a number that an ACK names.
+pub const RECORD_NUMBER_LEN: usize = 16;
 
 #[derive(Clone, Copy)]
 pub struct Plaintext {
@@ -76,6 +78,7 @@ pub enum Parsed {
 }
 
 // Bytes of a unified header, by its flags.
+#[tactic(auto, unfolding(crate::specs::Record::header_length))]
 fn header_len(flags: u8) -> usize
     ensures { (result ≡ header_length flags) × (2 ≤ result) × (result ≤ 5) }
 {
@@ -85,17 +88,19 @@ fn header_len(flags: u8) -> usize
 }
 
 // The length field of a unified header, its last two bytes; without one the record runs to the end.
+#[tactic(auto, unfolding(crate::specs::Record::fragment_len, base::specs::Choose::choose))]
 fn fragment_len(d: &[u8], flags: u8, head: usize) -> usize
     requires { (head ≡ header_length flags) × (2 ≤ head) × (head ≤ length d.now) }
     ensures { result ≡ fragment_len d.now flags }
 {
     if flags / 4 % 2 == 1 {
-        return base::be16(d, head - 2) as usize;
+        return base::be::<2>(d, head - 2) as usize;
     }
     d.len() - head
 }
 
 // The number bytes of a unified header, as they lie.
+#[tactic(auto, unfolding(crate::specs::Record::partial_of, base::specs::Choose::choose))]
 pub fn partial(d: &[u8], s_flag: bool) -> u64
     ensures { result ≡ partial_of d.now s_flag }
 {
@@ -105,6 +110,7 @@ pub fn partial(d: &[u8], s_flag: bool) -> u64
     base::byte_or_zero(d, 1)
 }
 
+#[tactic(auto, unfolding(crate::specs::Record::parse_ciphertext, base::specs::Choose::choose))]
 fn parse_ciphertext(d: &[u8], flags: u8) -> Parsed
     ensures { result ≡ parse_ciphertext d.now flags }
 {
@@ -120,49 +126,35 @@ fn parse_ciphertext(d: &[u8], flags: u8) -> Parsed
     let s_flag = flags / 8 % 2 == 1;
     Parsed::Ciphertext(Ciphertext {
         epoch_bits: flags % 4,
-        s_flag: s_flag,
+        s_flag,
         sequence_number: partial(d, s_flag),
         header_len: head,
-        length: length,
+        length,
     })
 }
 
 // The types that a plaintext record may have.
+#[tactic(auto, unfolding(crate::specs::Record::is_type, base::specs::Choose::either))]
 pub fn is_type(t: u8) -> bool
     ensures { result ≡ is_type t }
 {
-    if t == ALERT {
-        return true;
-    }
-    if t == HANDSHAKE {
-        return true;
-    }
-    t == ACK
+    matches!(t, ALERT | HANDSHAKE | ACK)
 }
 
+#[tactic(auto, unfolding(crate::specs::Record::is_version, base::specs::Choose::either, base::specs::Choose::both))]
 fn is_version(a: u8, b: u8) -> bool
     ensures { result ≡ is_version a b }
 {
-    if a == DTLS1_2[0] {
-        if b == DTLS1_0[1] {
-            return true;
-        }
-        return b == DTLS1_2[1];
-    }
-    false
+    [a, b] == DTLS1_0 || [a, b] == DTLS1_2
 }
 
 // Whether type, version and epoch of a plaintext header are allowed.
+#[tactic(auto, unfolding(crate::specs::Record::is_plaintext, base::specs::Choose::both))]
 fn is_plaintext(d: &[u8]) -> bool
     requires { 13 ≤ length d.now }
     ensures { result ≡ is_plaintext d.now }
 {
-    if is_type(d[0]) {
-        if is_version(d[1], d[2]) {
-            return base::be16(d, 3) == 0;
-        }
-    }
-    false
+    is_type(d[0]) && is_version(d[1], d[2]) && base::be::<2>(d, 3) == 0
 }
 
 // The six bytes of a plaintext header's number.
@@ -170,9 +162,10 @@ fn number(d: &[u8]) -> u64
     requires { 13 ≤ length d.now }
     ensures { result ≡ number_of d.now }
 {
-    base::be24(d, 5) * 0x100_0000 + base::be24(d, 8)
+    base::be::<6>(d, 5)
 }
 
+#[tactic(auto, unfolding(crate::specs::Record::parse_plaintext, base::specs::Choose::choose))]
 fn parse_plaintext(d: &[u8]) -> Parsed
     ensures { result ≡ parse_plaintext d.now }
 {
@@ -180,7 +173,7 @@ fn parse_plaintext(d: &[u8]) -> Parsed
     if n < PLAINTEXT_HEADER_LEN {
         return Parsed::Incomplete;
     }
-    let length = base::be16(d, 11) as usize;
+    let length = base::be::<2>(d, 11) as usize;
     if n - PLAINTEXT_HEADER_LEN < length {
         return Parsed::Incomplete;
     }
@@ -188,17 +181,18 @@ fn parse_plaintext(d: &[u8]) -> Parsed
         return Parsed::Plaintext(Plaintext {
             content_type: d[0],
             sequence_number: number(d),
-            length: length,
+            length,
         });
     }
     Parsed::Invalid(length)
 }
 
 // What begins the rest of a datagram.
+#[tactic(auto, unfolding(crate::specs::Record::parsed, base::specs::Choose::choose))]
 pub fn parse(d: &[u8]) -> Parsed
     ensures { result ≡ parsed d.now }
 {
-    if d.len() == 0 {
+    if d.is_empty() {
         return Parsed::End;
     }
     let flags = d[0];

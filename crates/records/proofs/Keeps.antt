@@ -1,5 +1,5 @@
 -- A read keeps the ranges, and where it is refused, 12 or 15, the datagram's state. Assumes nothing.
-use Rattle.std.specs.Prelude.{ℕ, ◌+◌, ◌-◌, ◌≤◌, length, drop, true, List, ◌≡◌, refl}
+use Rattle.std.specs.Prelude.{ℕ, ◌+◌, ◌-◌, ◌≤◌, length, drop, true, List, ◌≡◌, refl, Some, None}
 use borrow.Author.Tests.{eqb-true, ltb-false}
 use Rattle.std.proofs.Common.{length-drop, arith}
 use Rattle.base.specs.Choose.{by_test}
@@ -15,10 +15,8 @@ use Rattle.record.specs.declared.Ciphertext.{Ciphertext}
 use Rattle.record.specs.declared.Parsed.TheVariants as parse
 use Rattle.record.specs.declared.Parsed.{Parsed}
 use Rattle.recv_keys.specs.Keeps.{is-standing}
-use Rattle.recv_keys.specs.Keys.{entry_at, find, resolve}
+use Rattle.recv_keys.specs.Keys.{entry_at, find, resolve, Found}
 use Rattle.recv_keys.specs.Laws.{resolve-keyed}
-use Rattle.recv_keys.specs.declared.Found.TheVariants as found
-use Rattle.recv_keys.specs.declared.Found.{Found}
 use Rattle.recv_keys.specs.declared.RecvKeys.{RecvKeys}
 use Rattle.record.specs.Laws.{Whole, Inside, inside}
 use Rattle.records.specs.Records.{ask_of, locked_step, sealed_step, step_of, opening_asked, asked_again, asking, read_step}
@@ -26,8 +24,8 @@ use Rattle.records.specs.Records.{ask_of, locked_step, sealed_step, step_of, ope
 module _ (k : RecvKeys) (b : Datagram) (n : ℕ) (r : Ready k b) (fits : b.at + n ≤ b.size) where
   locked-keeps : (c : Ciphertext) → Whole c n → (f : Found) → resolve k c.epoch_bits ≡ f → Good k (locked_step f k b c)
   unfolding locked_step question_sound
-  locked-keeps c w found.Nothing q = passed-keeps k b _ r (omega (arith, w.fits))
-  locked-keeps c w (found.At i) q =
+  locked-keeps c w None q = passed-keeps k b _ r (omega (arith, w.fits))
+  locked-keeps c w (Some i) q =
       by_test (Good k) (λ t. passed-keeps k b _ r (omega (arith, w.fits)))
       (λ t. by_test (Good k) (λ u. passed-keeps k b _ r (omega (arith, w.fits)))
       (λ u. question-keeps k b (question.Mask (ask_of (entry_at k i).epoch c)) r
@@ -56,8 +54,8 @@ module _ (k : RecvKeys) (b : Datagram) (n : ℕ) (r : Ready k b) (fits : b.at + 
 again-keeps : (k : RecvKeys) (b : Datagram) (a : Ask) (n : ℕ) → Ready k b → question_sound k (question.Opening a n) (b.size - b.at) ≡ true
     → (f : Found) → Good k (asked_again f k b a n)
 unfolding asked_again opening_asked
-again-keeps k b a n r q found.Nothing = r
-again-keeps k b a n r q (found.At i) = question-keeps k b (question.Opening a n) r q
+again-keeps k b a n r q None = r
+again-keeps k b a n r q (Some i) = question-keeps k b (question.Opening a n) r q
 
 asking-keeps : (k : RecvKeys) (b : Datagram) (d : List ℕ) (q : Question) → Ready k b → length d ≡ b.size
     → question_sound k q (b.size - b.at) ≡ true → Good k (asking q k b d)
@@ -82,8 +80,8 @@ read_keeps k b d t =
 
 locked-goes : (f : Found) (k : RecvKeys) (b : Datagram) (c : Ciphertext) → Goes (locked_step f k b c)
 unfolding locked_step
-locked-goes found.Nothing k b c = refl
-locked-goes (found.At i) k b c = by_test Goes (λ t. refl) (λ t. by_test Goes (λ u. refl) (λ u. refl))
+locked-goes None k b c = refl
+locked-goes (Some i) k b c = by_test Goes (λ t. refl) (λ t. by_test Goes (λ u. refl) (λ u. refl))
 
 pub step-goes : (p : Parsed) (k : RecvKeys) (b : Datagram) → Goes (step_of p k b)
 unfolding step_of sealed_step
@@ -96,8 +94,8 @@ step-goes (parse.Ciphertext c) k b =
 
 again-stays : (f : Found) (k : RecvKeys) (b : Datagram) (a : Ask) (n : ℕ) → Stays b (asked_again f k b a n)
 unfolding asked_again opening_asked
-again-stays found.Nothing k b a n t = refl
-again-stays (found.At i) k b a n t = never refl t
+again-stays None k b a n t = refl
+again-stays (Some i) k b a n t = never refl t
 
 asking-stays : (q : Question) (k : RecvKeys) (b : Datagram) (d : List ℕ) → Stays b (asking q k b d)
 unfolding asking

@@ -1,5 +1,5 @@
 -- A sealed record as it was laid, its number bytes masked or not: what begins it, and what a read of it asks. Assumes nothing.
-use Rattle.std.specs.Prelude.{ℕ, ◌+◌, ◌-◌, ◌*◌, ◌/◌, ◌%◌, ◌<◌, ◌≤◌, drop, Bool, true, List, ◌∷◌, ◌++◌, ◌≡◌}
+use Rattle.std.specs.Prelude.{ℕ, ◌+◌, ◌-◌, ◌*◌, ◌/◌, ◌%◌, ◌<◌, ◌≤◌, drop, Bool, true, List, ◌∷◌, ◌++◌, ◌≡◌, Some}
 use Rattle.std.proofs.Common.{eq-eqb, ne_eqb, le-ltb, length-append, ◌∙◌}
 use Rattle.std.proofs.Math.ListN.{length}
 use Rattle.std.proofs.Math.Path.{ap}
@@ -14,9 +14,7 @@ use Rattle.record.specs.Record.{sealed_head, tag_size, sealed_tail, header_lengt
 use Rattle.record.specs.declared.Ciphertext.{Ciphertext}
 use Rattle.record.specs.declared.Parsed.TheVariants as parse
 use Rattle.record.specs.declared.Parsed.{Parsed}
-use Rattle.recv_keys.specs.Keys.{entry_at, resolve}
-use Rattle.recv_keys.specs.declared.Found.TheVariants as found
-use Rattle.recv_keys.specs.declared.Found.{Found}
+use Rattle.recv_keys.specs.Keys.{entry_at, resolve, Found}
 use Rattle.recv_keys.specs.declared.RecvKeys.{RecvKeys}
 use Rattle.records.proofs.Leads.{read-asks}
 use Rattle.records.specs.Records.{mask_asked, locked_step, sealed_step, step_of, asking, read_step}
@@ -99,7 +97,7 @@ module _ (e x y : ℕ) (body rest : List ℕ) (short : length body < 65536) wher
 
   -- the peer encrypts, the bits mean the epoch at i, and the protected part is not too short: a read asks its mask
   pub sealed-asks : (k : RecvKeys) (b : Datagram) (d : List ℕ) (i : ℕ) → is_sound k b ≡ true → length d ≡ b.size → b.question ≡ question.Nothing
-      → drop b.at d ≡ sealed e x y body ++ rest → k.peer_encryption ≡ true → resolve k (e % 4) ≡ found.At i → sealed_tail ≤ length body
+      → drop b.at d ≡ sealed e x y body ++ rest → k.peer_encryption ≡ true → resolve k (e % 4) ≡ Some i → sealed_tail ≤ length body
       → read_step k b d ≡ mask_asked b (entry_at k i).epoch (sealed_of e x y (length body))
   unfolding asking step_of sealed_step locked_step
   sealed-asks k b d i t l q at on means room =

@@ -1,5 +1,5 @@
 -- The cut of an arriving datagram (01, "Readings of an arriving datagram"; RFC 9147, sections 4 and 4.5.2).
-use Rattle.std.specs.Prelude.{ℕ, ◌+◌, ltb, eqb, length, drop, List}
+use Rattle.std.specs.Prelude.{ℕ, ◌+◌, ltb, eqb, length, drop, List, Some, None}
 use Rattle.base.specs.Choose.{choose}
 use Rattle.datagram.specs.declared.Ask.{Ask}
 use Rattle.datagram.specs.declared.Datagram.{Datagram}
@@ -13,9 +13,7 @@ use Rattle.record.specs.Record.{plain_head, tag_size, parsed}
 use Rattle.record.specs.declared.Ciphertext.{Ciphertext}
 use Rattle.record.specs.declared.Parsed.TheVariants as parse
 use Rattle.record.specs.declared.Parsed.{Parsed}
-use Rattle.recv_keys.specs.Keys.{entry_at, find, resolve}
-use Rattle.recv_keys.specs.declared.Found.TheVariants as found
-use Rattle.recv_keys.specs.declared.Found.{Found}
+use Rattle.recv_keys.specs.Keys.{entry_at, find, resolve, Found}
 use Rattle.recv_keys.specs.declared.RecvEpochEntry.{RecvEpochEntry}
 use Rattle.recv_keys.specs.declared.RecvKeys.{RecvKeys}
 use Rattle.datagram.specs.Datagram.{counted, ended, is_sound, passed, questioned, told}
@@ -34,8 +32,8 @@ mask_asked b epoch c = told (questioned b (question.Mask (ask_of epoch c))) (say
 
 -- the peer encrypts: 6, then 7, then the question
 unfoldable pub locked_step : Found → RecvKeys → Datagram → Ciphertext → Step
-locked_step found.Nothing k b c = passed b (end_of b c) reason.NoKeys
-locked_step (found.At i) k b c =
+locked_step None k b c = passed b (end_of b c) reason.NoKeys
+locked_step (Some i) k b c =
     choose (ltb c.length tag_size) (passed b (end_of b c) reason.TooShort)
     (choose (ltb c.length k.min_protected) (passed b (end_of b c) reason.TooShort) (mask_asked b (entry_at k i).epoch c))
 
@@ -67,8 +65,8 @@ opening_asked e b a n = record {
 }
 
 unfoldable pub asked_again : Found → RecvKeys → Datagram → Ask → ℕ → Step
-asked_again found.Nothing k b a n = told b says.Setting
-asked_again (found.At i) k b a n = opening_asked (entry_at k i) b a n
+asked_again None k b a n = told b says.Setting
+asked_again (Some i) k b a n = opening_asked (entry_at k i) b a n
 
 -- a question that waits is asked again
 unfoldable pub asking : Question → RecvKeys → Datagram → List ℕ → Step

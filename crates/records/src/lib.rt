@@ -36,6 +36,7 @@ pub fn ask_mask(b: Datagram, epoch: u16, c: Ciphertext) -> Step
 
 // ---- the opening question
 
+#[tactic(auto, unfolding(crate::specs::Records::opening_asked))]
 pub fn ask_opening(e: RecvEpochEntry, b: Datagram, a: Ask, number: u64) -> Step
     ensures { result ≡ opening_asked e b a number }
 {

@@ -1,6 +1,6 @@
 -- The calls of the C interface: each is the call of the receive side on the state that the words stand for. Words that stand for none,
 -- or a reply neither 0 nor 1, are refused by 12, and the state stays.
-use Rattle.std.specs.Prelude.{Bool, true, List, [], ◌∷◌, ◌≡◌, ℕ, leb, eqb, length}
+use Rattle.std.specs.Prelude.{true, List, [], ◌∷◌, ◌≡◌, ℕ, leb, eqb, length}
 use Rattle.answers.specs.declared.HuskTold.{HuskTold}
 use Rattle.base.specs.Choose.{choose, both}
 use Rattle.datagram.specs.declared.Step.{Step}

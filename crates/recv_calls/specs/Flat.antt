@@ -1,19 +1,23 @@
 -- What the calls of the C interface say, as numbers and one flat struct.
-use Rattle.std.specs.Prelude.{List, ℕ, eqb}
+use Rattle.opening_reply.specs.Opening.{Opening}
+use Rattle.std.specs.Prelude.{List, ℕ, eqb, Some, None, ⊤, Result, Ok, Err}
 use Rattle.base.specs.Choose.{choose}
 use Rattle.datagram.specs.Datagram.{zeros, reason_number}
 use Rattle.datagram.specs.declared.Reading.TheVariants as says
 use Rattle.datagram.specs.declared.Reading.{Reading}
 use Rattle.datagram.specs.declared.Reason.{Reason}
-use Rattle.opening_reply.specs.declared.Opening.TheVariants as reply
-use Rattle.opening_reply.specs.declared.Opening.{Opening}
-use Rattle.receiving.specs.Receiving.{answer_number}
-use Rattle.receiving.specs.declared.Answer.{Answer}
+use Rattle.receiving.specs.Receiving.{answer_number, refusal_number, Answer}
+use Rattle.receiving.specs.declared.Refusal.{Refusal}
 use Rattle.recv_calls.specs.declared.HuskReading.{HuskReading}
 
 -- 01's numbers
 abbrev pub answer_of : Answer → ℕ
 answer_of = answer_number
+
+-- the same of a call that drops no record; 0 where it is done
+abbrev pub number_of : Result ⊤ Refusal → ℕ
+number_of (Ok x) = 0
+number_of (Err r) = refusal_number r
 
 abbrev pub reason_of : Reason → ℕ
 reason_of = reason_number
@@ -75,4 +79,4 @@ flat_reading (says.Opening e n s h l) v = asked e n s h l v
 
 -- a reply of 1 brings so many bytes; 0 is no
 unfoldable pub opening_of : ℕ → ℕ → Opening
-opening_of o n = choose (eqb o 1) (reply.Yes n) reply.No
+opening_of o n = choose (eqb o 1) (Some n) None

@@ -1,7 +1,7 @@
 -- From what a call's parts ensure to what the call ensures. Assumes nothing.
-use Rattle.std.specs.Prelude.{true, false, List, ◌≡◌, refl, ℕ, ◌≤◌, eqb, length}
+use Rattle.std.specs.Prelude.{⊤, Ok, Err, true, false, List, ◌≡◌, refl, ℕ, ◌≤◌, eqb, length}
 use Rattle.std.proofs.Common.{sym, ap, subst, ◌∙◌, arith}
-use Rattle.base.specs.Choose.{choose, if_true, if_false}
+use Rattle.base.specs.Choose.{choose, if_true, if_false, by_test}
 use Rattle.datagram.specs.declared.Datagram.{Datagram}
 use Rattle.base.specs.Parts.{part}
 use Rattle.datagram.specs.declared.Reading.TheVariants as says
@@ -14,10 +14,13 @@ use Rattle.datagram.specs.Sound.{ready, is-ready}
 use Rattle.recv_words.specs.Entries.{fresh_words, starts}
 use Rattle.recv_keys.specs.declared.RecvKeys.{RecvKeys}
 use Rattle.receiving.specs.Laws.{begin_cancels}
-use Rattle.receiving.specs.Receiving.{sound, kept, made, stepped, begin_of}
-use Rattle.receiving.specs.declared.Answer.TheVariants as answers
+use Rattle.receiving.specs.Receiving.{sound, kept, made, stepped, key_of, encrypt_of, release_of, begin_of, refusal_number, Answer}
+use Rattle.receiving.specs.declared.Receiving.{Receiving}
+use Rattle.receiving.specs.declared.Refusal.{Refusal}
+use Rattle.receiving.specs.declared.Refusal.TheVariants as refused
+use Rattle.receiving.specs.declared.Done.{Done}
+use Rattle.receiving.specs.declared.Done.TheVariants as done
 use Rattle.records.specs.Records.{read_step}
-use Rattle.receiving.specs.declared.Answer.{Answer}
 use Rattle.receiving.specs.declared.Kept.{Kept}
 use Rattle.recv_words.specs.Words.{keys_of, datagram_of, is_flat}
 use Rattle.recv_calls.specs.Flat.{answer_of, bare, flat_reading}
@@ -29,6 +32,52 @@ use Rattle.recv_calls.specs.declared.HuskReading.{HuskReading}
 
 pub does : (r : ℕ) (a : Answer) (v w : List ℕ) (k : Kept) → is_flat w ≡ true → r ≡ answer_of a → Kept-as a v w k → Does r v w k
 does r a v w k f e h = (e ∙ ap answer_of h.0 ∙ sym (if_true _ _ f), h.1 ∙ sym (if_true _ _ f), h.2)
+
+-- an answer that tells of no record dropped
+abbrev Asks : Answer → Type 0
+Asks (Ok done.Asked) = ⊤
+Asks (Ok done.Dropped) = ⊥
+Asks (Err r) = ⊤
+
+done-by : (d : Done) → Asks (Ok d) → 0 ≡ answer_of (Ok d)
+done-by done.Asked h = refl
+done-by done.Dropped h = absurd h
+
+pub key-asks : (s : Receiving) (epoch : ℕ) (iv : List ℕ) → Asks (key_of s epoch iv).answer
+unfolding key_of
+key-asks s epoch iv =
+    let P = λ (k : Kept). Asks k.answer in
+    by_test P (λ _. by_test P (λ _. tt) (λ _. by_test P (λ _. tt) (λ _. by_test P (λ _. tt) (λ _. tt)))) (λ _. tt)
+
+pub encrypt-asks : (s : Receiving) → Asks (encrypt_of s).answer
+unfolding encrypt_of
+encrypt-asks s = by_test (λ (k : Kept). Asks k.answer) (λ _. tt) (λ _. tt)
+
+pub release-asks : (s : Receiving) → Asks (release_of s).answer
+unfolding release_of
+release-asks s = by_test (λ (k : Kept). Asks k.answer) (λ _. tt) (λ _. tt)
+
+pub begin-asks : (s : Receiving) (n : ℕ) → Asks (begin_of s n).answer
+unfolding begin_of
+begin-asks s n =
+    let P = λ (k : Kept). Asks k.answer in
+    by_test P (λ _. by_test P (λ _. tt) (λ _. tt)) (λ _. tt)
+
+pub does-ok : {a : Answer} (d : Done) (v w : List ℕ) (k : Kept) → is_flat w ≡ true → Asks k.answer → a ≡ Ok d → Kept-as a v w k → Does 0 v w k
+does-ok d v w k f p q h = does 0 _ v w k f (done-by d (subst Asks (sym h.0 ∙ q) p) ∙ ap answer_of (sym q)) h
+
+pub does-err : {a : Answer} (r : Refusal) (v w : List ℕ) (k : Kept) → is_flat w ≡ true → a ≡ Err r → Kept-as a v w k → Does (refusal_number r) v w k
+does-err r v w k f q h = does _ _ v w k f (ap answer_of (sym q)) h
+
+-- a refusal is never 0
+pub not-done : (r : Refusal) → eqb (refusal_number r) 0 ≡ false
+not-done refused.Setting = refl
+not-done refused.TooLong = refl
+not-done refused.Unusable = refl
+not-done refused.Full = refl
+
+pub does-nothing : (w : List ℕ) (k : Kept) → is_flat w ≡ false → Does 12 w w k
+does-nothing w k f = (sym (if_false _ _ f), sym (if_false _ _ f), refl)
 
 -- ---- calls that read
 

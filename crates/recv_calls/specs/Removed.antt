@@ -1,23 +1,20 @@
 -- What removing an epoch tells: that a record under a question went with it is no failure. Assumes nothing.
-use Rattle.std.specs.Prelude.{true, List, ◌≡◌, ℕ}
+use Rattle.receiving.specs.Receiving.{Answer, refusal_number}
+use Rattle.std.specs.Prelude.{true, List, ◌≡◌, ℕ, Ok, Err}
 use Rattle.std.proofs.Common.{sym, ap, ◌∙◌}
 use Rattle.answers.specs.declared.HuskTold.{HuskTold}
 use Rattle.answers.specs.Told.{tells}
 use Rattle.base.specs.Choose.{choose, if_true}
-use Rattle.receiving.specs.declared.Answer.TheVariants as says
-use Rattle.receiving.specs.declared.Answer.{Answer}
+use Rattle.receiving.specs.declared.Done.TheVariants as done
 use Rattle.receiving.specs.declared.Kept.{Kept}
 use Rattle.recv_words.specs.Words.{is_flat}
 use Rattle.recv_key_steps.specs.Kept.{state_of, Kept-as}
 
 -- 1 where a record was dropped with its epoch
 abbrev pub removed_told : Answer → HuskTold
-removed_told says.Done = tells 0 0
-removed_told says.Dropped = tells 0 1
-removed_told says.Setting = tells 12 0
-removed_told says.TooLong = tells 1 0
-removed_told says.Unusable = tells 13 0
-removed_told says.Full = tells 23 0
+removed_told (Ok done.Asked) = tells 0 0
+removed_told (Ok done.Dropped) = tells 0 1
+removed_told (Err r) = tells (refusal_number r) 0
 
 -- w before it, v behind it, k what the definition makes of the state
 abbrev pub Removes : HuskTold → List ℕ → List ℕ → Kept → Type 0

@@ -1,5 +1,5 @@
 -- The replies to a question: in what state they are met, and what they leave. Assumes nothing.
-use Rattle.std.specs.Prelude.{true, List, ◌≡◌, refl, ℕ, ◌+◌, ◌-◌, ◌≤◌, ◌<◌, leb, length, get_or}
+use Rattle.std.specs.Prelude.{true, List, ◌≡◌, refl, ℕ, ◌+◌, ◌-◌, ◌≤◌, ◌<◌, leb, get_or, Some, None, Option}
 use Rattle.std.proofs.Common.{sym, ◌∙◌, arith, eq-eqb, ne_eqb, le-leb, lt-ltb}
 use Rattle.std.proofs.Math.Path.{ap, subst}
 use Rattle.std.proofs.lemmas.Bool.{lt-leb}
@@ -17,15 +17,12 @@ use Rattle.datagram.specs.declared.Reason.TheVariants as reason
 use Rattle.datagram.specs.declared.Reason.{Reason}
 use Rattle.datagram.specs.declared.Step.{Step}
 use Rattle.dtls_aead.specs.Nonce.{nonce_of}
-use Rattle.incoming.specs.Inner.{inner_of}
-use Rattle.incoming.specs.declared.Inner.TheVariants as inner
+use Rattle.incoming.specs.Inner.{inner_of, holding}
 use Rattle.incoming.specs.declared.Inner.{Inner}
 use Rattle.mask_reply.proofs.Leads.{judged-by}
 use Rattle.mask_reply.specs.Mask.{judged, masking, mask_step}
-use Rattle.opening_reply.specs.Opening.{still, typed, opened_at, openings, opened_step}
+use Rattle.opening_reply.specs.Opening.{still, typed, opened_at, openings, opened_step, Opening}
 use Rattle.opening_reply.specs.declared.Marked.{Marked}
-use Rattle.opening_reply.specs.declared.Opening.TheVariants as reply
-use Rattle.opening_reply.specs.declared.Opening.{Opening}
 use Rattle.record.specs.Record.{tag_size}
 use Rattle.records.specs.Records.{opening_asked}
 use Rattle.recv_keys.specs.Keys.{entry_at}
@@ -196,7 +193,7 @@ mask_leads r w v m d e p q h = subst (λ (x : Step × List ℕ). Stepped r v w x
 
 module _ (w v : List ℕ) (r : HuskReading) (t l : ℕ) (f : is_flat w ≡ true) where
   abbrev Read : Type 0
-  Read = Stepped r v w (typed (datagram_of w) (ask_of w) (ask_number w) (inner.Found t l))
+  Read = Stepped r v w (typed (datagram_of w) (ask_of w) (ask_number w) (holding t l))
 
   -- one reading too many: 3
   pub counts-over : 16 ≤ (datagram_of w).readings → r ≡ bare 1 3 → Lies (moved (datagram_of w) (datagram_of w).size (datagram_of w).readings) w v → Read
@@ -214,9 +211,9 @@ module _ {i n : ℕ} {w u : List ℕ} (m : Marks i n w u) where
       omega (arith, h, ap (λ (b : Datagram). b.at) m.datagram, ap (λ (a : Ask). a.header_len) m.ask, ap (λ (a : Ask). a.length) m.ask)
 
 -- a yes of the right length: the number is marked, and the record told
-pub yes_opens : (w u v : List ℕ) (r : HuskReading) (i len : ℕ) (x : Inner) (d : List ℕ) → len ≡ (ask_of w).length - tag_size → Marks i (ask_number w) w u
+pub yes_opens : (w u v : List ℕ) (r : HuskReading) (i len : ℕ) (x : Option Inner) (d : List ℕ) → len ≡ (ask_of w).length - tag_size → Marks i (ask_number w) w u
     → x ≡ inner_of (part ((datagram_of w).at + (ask_of w).header_len) len d) → Stepped r v u (typed (datagram_of u) (ask_of u) (ask_number u) x)
-    → Marked-as r v (opened_at i (reply.Yes len) (keys_of w) (datagram_of w) (ask_of w) (ask_number w) d)
+    → Marked-as r v (opened_at i (Some len) (keys_of w) (datagram_of w) (ask_of w) (ask_number w) d)
 unfolding opened_at
 yes_opens w u v r i len x d e m q s =
     let same = ap (λ (b : Datagram). typed b (ask_of u) (ask_number u) x) m.datagram
@@ -228,15 +225,15 @@ yes_opens w u v r i len x d e m q s =
 
 -- another length: 15
 pub yes_refused : (w : List ℕ) (r : HuskReading) (i len : ℕ) (d : List ℕ) → is_flat w ≡ true → (len ≡ (ask_of w).length - tag_size → ⊥) → r ≡ bare 0 15
-    → Marked-as r w (opened_at i (reply.Yes len) (keys_of w) (datagram_of w) (ask_of w) (ask_number w) d)
+    → Marked-as r w (opened_at i (Some len) (keys_of w) (datagram_of w) (ask_of w) (ask_number w) d)
 unfolding opened_at
 yes_refused w r i len d f e q = subst (Marked-as r w) (sym (if_false _ _ (ne_eqb _ _ e))) (q, refl, refl, f)
 
-pub opening_yes : (o len : ℕ) → o ≡ 1 → opening_of o len ≡ reply.Yes len
+pub opening_yes : (o len : ℕ) → o ≡ 1 → opening_of o len ≡ Some len
 unfolding opening_of
 opening_yes o len e = if_true _ _ (eq-eqb _ _ e)
 
-pub opening_no : (o len : ℕ) → (o ≡ 1 → ⊥) → opening_of o len ≡ reply.No
+pub opening_no : (o len : ℕ) → (o ≡ 1 → ⊥) → opening_of o len ≡ None
 unfolding opening_of
 opening_no o len e = if_false _ _ (ne_eqb _ _ e)
 

@@ -2,18 +2,17 @@
 // copies none of them. Whatever stands in them, a call ends with an answer.
 #![tactic(auto)]
 
-ghost use Rattle.std.specs.Prelude.{◌≡◌, ◌<◌, length, true};
-ghost use Rattle.incoming.specs.declared.Inner.TheVariants as Inner;
+ghost use Rattle.std.specs.Prelude.{◌≡◌, ◌<◌, length, true, Some};
+ghost use Rattle.incoming.specs.Inner.{holding};
 ghost use Rattle.mask_reply.specs.Mask.{judged, masked_at, masked_by, mask_step};
 ghost use Rattle.opening_reply.specs.Opening.{typed, opened_at, opened_by, opened_step};
-ghost use Rattle.opening_reply.specs.declared.Opening.TheVariants as Opening;
 ghost use Rattle.recv_keys.specs.Keys.{most_epochs, entry_at, find};
 ghost use Rattle.recv_words.specs.Words.{entries_of, keys_of, ask_of, ask_number, datagram_of, is_flat};
 ghost use Rattle.recv_words.specs.Laws.{Lies, skipped, opening};
 ghost use Rattle.records.specs.Records.{read_step};
 ghost use Rattle.recv_steps.specs.Goes.{Goes};
 ghost use Rattle.recv_calls.specs.Replies.{MaskWaits, OpeningWaits, Fits, laid, asked_at, Marked-as};
-ghost use Rattle.recv_calls.specs.Flat.{answer_of, reason_of, bare, shown, asked, flat_reading, opening_of};
+ghost use Rattle.recv_calls.specs.Flat.{number_of, reason_of, bare, shown, asked, flat_reading, opening_of};
 ghost use Rattle.recv_calls.specs.Removed.{removed_told};
 ghost use Rattle.recv_calls.specs.Calls.{
   Stepped,
@@ -32,9 +31,9 @@ ghost use Rattle.recv_calls.specs.Calls.{
 use answers::HuskTold;
 use datagram::{Datagram, Question, Reading, Reason, Step};
 use incoming::Inner;
-use receiving::Answer;
+use receiving::{Done, Refusal};
 use record::TAG_LEN;
-use recv_keys::{Found, MOST_LEAST};
+use recv_keys::MOST_LEAST;
 use recv_words::{
     ASK_EPOCH, ASK_FLAG, ASK_NUMBER, COUNT, CURSOR, IV_BACK, IV_FRONT, QUESTION, READINGS, SIZE,
     WORDS,
@@ -50,7 +49,7 @@ use window::Verdict;
 //   5 an opened record: epoch, number, type, and where its content is;
 //   6 the mask is asked for: epoch, and where the 16 bytes are;
 //   7 the opening is asked for: epoch, number, nonce, where the record starts, how long its header and its protected part are.
-// Fields that a kind does not use are zeros.
+// Fields that a kind does not use are zeros. The C interface has numbers.
 #[repr(C)]
 #[derive(Clone, Copy)]
 pub struct HuskReading {
@@ -67,31 +66,14 @@ pub struct HuskReading {
 
 // ---- answers
 
-// The number of a refusal; 0 where the call is done. A record dropped with its epoch is 6.
-fn answer_of(a: Answer) -> u8
-    ensures { result ≡ answer_of a }
-{
-    match a {
-        Answer::Done => 0,
-        Answer::Dropped => 6,
-        Answer::Setting => 12,
-        Answer::TooLong => 1,
-        Answer::Unusable => 13,
-        Answer::Full => 23,
-    }
-}
-
-// What removing an epoch tells: 1 where a record is dropped with it, which is no refusal.
-fn removed_told(a: Answer) -> HuskTold
+// What removing an epoch tells: 1 where a record is dropped with it, which is no refusal. The C interface has numbers.
+fn removed_told(a: Result<Done, Refusal>) -> HuskTold
     ensures { result ≡ removed_told a }
 {
     match a {
-        Answer::Done => answers::told(0, 0),
-        Answer::Dropped => answers::told(0, 1),
-        Answer::Setting => answers::told(12, 0),
-        Answer::TooLong => answers::told(1, 0),
-        Answer::Unusable => answers::told(13, 0),
-        Answer::Full => answers::told(23, 0),
+        Ok(Done::Asked) => answers::told(0, 0),
+        Ok(Done::Dropped) => answers::told(0, 1),
+        Err(r) => answers::told(u8::from(r), 0),
     }
 }
 
@@ -223,7 +205,6 @@ fn settle(w: &mut [u64; WORDS], t: Step) -> HuskReading
     let b = t.datagram;
     let r = t.reading;
     let nonce = t.nonce;
-    recv_words::sized(w);
     recv_words::put_datagram(w, b);
     flat_reading(r, nonce)
 }
@@ -232,25 +213,25 @@ fn settle(w: &mut [u64; WORDS], t: Step) -> HuskReading
 
 // A receive side with nothing keyed and no datagram begun, whatever stood in the words. A protected part has at least min_protected
 // bytes, 0 to 17.
-pub fn fresh(w: &mut [u64; WORDS], min_protected: usize) -> u8
-    ensures { FreshCall result w.new min_protected }
+pub fn fresh(w: &mut [u64; WORDS], min_protected: usize) -> Result<(), Refusal>
+    ensures { FreshCall (number_of result) w.new min_protected }
 {
     recv_words::put_fresh(w, min_protected);
     if MOST_LEAST < min_protected as u64 {
-        return 12;
+        return Err(Refusal::Setting);
     }
-    0
+    Ok(())
 }
 
 // Keys an epoch to receive, with its IV.
-pub fn key_receive(w: &mut [u64; WORDS], epoch: u16, iv: &[u8; 12]) -> u8
-    ensures { KeyReceiveCall result w.new w.old epoch iv.now }
+pub fn key_receive(w: &mut [u64; WORDS], epoch: u16, iv: &[u8; 12]) -> Result<(), Refusal>
+    ensures { KeyReceiveCall (number_of result) w.new w.old epoch iv.now }
 {
-    if recv_words::is_flat(w) {
-        let v = *iv;
-        return answer_of(recv_key_steps::key(w, epoch, v));
+    if !recv_words::is_flat(w) {
+        return Err(Refusal::Setting);
     }
-    12
+    recv_key_steps::key(w, epoch, *iv)?;
+    Ok(())
 }
 
 // Removes a receive epoch, and the question under it. Told is 1 where a record is dropped with it.
@@ -264,33 +245,36 @@ pub fn remove_receive(w: &mut [u64; WORDS], epoch: u16) -> HuskTold
 }
 
 // Peer encryption on, from the next record read.
-pub fn enable_peer_encryption(w: &mut [u64; WORDS]) -> u8
-    ensures { EnablePeerEncryptionCall result w.new w.old }
+pub fn enable_peer_encryption(w: &mut [u64; WORDS]) -> Result<(), Refusal>
+    ensures { EnablePeerEncryptionCall (number_of result) w.new w.old }
 {
-    if recv_words::is_flat(w) {
-        return answer_of(recv_key_steps::encrypt(w));
+    if !recv_words::is_flat(w) {
+        return Err(Refusal::Setting);
     }
-    12
+    recv_key_steps::encrypt(w)?;
+    Ok(())
 }
 
 // Application data released.
-pub fn release_application_data(w: &mut [u64; WORDS]) -> u8
-    ensures { ReleaseApplicationDataCall result w.new w.old }
+pub fn release_application_data(w: &mut [u64; WORDS]) -> Result<(), Refusal>
+    ensures { ReleaseApplicationDataCall (number_of result) w.new w.old }
 {
-    if recv_words::is_flat(w) {
-        return answer_of(recv_key_steps::release(w));
+    if !recv_words::is_flat(w) {
+        return Err(Refusal::Setting);
     }
-    12
+    recv_key_steps::release(w)?;
+    Ok(())
 }
 
 // Begins a datagram of n bytes; a question that waits is cancelled.
-pub fn begin(w: &mut [u64; WORDS], n: usize) -> u8
-    ensures { BeginCall result w.new w.old n }
+pub fn begin(w: &mut [u64; WORDS], n: usize) -> Result<(), Refusal>
+    ensures { BeginCall (number_of result) w.new w.old n }
 {
-    if recv_words::is_flat(w) {
-        return answer_of(recv_key_steps::begin(w, n));
+    if !recv_words::is_flat(w) {
+        return Err(Refusal::Setting);
     }
-    12
+    recv_key_steps::begin(w, n)?;
+    Ok(())
 }
 
 // The record at the cursor of a datagram, where no question waits.
@@ -466,8 +450,8 @@ fn mask_by(w: &mut [u64; WORDS], mask: [u8; 2], d: &mut [u8]) -> Reply
     let epoch = words::low(w[ASK_EPOCH]);
     let f = recv_words::find_epoch(w, count, epoch);
     match f {
-        Found::Nothing => no_reply(0, 12),
-        Found::At(i) => mask_at(w, i, mask, d),
+        None => no_reply(0, 12),
+        Some(i) => mask_at(w, i, mask, d),
     }
 }
 
@@ -508,7 +492,7 @@ pub fn mask(w: &mut [u64; WORDS], mask_0: u8, mask_1: u8, d: &mut [u8]) -> HuskR
 // An opened record is a reading, or one too many.
 fn count(w: &mut [u64; WORDS], content_type: u8, length: usize) -> HuskReading
     requires { (is_flat w.old ≡ true) × Fits w.old }
-    ensures { Stepped result w.new w.old (typed (datagram_of w.old) (ask_of w.old) (ask_number w.old) (Inner.Found content_type length)) }
+    ensures { Stepped result w.new w.old (typed (datagram_of w.old) (ask_of w.old) (ask_number w.old) (holding content_type length)) }
 {
     let n = w[READINGS] as usize;
     if 16 <= n {
@@ -524,26 +508,23 @@ fn count(w: &mut [u64; WORDS], content_type: u8, length: usize) -> HuskReading
 }
 
 // What an opened record holds.
-fn type_step(w: &mut [u64; WORDS], inner: Inner) -> HuskReading
+fn type_step(w: &mut [u64; WORDS], inner: Option<Inner>) -> HuskReading
     requires { (is_flat w.old ≡ true) × Fits w.old }
     ensures { Stepped result w.new w.old (typed (datagram_of w.old) (ask_of w.old) (ask_number w.old) inner) }
 {
     match inner {
-        Inner::Nothing => {
+        None => {
             recv_words::skip(w);
             told(2, 11)
         }
-        Inner::Found {
-            content_type,
-            length,
-        } => count(w, content_type, length),
+        Some(i) => count(w, i.content_type, i.length),
     }
 }
 
 // Yes: the number is marked.
 fn open_yes(w: &mut [u64; WORDS], i: usize, length: usize, d: &[u8]) -> HuskReading
     requires { OpeningWaits w.old × (i < most_epochs) }
-    ensures { Marked-as result w.new (opened_at i (Opening.Yes length) (keys_of w.old) (datagram_of w.old) (ask_of w.old) (ask_number w.old) d.now) }
+    ensures { Marked-as result w.new (opened_at i (Some length) (keys_of w.old) (datagram_of w.old) (ask_of w.old) (ask_number w.old) d.now) }
 {
     let a = recv_words::ask_of(w);
     if length == a.length - TAG_LEN {
@@ -575,8 +556,8 @@ fn open_by(w: &mut [u64; WORDS], opened: u8, length: usize, d: &[u8]) -> HuskRea
     let epoch = words::low(w[ASK_EPOCH]);
     let f = recv_words::find_epoch(w, count, epoch);
     match f {
-        Found::Nothing => told(0, 12),
-        Found::At(i) => open_at(w, i, opened, length, d),
+        None => told(0, 12),
+        Some(i) => open_at(w, i, opened, length, d),
     }
 }
 

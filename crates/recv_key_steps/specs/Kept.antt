@@ -3,8 +3,7 @@ use Rattle.std.specs.Prelude.{List, ◌≡◌, refl, ℕ}
 use Rattle.std.proofs.Common.{sym, ap, subst, ◌∙◌}
 use Rattle.datagram.specs.declared.Datagram.{Datagram}
 use Rattle.recv_keys.specs.declared.RecvKeys.{RecvKeys}
-use Rattle.receiving.specs.Receiving.{kept, made}
-use Rattle.receiving.specs.declared.Answer.{Answer}
+use Rattle.receiving.specs.Receiving.{kept, made, Answer}
 use Rattle.receiving.specs.declared.Kept.{Kept}
 use Rattle.receiving.specs.declared.Receiving.{Receiving}
 use Rattle.recv_words.specs.Words.{keys_of, datagram_of, is_flat}

@@ -10,50 +10,48 @@ ghost use Rattle.recv_words.specs.Words.{keys_of, is_flat};
 ghost use Rattle.recv_key_steps.specs.Kept.{state_of, Kept-as};
 
 use datagram::{Datagram, Question};
-use receiving::Answer;
-use recv_keys::Found;
+use receiving::{Done, Refusal};
 use recv_words::{COUNT, ENCRYPTED, HIGHEST, RELEASED, WORDS};
 
 // Keys an epoch to receive, with its IV.
-pub fn key(w: &mut [u64; WORDS], epoch: u16, iv: [u8; 12]) -> Answer
+pub fn key(w: &mut [u64; WORDS], epoch: u16, iv: [u8; 12]) -> Result<Done, Refusal>
     ensures { Kept-as result w.new w.old (key_of (state_of w.old) epoch iv) }
 {
     let b = recv_words::datagram_of(w);
     if recv_words::is_sound(w, b) {
         if epoch < 2 {
-            return Answer::Unusable;
+            return Err(Refusal::Unusable);
         }
         if epoch <= words::low(w[HIGHEST]) {
-            return Answer::Unusable;
+            return Err(Refusal::Unusable);
         }
         if recv_steps::is_full(w, epoch) {
-            return Answer::Full;
+            return Err(Refusal::Full);
         }
         let count = w[COUNT] as usize;
         recv_words::install(w, count, epoch, iv);
-        return Answer::Done;
+        return Ok(Done::Asked);
     }
-    Answer::Setting
+    Err(Refusal::Setting)
 }
 
 // The entry at i removed, with the question under its epoch.
-fn leave(w: &mut [u64; WORDS], b: Datagram, i: usize, epoch: u16) -> Answer
+fn leave(w: &mut [u64; WORDS], b: Datagram, i: usize, epoch: u16) -> Result<Done, Refusal>
     requires { (is_sound (keys_of w.old) b ≡ true) × (0 < (keys_of w.old).count) × (is_flat w.old ≡ true) }
     ensures { Kept-as result w.new w.old (leaving (cancelled b.question b epoch) (left (keys_of w.old) i)) }
 {
     let c = recv_steps::cancel(w, b, epoch);
     let after = c.datagram;
     recv_words::uninstall(w, i);
-    recv_words::sized(w);
     recv_words::put_datagram(w, after);
     if c.dropped {
-        return Answer::Dropped;
+        return Ok(Done::Dropped);
     }
-    Answer::Done
+    Ok(Done::Asked)
 }
 
 // Removes a receive epoch, and the question under it.
-pub fn remove(w: &mut [u64; WORDS], epoch: u16) -> Answer
+pub fn remove(w: &mut [u64; WORDS], epoch: u16) -> Result<Done, Refusal>
     requires { is_flat w.old ≡ true }
     ensures { Kept-as result w.new w.old (remove_of (state_of w.old) epoch) }
 {
@@ -62,52 +60,49 @@ pub fn remove(w: &mut [u64; WORDS], epoch: u16) -> Answer
         let count = w[COUNT] as usize;
         let f = recv_words::find_epoch(w, count, epoch);
         return match f {
-            Found::Nothing => Answer::Unusable,
-            Found::At(i) => leave(w, b, i, epoch),
+            None => Err(Refusal::Unusable),
+            Some(i) => leave(w, b, i, epoch),
         };
     }
-    Answer::Setting
+    Err(Refusal::Setting)
 }
 
 // Peer encryption on.
-pub fn encrypt(w: &mut [u64; WORDS]) -> Answer
+pub fn encrypt(w: &mut [u64; WORDS]) -> Result<Done, Refusal>
     requires { is_flat w.old ≡ true }
     ensures { Kept-as result w.new w.old (encrypt_of (state_of w.old)) }
 {
-    recv_words::sized(w);
     let b = recv_words::datagram_of(w);
     if recv_words::is_sound(w, b) {
         w[ENCRYPTED] = 1;
-        return Answer::Done;
+        return Ok(Done::Asked);
     }
-    Answer::Setting
+    Err(Refusal::Setting)
 }
 
 // Application data released.
-pub fn release(w: &mut [u64; WORDS]) -> Answer
+pub fn release(w: &mut [u64; WORDS]) -> Result<Done, Refusal>
     requires { is_flat w.old ≡ true }
     ensures { Kept-as result w.new w.old (release_of (state_of w.old)) }
 {
-    recv_words::sized(w);
     let b = recv_words::datagram_of(w);
     if recv_words::is_sound(w, b) {
         w[RELEASED] = 1;
-        return Answer::Done;
+        return Ok(Done::Asked);
     }
-    Answer::Setting
+    Err(Refusal::Setting)
 }
 
 // Begins a datagram of n bytes.
-pub fn begin(w: &mut [u64; WORDS], n: usize) -> Answer
+pub fn begin(w: &mut [u64; WORDS], n: usize) -> Result<Done, Refusal>
     requires { is_flat w.old ≡ true }
     ensures { Kept-as result w.new w.old (begin_of (state_of w.old) n) }
 {
-    recv_words::sized(w);
     let b = recv_words::datagram_of(w);
     if recv_words::is_sound(w, b) {
         let long = 16384 < n;
         if long {
-            return Answer::TooLong;
+            return Err(Refusal::TooLong);
         }
         recv_words::put_datagram(
             w,
@@ -118,7 +113,7 @@ pub fn begin(w: &mut [u64; WORDS], n: usize) -> Answer
                 question: Question::Nothing,
             },
         );
-        return Answer::Done;
+        return Ok(Done::Asked);
     }
-    Answer::Setting
+    Err(Refusal::Setting)
 }

@@ -1,5 +1,5 @@
 -- Keying, removing and marking keep the ranges of the table, and leave the other epochs keyed. Assumes nothing.
-use Rattle.std.specs.Prelude.{Bool, List, ◌⊎◌, ◌≡◌, length}
+use Rattle.std.specs.Prelude.{Bool, List, ◌⊎◌, ◌≡◌, length, Some, None}
 use Rattle.std.proofs.Math.Bool.{true, false}
 use Rattle.std.proofs.lemmas.Bool.{false≢true}
 use Rattle.std.proofs.Math.Logic.{inl, inr, ⊎_elim}
@@ -16,8 +16,6 @@ use Rattle.window.proofs.Laws.{after}
 use Rattle.window.specs.Window.{unmarked}
 use Rattle.recv_keys.specs.declared.RecvEpochEntry.{RecvEpochEntry}
 use Rattle.recv_keys.specs.declared.RecvKeys.{RecvKeys}
-use Rattle.recv_keys.specs.declared.Found.{Found}
-use Rattle.recv_keys.specs.declared.Found.TheVariants.{At, Nothing}
 use Rattle.recv_keys.specs.Keys.{
   no_entry,
   entry_at,
@@ -35,6 +33,7 @@ use Rattle.recv_keys.specs.Keys.{
   installed,
   left_at,
   left,
+  Found,
 }
 use Rattle.recv_keys.specs.Laws.{not_full, found-keyed, window-at, windows-all}
 
@@ -70,11 +69,11 @@ fresh_in_range min h = record { count = omega arith; min = h; apps = omega arith
 -- ---- epochs found
 
 -- what is found is the epoch
-pub found-epoch : (l : List RecvEpochEntry) (x n i : ℕ) → find l x n ≡ At i → (get_or l i no_entry).epoch ≡ x
+pub found-epoch : (l : List RecvEpochEntry) (x n i : ℕ) → find l x n ≡ Some i → (get_or l i no_entry).epoch ≡ x
 unfolding find
 found-epoch l x zero i q = let z : ◌≡◌ {A = ℕ} 0 1 = cc in absurd (omega arith)
 found-epoch l x (suc n) i q =
-    by_test (λ (f : Found). f ≡ At i → (get_or l i no_entry).epoch ≡ x)
+    by_test (λ (f : Found). f ≡ Some i → (get_or l i no_entry).epoch ≡ x)
     (λ e p. let s : n ≡ i = cc in rw (sym s) (eqb-true _ _ e)) (λ e p. found-epoch l x n i p) q
 
 -- an epoch that stands among the first n is found
@@ -96,8 +95,8 @@ pub record Stands (l : List RecvEpochEntry) (x n : ℕ) : Type 0 where
 
 stands_by : (l : List RecvEpochEntry) (x n : ℕ) (f : Found) → find l x n ≡ f → was_found f ≡ true → Stands l x n
 unfolding was_found
-stands_by l x n (At i) q t = record { place = i; within = found-keyed l x n i q; epoch = found-epoch l x n i q }
-stands_by l x n Nothing q t = absurd (false≢true t)
+stands_by l x n (Some i) q t = record { place = i; within = found-keyed l x n i q; epoch = found-epoch l x n i q }
+stands_by l x n None q t = absurd (false≢true t)
 
 pub stands : (k : RecvKeys) (x : ℕ) → is_keyed k x ≡ true → Stands k.entries x k.count
 unfolding is_keyed

@@ -1,11 +1,10 @@
 -- The epochs keyed to receive (01, "resolve_epoch", "reconstruct_sequence", refusals 12, 13 and 23; RFC 9147, section 4.2.1).
-use Rattle.std.specs.Prelude.{Bool, true, false, List, [], ◌∷◌, ℕ, zero, suc, ◌+◌, ◌-◌, ◌%◌, ltb, leb, eqb, get_or, set}
+use Rattle.std.specs.Prelude.{Bool, true, false, List, [], ◌∷◌, ℕ, zero, suc, ◌+◌, ◌-◌, ◌%◌, ltb, leb, eqb, get_or, set, Option, Some, None, is_some}
+use Rattle.std.specs.Option.{option_or}
 use Rattle.base.specs.Choose.{choose, both}
 use Rattle.window.specs.Window.{unmarked, marking}
 use Rattle.recv_keys.specs.declared.RecvEpochEntry.{RecvEpochEntry}
 use Rattle.recv_keys.specs.declared.RecvKeys.{RecvKeys}
-use Rattle.recv_keys.specs.declared.Found.{Found}
-use Rattle.recv_keys.specs.declared.Found.TheVariants.{At, Nothing}
 
 -- what stands beyond the entries
 abbrev pub no_entry : RecvEpochEntry
@@ -16,37 +15,36 @@ entry_at k i = get_or k.entries i no_entry
 
 -- ---- which epoch
 
+-- an index into the entries, if any
+abbrev pub Found : Type 0
+Found = Option ℕ
+
 -- an application epoch, 3 or above, with these low bits
 unfoldable pub fits : ℕ → ℕ → Bool
 fits epoch bits = choose (leb 3 epoch) (eqb (epoch % 4) bits) false
 
 -- the last of the first i that fits
 unfoldable pub last_fit : List RecvEpochEntry → ℕ → ℕ → Found
-last_fit l bits zero = Nothing
-last_fit l bits (suc i) = choose (fits (get_or l i no_entry).epoch bits) (At i) (last_fit l bits i)
+last_fit l bits zero = None
+last_fit l bits (suc i) = choose (fits (get_or l i no_entry).epoch bits) (Some i) (last_fit l bits i)
 
 -- the last of the first i that is this epoch
 unfoldable pub find : List RecvEpochEntry → ℕ → ℕ → Found
-find l epoch zero = Nothing
-find l epoch (suc i) = choose (eqb (get_or l i no_entry).epoch epoch) (At i) (find l epoch i)
-
-unfoldable pub or_else : Found → Found → Found
-or_else (At i) f = At i
-or_else Nothing f = f
+find l epoch zero = None
+find l epoch (suc i) = choose (eqb (get_or l i no_entry).epoch epoch) (Some i) (find l epoch i)
 
 -- epoch 2, for bits 2
 unfoldable pub two : RecvKeys → ℕ → Found
-two k bits = choose (eqb bits 2) (find k.entries 2 k.count) Nothing
+two k bits = choose (eqb bits 2) (find k.entries 2 k.count) None
 
 -- bits 2 mean epoch 2 while it is keyed and application data isn't released; else the last application epoch with those bits; else,
 -- for bits 2, epoch 2 if keyed; else none
 unfoldable pub resolve : RecvKeys → ℕ → Found
 resolve k bits =
-    choose k.released (or_else (last_fit k.entries bits k.count) (two k bits)) (or_else (two k bits) (last_fit k.entries bits k.count))
+    choose k.released (option_or (last_fit k.entries bits k.count) (two k bits)) (option_or (two k bits) (last_fit k.entries bits k.count))
 
 unfoldable pub was_found : Found → Bool
-was_found (At i) = true
-was_found Nothing = false
+was_found f = is_some f
 
 unfoldable pub is_keyed : RecvKeys → ℕ → Bool
 is_keyed k epoch = was_found (find k.entries epoch k.count)

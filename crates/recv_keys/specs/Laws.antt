@@ -1,5 +1,6 @@
 -- Laws of the table of epochs keyed to receive. Assumes nothing.
-use Rattle.std.specs.Prelude.{Bool, true, false, List, ◌≡◌, refl, get_or}
+use Rattle.std.specs.Option.{option_or}
+use Rattle.std.specs.Prelude.{Bool, true, false, List, ◌≡◌, refl, get_or, Some, None}
 use Rattle.std.proofs.lemmas.Bool.{false≢true}
 use Rattle.std.proofs.Common.{⊎_elim, ◌∙◌, add-one, eq-eqb, ne_eqb, leb-false, ltb-false, lt-ltb, le-ltb}
 use Rattle.std.proofs.Math.Path.{ap}
@@ -8,9 +9,7 @@ use native.Mathlib.Omega.{arith}
 use Rattle.base.specs.Choose.{if_true, if_false, by_test, lt-or_ge}
 use Rattle.recv_keys.specs.declared.RecvEpochEntry.{RecvEpochEntry}
 use Rattle.recv_keys.specs.declared.RecvKeys.{RecvKeys}
-use Rattle.recv_keys.specs.declared.Found.{Found}
-use Rattle.recv_keys.specs.declared.Found.TheVariants.{At, Nothing}
-use Rattle.recv_keys.specs.Keys.{no_entry, fits, last_fit, find, or_else, two, resolve, app_one, apps, windows_sound, is_full}
+use Rattle.recv_keys.specs.Keys.{no_entry, fits, last_fit, find, two, resolve, app_one, apps, windows_sound, is_full, Found}
 
 -- ---- one step of each search
 
@@ -18,7 +17,7 @@ module _ (l : List RecvEpochEntry) (x i : ℕ) (some : 0 < i) where
   back : i ≡ suc (i - 1)
   back = omega arith
 
-  pub fit_hit : fits (get_or l (i - 1) no_entry).epoch x ≡ true → last_fit l x i ≡ At (i - 1)
+  pub fit_hit : fits (get_or l (i - 1) no_entry).epoch x ≡ true → last_fit l x i ≡ Some (i - 1)
   unfolding last_fit
   fit_hit e = ap (last_fit l x) back ∙ if_true _ _ e
 
@@ -26,7 +25,7 @@ module _ (l : List RecvEpochEntry) (x i : ℕ) (some : 0 < i) where
   unfolding last_fit
   fit_miss e = ap (last_fit l x) back ∙ if_false _ _ e
 
-  pub find_hit : (get_or l (i - 1) no_entry).epoch ≡ x → find l x i ≡ At (i - 1)
+  pub find_hit : (get_or l (i - 1) no_entry).epoch ≡ x → find l x i ≡ Some (i - 1)
   unfolding find
   find_hit e = ap (find l x) back ∙ if_true _ _ (eq-eqb _ _ e)
 
@@ -38,23 +37,23 @@ module _ (l : List RecvEpochEntry) (x i : ℕ) (none : i ≤ 0) where
   start : i ≡ 0
   start = omega arith
 
-  pub fit_none : last_fit l x i ≡ Nothing
+  pub fit_none : last_fit l x i ≡ None
   unfolding last_fit
   fit_none = ap (last_fit l x) start
 
-  pub find_none : find l x i ≡ Nothing
+  pub find_none : find l x i ≡ None
   unfolding find
   find_none = ap (find l x) start
 
 -- ---- what is found is keyed
 
 abbrev pub Under : ℕ → Found → Type 0
-Under n (At i) = i < n
-Under n Nothing = Unit {0}
+Under n (Some i) = i < n
+Under n None = Unit {0}
 
 weaker : {m n : ℕ} → m ≤ n → (f : Found) → Under m f → Under n f
-weaker h (At i) u = omega arith
-weaker h Nothing u = tt
+weaker h (Some i) u = omega arith
+weaker h None u = tt
 
 fit-under : (l : List RecvEpochEntry) (x n : ℕ) → Under n (last_fit l x n)
 unfolding last_fit
@@ -66,10 +65,9 @@ unfolding find
 find-under l x zero = tt
 find-under l x (suc n) = by_test (Under (suc n)) (λ e. omega arith) (λ e. weaker {m = n} {n = suc n} (omega arith) (find l x n) (find-under l x n))
 
-or-under : (n : ℕ) (f g : Found) → Under n f → Under n g → Under n (or_else f g)
-unfolding or_else
-or-under n (At i) g u v = u
-or-under n Nothing g u v = v
+or-under : (n : ℕ) (f g : Found) → Under n f → Under n g → Under n (option_or f g)
+or-under n (Some i) g u v = u
+or-under n None g u v = v
 
 two-under : (k : RecvKeys) (bits : ℕ) → Under k.count (two k bits)
 unfolding two
@@ -83,10 +81,10 @@ resolve-under k bits =
     by_test (Under k.count) (λ e. or-under k.count _ _ f t) (λ e. or-under k.count _ _ t f)
 
 -- `resolve` answers only keyed epochs
-pub resolve-keyed : (k : RecvKeys) (bits i : ℕ) → resolve k bits ≡ At i → i < k.count
+pub resolve-keyed : (k : RecvKeys) (bits i : ℕ) → resolve k bits ≡ Some i → i < k.count
 resolve-keyed k bits i q = rw q at (resolve-under k bits)
 
-pub found-keyed : (l : List RecvEpochEntry) (x n i : ℕ) → find l x n ≡ At i → i < n
+pub found-keyed : (l : List RecvEpochEntry) (x n i : ℕ) → find l x n ≡ Some i → i < n
 found-keyed l x n i q = rw q at (find-under l x n)
 
 -- ---- counting application epochs

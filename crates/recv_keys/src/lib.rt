@@ -3,7 +3,7 @@
 
 ghost use Rattle.std.specs.Prelude.{◌≡◌, ◌≤◌};
 ghost use Rattle.window.specs.Used.{expected};
-ghost use Rattle.recv_keys.specs.Keys.{fits, or_else, app_one};
+ghost use Rattle.recv_keys.specs.Keys.{fits, app_one};
 
 use window::ReplayWindow;
 
@@ -34,32 +34,13 @@ pub struct RecvKeys {
     pub min_protected: usize,
 }
 
-// An index into the entries.
-#[derive(Clone, Copy)]
-pub enum Found {
-    At(usize),
-    Nothing,
-}
-
 // ---- which epoch
 
 // An application epoch with these low bits.
 pub fn fits_bits(epoch: u16, bits: u8) -> bool
     ensures { result ≡ fits epoch bits }
 {
-    if 3 <= epoch {
-        return epoch % 4 == bits as u16;
-    }
-    false
-}
-
-pub fn or_else(a: Found, b: Found) -> Found
-    ensures { result ≡ or_else a b }
-{
-    match a {
-        Found::At(i) => Found::At(i),
-        Found::Nothing => b,
-    }
+    3 <= epoch && epoch % 4 == bits as u16
 }
 
 // ---- numbers received
@@ -81,8 +62,5 @@ pub fn expected_recv_seq(w: ReplayWindow) -> u64
 pub fn app_one(epoch: u16) -> usize
     ensures { (result ≡ app_one epoch) × (result ≤ 1) }
 {
-    if 3 <= epoch {
-        return 1;
-    }
-    0
+    if 3 <= epoch { 1 } else { 0 }
 }

@@ -13,7 +13,7 @@ ghost use Rattle.recv_steps.specs.Goes.{goes_on, Goes};
 use datagram::{Ask, Datagram, Question, Reading, Reason, Step};
 use opening_reply::Cancelled;
 use record::{Ciphertext, PLAINTEXT_HEADER_LEN, Parsed};
-use recv_keys::{APPS, EPOCHS, Found};
+use recv_keys::{APPS, EPOCHS};
 use recv_words::{COUNT, ENCRYPTED, LEAST, WORDS};
 
 // ---- the cut, over the words
@@ -27,8 +27,8 @@ fn locked_step(w: &[u64; WORDS], b: Datagram, c: Ciphertext) -> Step
     let length = c.length;
     let f = recv_words::resolve_epoch(w, c.epoch_bits);
     match f {
-        Found::Nothing => datagram::pass(b, next, Reason::NoKeys),
-        Found::At(i) => {
+        None => datagram::pass(b, next, Reason::NoKeys),
+        Some(i) => {
             let short = length < 16;
             if short {
                 return datagram::pass(b, next, Reason::TooShort);
@@ -41,6 +41,7 @@ fn locked_step(w: &[u64; WORDS], b: Datagram, c: Ciphertext) -> Step
     }
 }
 
+#[tactic(auto, unfolding(records::specs::Records::sealed_step, base::specs::Choose::choose))]
 fn sealed_step(w: &[u64; WORDS], b: Datagram, c: Ciphertext) -> Step
     requires { ((keys_of w.now).count ≤ most_epochs) × (b.at + c.header_len + c.length ≤ 16384) }
     ensures { result ≡ sealed_step (keys_of w.now) b c }
@@ -97,12 +98,13 @@ fn ask_again(w: &[u64; WORDS], b: Datagram, a: Ask, number: u64) -> Step
 {
     let f = recv_words::find_epoch(w, w[COUNT] as usize, a.epoch);
     match f {
-        Found::Nothing => datagram::tell(b, Reading::Setting),
-        Found::At(i) => records::ask_opening(recv_words::entry_at(w, i), b, a, number),
+        None => datagram::tell(b, Reading::Setting),
+        Some(i) => records::ask_opening(recv_words::entry_at(w, i), b, a, number),
     }
 }
 
 // The record at the cursor, where no question waits.
+#[tactic(auto, unfolding(records::specs::Records::asking))]
 pub fn go_on(w: &[u64; WORDS], b: Datagram, d: &[u8]) -> Step
     requires { ((keys_of w.now).count ≤ most_epochs) × (b.at ≤ length d.now) × (length d.now ≤ 16384) }
     ensures { result ≡ asking Question.Nothing (keys_of w.now) b d.now }
@@ -111,6 +113,7 @@ pub fn go_on(w: &[u64; WORDS], b: Datagram, d: &[u8]) -> Step
 }
 
 // Whether the cut goes on: no question waits, and the datagram is the one begun.
+#[tactic(auto, unfolding(crate::specs::Goes::goes_on, base::specs::Choose::both))]
 pub fn goes_on(w: &[u64; WORDS], b: Datagram, n: usize) -> bool
     requires { b ≡ datagram_of w.now }
     ensures { result ≡ goes_on (keys_of w.now) b n }
@@ -160,6 +163,7 @@ pub fn wait_step(w: &[u64; WORDS], b: Datagram, d: &[u8]) -> Step
 // ---- an epoch more, an epoch less
 
 // Whether there is no place for one epoch more.
+#[tactic(auto, unfolding(recv_keys::specs::Keys::is_full, base::specs::Choose::choose))]
 pub fn is_full(w: &[u64; WORDS], epoch: u16) -> bool
     requires { (keys_of w.now).count ≤ most_epochs }
     ensures { result ≡ is_full (keys_of w.now) epoch }

@@ -2,7 +2,7 @@
 use Rattle.std.specs.Prelude.{true, ◌≡◌, refl, ℕ, zero, suc, ◌+◌, ◌-◌, ◌≤◌, ◌<◌, ◌%◌, eqb, length, get_or, set, replicate}
 use mathlib.Core.List.{List, ◌∷◌}
 use Rattle.std.proofs.Common.{sym, ◌∙◌, arith, length-set, lt-ltb, le-ltb}
-use Rattle.std.proofs.Math.Path.{ap}
+use Rattle.std.proofs.Math.Path.{ap, subst}
 use Rattle.std.proofs.Math.ListN.{drop}
 use Rattle.base.specs.Bytes.{be_at}
 use Rattle.base.specs.Choose.{choose, both, both_left, both_right, both_true, if_true, if_false}
@@ -163,20 +163,34 @@ moves i j w v h r = record {
 abbrev shifted : ℕ → ℕ → List RecvEpochEntry → List RecvEpochEntry
 shifted i j l = set l j (left_at l i j)
 
-all-shifted : (i : ℕ) (w : List ℕ)
-    → shifted i 3 (shifted i 2 (shifted i 1 (shifted i 0 (entries_of w)))) ≡ (left (keys_of w) i).entries
+-- the first j of them
+abbrev shifts : ℕ → ℕ → List RecvEpochEntry → List RecvEpochEntry
+shifts i zero l = l
+shifts i (suc j) l = shifted i j (shifts i j l)
+
+all-shifted : (i : ℕ) (w : List ℕ) → shifts i 4 (entries_of w) ≡ (left (keys_of w) i).entries
 unfolding entries_of left left_at
 all-shifted i w = refl
 
-module _ (i : ℕ) (w a b c v : List ℕ)
-    (one : Written 0 (left_at (entries_of w) i 0) w a) (two : Written 1 (left_at (entries_of a) i 1) a b)
-    (three : Written 2 (left_at (entries_of b) i 2) b c) (four : Written 3 (left_at (entries_of c) i 3) c v) where
-  rest_all : rest_of v ≡ rest_of w
-  rest_all = four.rest ∙ three.rest ∙ two.rest ∙ one.rest
+-- w before them, v behind the first j
+pub record Shifted (i j : ℕ) (w v : List ℕ) : Type 0 where
+  pub entries : entries_of v ≡ shifts i j (entries_of w)
+  pub rest : rest_of v ≡ rest_of w
 
+pub shifts-none : (i : ℕ) (w : List ℕ) → Shifted i 0 w w
+shifts-none i w = record { entries = refl; rest = refl }
+
+pub shifts-more : (i j : ℕ) (w v u : List ℕ) → Shifted i j w v → Written j (left_at (entries_of v) i j) v u → Shifted i (j + 1) w u
+shifts-more i j w v u s r =
+    let next : suc j ≡ j + 1 = omega arith in
+    subst (λ (n : ℕ). Shifted i n w u) next (record { entries = r.entries ∙ ap (shifted i j) s.entries; rest = r.rest ∙ s.rest })
+
+module _ (i j : ℕ) (w v : List ℕ) (all : j ≡ 4) (s : Shifted i j w v) (long : length v ≡ words) where
   entries-all : entries_of v ≡ (left (keys_of w) i).entries
-  entries-all =
-      four.entries ∙ ap (shifted i 3) (three.entries ∙ ap (shifted i 2) (two.entries ∙ ap (shifted i 1) one.entries)) ∙ all-shifted i w
+  entries-all = s.entries ∙ ap (λ (n : ℕ). shifts i n (entries_of w)) all ∙ all-shifted i w
+
+  rest_all : rest_of v ≡ rest_of w
+  rest_all = s.rest
 
   pub count-all : get_or v count_at 0 ≡ (keys_of w).count
   count-all = ap (λ (r : List ℕ). get_or r 0 0) rest_all
@@ -184,7 +198,7 @@ module _ (i : ℕ) (w a b c v : List ℕ)
   pub uninstalls : (keys_of (set v count_at (get_or v count_at 0 - 1)) ≡ left (keys_of w) i) × Beside w (set v count_at (get_or v count_at 0 - 1))
   unfolding left
   uninstalls =
-      let l = lessening (get_or v count_at 0 - 1) v four.long in (
+      let l = lessening (get_or v count_at 0 - 1) v long in (
         l.0
             ∙ ap (λ (x : List RecvEpochEntry). keys_by x ((get_or v count_at 0 - 1) ∷ drop 1 (rest_of v))) entries-all
             ∙ ap (λ (r : List ℕ). keys_by (left (keys_of w) i).entries ((get_or r 0 0 - 1) ∷ drop 1 r)) rest_all,

@@ -21,7 +21,7 @@ ghost use Rattle.recv_words.specs.Laws.{Put, Marks, Lies, skipped, opening};
 ghost use Rattle.recv_words.specs.Entries.{Written, Beside, fresh_words};
 
 use datagram::{Ask, Datagram, Question};
-use recv_keys::{APPS, EPOCHS, Found, MOST_LEAST, RecvEpochEntry};
+use recv_keys::{APPS, EPOCHS, MOST_LEAST, RecvEpochEntry};
 use window::ReplayWindow;
 
 // ---- which word is which
@@ -64,21 +64,9 @@ pub const IV_FRONT: usize = 29;
 
 pub const IV_BACK: usize = 34;
 
-fn count_of(w: &[u64]) -> usize
-    ensures { result ≡ length w.now }
-{
-    w.len()
-}
-
-// How many words there are.
-pub fn sized(w: &[u64; WORDS]) -> usize
-    ensures { length w.now ≡ words }
-{
-    count_of(w)
-}
-
 // ---- the keys
 
+// Which key is a number below 5, no type of its own: loops count it, and a type would be made in each round from the same bound.
 pub fn epoch_at(w: &[u64; WORDS], i: usize) -> u16
     requires { i < most_epochs }
     ensures { result ≡ (get_or (entries_of w.now) i no_entry).epoch }
@@ -121,51 +109,46 @@ pub fn entry_at(w: &[u64; WORDS], i: usize) -> RecvEpochEntry
 }
 
 // The last application epoch with these bits.
-fn last_fit(w: &[u64; WORDS], count: usize, bits: u8) -> Found
+fn last_fit(w: &[u64; WORDS], count: usize, bits: u8) -> Option<usize>
     requires { count ≤ most_epochs }
     ensures { result ≡ last_fit (entries_of w.now) bits count }
 {
-    let mut i = count;
-    while 0 < i {
-        let j = i - 1;
-        if recv_keys::fits_bits(epoch_at(w, j), bits) {
-            return Found::At(j);
+    for i in (0..count).rev() {
+        if recv_keys::fits_bits(epoch_at(w, i), bits) {
+            return Some(i);
         }
-        i = j;
     }
-    Found::Nothing
+    None
 }
 
 // Where an epoch is.
-pub fn find_epoch(w: &[u64; WORDS], count: usize, epoch: u16) -> Found
+pub fn find_epoch(w: &[u64; WORDS], count: usize, epoch: u16) -> Option<usize>
     requires { count ≤ most_epochs }
     ensures { result ≡ find (entries_of w.now) epoch count }
 {
-    let mut i = count;
-    while 0 < i {
-        let j = i - 1;
-        let e = epoch_at(w, j);
-        if e == epoch {
-            return Found::At(j);
+    for i in (0..count).rev() {
+        if epoch_at(w, i) == epoch {
+            return Some(i);
         }
-        i = j;
     }
-    Found::Nothing
+    None
 }
 
 // Epoch 2, for bits 2.
-fn epoch_two(w: &[u64; WORDS], count: usize, bits: u8) -> Found
+#[tactic(auto, unfolding(recv_keys::specs::Keys::two, base::specs::Choose::choose))]
+fn epoch_two(w: &[u64; WORDS], count: usize, bits: u8) -> Option<usize>
     requires { (count ≤ most_epochs) × (count ≡ (keys_of w.now).count) }
     ensures { result ≡ two (keys_of w.now) bits }
 {
     if bits == 2 {
         return find_epoch(w, count, 2);
     }
-    Found::Nothing
+    None
 }
 
 // The keyed epoch that epoch bits mean: epoch 2 first until application data is released, then last.
-pub fn resolve_epoch(w: &[u64; WORDS], bits: u8) -> Found
+#[tactic(auto, unfolding(recv_keys::specs::Keys::resolve, base::specs::Choose::choose))]
+pub fn resolve_epoch(w: &[u64; WORDS], bits: u8) -> Option<usize>
     requires { (keys_of w.now).count ≤ most_epochs }
     ensures { result ≡ resolve (keys_of w.now) bits }
 {
@@ -173,21 +156,18 @@ pub fn resolve_epoch(w: &[u64; WORDS], bits: u8) -> Found
     let t = epoch_two(w, count, bits);
     let a = last_fit(w, count, bits);
     if w[RELEASED] == 1 {
-        return recv_keys::or_else(a, t);
+        return a.or(t);
     }
-    recv_keys::or_else(t, a)
+    t.or(a)
 }
 
 // Whether an epoch is keyed.
+#[tactic(auto, unfolding(recv_keys::specs::Keys::is_keyed, recv_keys::specs::Keys::was_found))]
 pub fn is_keyed(w: &[u64; WORDS], epoch: u16) -> bool
     requires { (keys_of w.now).count ≤ most_epochs }
     ensures { result ≡ is_keyed (keys_of w.now) epoch }
 {
-    let f = find_epoch(w, w[COUNT] as usize, epoch);
-    match f {
-        Found::At(_) => true,
-        Found::Nothing => false,
-    }
+    find_epoch(w, w[COUNT] as usize, epoch).is_some()
 }
 
 // ---- ranges
@@ -197,11 +177,9 @@ pub fn count_apps(w: &[u64; WORDS], count: usize) -> usize
     requires { count ≤ most_epochs }
     ensures { result ≡ apps (entries_of w.now) count }
 {
-    let mut n: usize = 0;
-    let mut i: usize = 0;
-    while i < count {
-        n = n + recv_keys::app_one(epoch_at(w, i));
-        i = i + 1;
+    let mut n = 0;
+    for i in 0..count {
+        n += recv_keys::app_one(epoch_at(w, i));
     }
     n
 }
@@ -211,14 +189,10 @@ fn windows_sound(w: &[u64; WORDS], count: usize) -> bool
     requires { count ≤ most_epochs }
     ensures { result ≡ windows_sound (entries_of w.now) count }
 {
-    let mut i = count;
-    while 0 < i {
-        let j = i - 1;
-        let v = window_at(w, j);
-        if 0xFFFF_FFFF_FFFF < v.max_seq {
+    for i in (0..count).rev() {
+        if 0xFFFF_FFFF_FFFF < window_at(w, i).max_seq {
             return false;
         }
-        i = j;
     }
     true
 }
@@ -228,13 +202,11 @@ fn apps_fit(w: &[u64; WORDS], count: usize) -> bool
     requires { count ≤ most_epochs }
     ensures { result ≡ leb (apps (entries_of w.now) count) 4 }
 {
-    if count <= APPS {
-        return true;
-    }
-    count_apps(w, count) <= APPS
+    count <= APPS || count_apps(w, count) <= APPS
 }
 
 // The fields that a call indexes or adds with are in range.
+#[tactic(auto, unfolding(recv_keys::specs::Keys::keys_sound, base::specs::Choose::both))]
 fn keys_sound(w: &[u64; WORDS]) -> bool
     ensures { result ≡ keys_sound (keys_of w.now) }
 {
@@ -245,24 +217,20 @@ fn keys_sound(w: &[u64; WORDS]) -> bool
     if MOST_LEAST < w[LEAST] {
         return false;
     }
-    if apps_fit(w, count) {
-        return windows_sound(w, count);
-    }
-    false
+    apps_fit(w, count) && windows_sound(w, count)
 }
 
 // Whether the record that a question is about has its place in a room, under an epoch that is keyed.
+#[tactic(auto, unfolding(datagram::specs::Datagram::ask_keyed, base::specs::Choose::both))]
 fn ask_keyed(w: &[u64; WORDS], room: usize) -> bool
     requires { (keys_of w.now).count ≤ most_epochs }
     ensures { result ≡ ask_keyed (keys_of w.now) (ask_of w.now) room }
 {
     let a = ask_of(w);
-    if datagram::ask_sound(a, room) {
-        return is_keyed(w, a.epoch);
-    }
-    false
+    datagram::ask_sound(a, room) && is_keyed(w, a.epoch)
 }
 
+#[tactic(auto, unfolding(crate::specs::Words::question_of, datagram::specs::Datagram::opening_sound, datagram::specs::Datagram::question_sound, base::specs::Choose::choose, base::specs::Choose::both))]
 fn question_sound(w: &[u64; WORDS], room: usize) -> bool
     requires { (keys_of w.now).count ≤ most_epochs }
     ensures { result ≡ question_sound (keys_of w.now) (question_of w.now) room }
@@ -272,10 +240,7 @@ fn question_sound(w: &[u64; WORDS], room: usize) -> bool
         return ask_keyed(w, room);
     }
     if kind == 2 {
-        if 0xFFFF_FFFF_FFFF < w[ASK_NUMBER] {
-            return false;
-        }
-        return ask_keyed(w, room);
+        return w[ASK_NUMBER] <= 0xFFFF_FFFF_FFFF && ask_keyed(w, room);
     }
     true
 }
@@ -315,6 +280,7 @@ pub fn ask_of(w: &[u64; WORDS]) -> Ask
     }
 }
 
+#[tactic(auto, unfolding(crate::specs::Words::question_of, base::specs::Choose::choose))]
 fn question_of(w: &[u64; WORDS]) -> Question
     ensures { result ≡ question_of w.now }
 {
@@ -350,6 +316,7 @@ pub fn is_sound(w: &[u64; WORDS], b: Datagram) -> bool
 }
 
 // Whether the words stand for a state: flags are 0 or 1, the question of a kind that there is.
+#[tactic(auto, unfolding(crate::specs::Words::is_flat, base::specs::Choose::both))]
 pub fn is_flat(w: &[u64; WORDS]) -> bool
     ensures { result ≡ is_flat w.now }
 {
@@ -368,7 +335,7 @@ pub fn is_flat(w: &[u64; WORDS]) -> bool
 fn put_ask(w: &mut [u64; WORDS], kind: u64, a: Ask, number: u64)
     ensures { (w.new ≡ put_ask kind a number w.old) × (a.epoch ≤ 65535) }
 {
-    let epoch = words::wide(a.epoch);
+    let epoch = u64::from(a.epoch);
     w[QUESTION] = kind;
     w[ASK_EPOCH] = epoch;
     w[ASK_FLAG] = a.s_flag as u64;
@@ -402,7 +369,6 @@ pub fn put_datagram(w: &mut [u64; WORDS], b: Datagram)
 pub fn move_to(w: &mut [u64; WORDS], at: usize, readings: usize)
     ensures { Lies (moved (datagram_of w.old) at readings) w.old w.new }
 {
-    sized(w);
     w[CURSOR] = at as u64;
     w[READINGS] = readings as u64;
     w[QUESTION] = 0;
@@ -423,7 +389,6 @@ pub fn skip(w: &mut [u64; WORDS])
 pub fn ask_opening(w: &mut [u64; WORDS], number: u64)
     ensures { Lies (opening w.old number) w.old w.new }
 {
-    sized(w);
     w[QUESTION] = 2;
     w[ASK_NUMBER] = number;
 }
@@ -444,7 +409,6 @@ pub fn mark(w: &mut [u64; WORDS], i: usize, number: u64)
     requires { i < most_epochs }
     ensures { Marks i number w.old w.new }
 {
-    sized(w);
     let v = window_at(w, i);
     put_window(w, i, v.update(number));
 }
@@ -460,8 +424,7 @@ pub fn put_entry(w: &mut [u64; WORDS], i: usize, e: RecvEpochEntry)
     let v = e.replay;
     let front = IV_FRONT + i;
     let back = IV_BACK + i;
-    sized(w);
-    w[i] = words::wide(e.epoch);
+    w[i] = u64::from(e.epoch);
     put_window(w, i, v);
     words::put_iv(w, front, back, iv);
 }
@@ -490,7 +453,7 @@ pub fn install(w: &mut [u64; WORDS], count: usize, epoch: u16, iv: [u8; 12])
         },
     );
     w[COUNT] = (count + 1) as u64;
-    w[HIGHEST] = words::wide(epoch);
+    w[HIGHEST] = u64::from(epoch);
 }
 
 // What comes to stand at j when the entry at i goes.
@@ -498,7 +461,6 @@ fn shift(w: &mut [u64; WORDS], i: usize, j: usize)
     requires { j < 4 }
     ensures { Written j (left_at (entries_of w.old) i j) w.old w.new }
 {
-    sized(w);
     if i <= j {
         let n = j + 1;
         let e = entry_at(w, n);
@@ -511,9 +473,8 @@ pub fn uninstall(w: &mut [u64; WORDS], i: usize)
     requires { 0 < (keys_of w.old).count }
     ensures { (keys_of w.new ≡ left (keys_of w.old) i) × Beside w.old w.new }
 {
-    shift(w, i, 0);
-    shift(w, i, 1);
-    shift(w, i, 2);
-    shift(w, i, 3);
+    for j in 0..EPOCHS - 1 {
+        shift(w, i, j);
+    }
     w[COUNT] = w[COUNT] - 1;
 }

@@ -6,12 +6,11 @@ use Rattle.base.specs.Choose.{choose, if_false, by_test, test_cases, both_right}
 use Rattle.queue.specs.Queue.{InRange}
 use Rattle.send_keys.specs.Keys.{next_of}
 use Rattle.outgoing.specs.declared.Sending.{Sending}
-use Rattle.send_keys.specs.declared.SendAnswer.{SendAnswer}
 use Rattle.outgoing.proofs.Laws.{send_range}
 use Rattle.flight.specs.declared.Entry.{Entry}
 use Rattle.flight.specs.declared.SavedRecords.{SavedRecords}
 use Rattle.flight.specs.Flight.{no_entry, entry_at, whole}
-use Rattle.send_keys.specs.Answer.{is_done}
+use Rattle.send_keys.specs.Answer.{SendAnswer, is_done}
 use Rattle.resend.specs.Tests.{remembers}
 use Rattle.resend.specs.Resend.{can_remember, renewed, renewed_if, new_entry, new_table, sent_entry, sent_table, with_entry, Laying, laying, content_at, sent_again, again_answer, again_at, again_after}
 

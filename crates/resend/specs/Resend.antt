@@ -4,14 +4,13 @@ use Rattle.base.specs.Choose.{choose, both}
 use Rattle.base.specs.Parts.{part}
 use Rattle.send_keys.specs.Keys.{next_of}
 use Rattle.outgoing.specs.declared.Sending.{Sending}
-use Rattle.send_keys.specs.declared.SendAnswer.{SendAnswer}
 use Rattle.outgoing.specs.Send.{send_answer, send_state, send_memory}
 use Rattle.flight.specs.declared.Entry.{Entry}
 use Rattle.flight.specs.declared.Flight.{Flight}
 use Rattle.flight.specs.declared.SavedRecords.{SavedRecords}
 use Rattle.flight.specs.Flight.{entry_at, whole}
-use Rattle.send_keys.specs.Answer.{is_done}
-use Rattle.resend.specs.declared.Resent.{Resent}
+use Rattle.send_keys.specs.Answer.{SendAnswer, is_done}
+use Rattle.flight.specs.declared.Saved.{Saved}
 use Rattle.resend.specs.Tests.{remembers, closed_state}
 
 -- a new present number, and so many remembered
@@ -90,7 +89,7 @@ abbrev pub all_again : Sending → Flight → List ℕ → List ℕ → Laying
 all_again s f kept q = again_after kept (record { state = closed_state s; flight = f; queue = q }) f.saved
 
 -- wholly or not at all
-unfoldable pub resend_state : SendAnswer → Sending → Flight → List ℕ → List ℕ → Resent
+unfoldable pub resend_state : SendAnswer → Sending → Flight → List ℕ → List ℕ → Saved
 resend_state a s f kept q =
     choose (is_done a) (record { answer = a; state = (all_again s f kept q).state; flight = (all_again s f kept q).flight })
     (record { answer = a; state = s; flight = f })

@@ -1,5 +1,5 @@
 -- Whether a flight can be sent again (01, refusals 12, 13, 14, 17, 22, 19, 20), each number tested over all records before the next. Assumes nothing.
-use Rattle.std.specs.Prelude.{Bool, false, ◌≡◌, ltb, leb, eqb}
+use Rattle.std.specs.Prelude.{Bool, false, ◌≡◌, ltb, leb, eqb, Ok, Err}
 use Rattle.std.proofs.Math.Bool.{true}
 use Rattle.std.proofs.lemmas.Bool.{false≢true}
 use Rattle.std.proofs.Math.Path.{ap}
@@ -11,7 +11,7 @@ use Rattle.queue.specs.declared.Tail.{Tail}
 use Rattle.queue.specs.Queue.{is_ready, tail_of, place_of, grown, placed, Tailed, InRange, Ready, ready, with_end}
 use Rattle.queue.specs.Laid.{record_len}
 use Rattle.send_keys.specs.declared.SendKeys.{SendKeys}
-use Rattle.send_keys.specs.Answer.{is_done}
+use Rattle.send_keys.specs.Answer.{SendAnswer, is_done}
 use Rattle.send_keys.specs.Keys.{is_usable, is_keyed, next_of}
 use Rattle.outgoing.specs.declared.Sending.{Sending}
 use Rattle.outgoing.specs.State.{is_allowed, allowed-short, with_queue}
@@ -21,8 +21,7 @@ use Rattle.flight.specs.declared.Flight.{Flight}
 use Rattle.flight.specs.Flight.{is_kept, entry_at}
 use Rattle.resend.specs.declared.Passed.{Passed}
 use Rattle.resend.specs.declared.Survey.{Survey}
-use Rattle.send_keys.specs.declared.SendAnswer.{SendAnswer}
-use Rattle.send_keys.specs.declared.SendAnswer.TheVariants.{Done, OutOfRange, BadEpoch, BadRecord, KeysAbsent, HistoryFull, QueueFull, NumbersSpent}
+use Rattle.send_keys.specs.declared.SendError.TheVariants.{OutOfRange, BadEpoch, BadRecord, KeysAbsent, HistoryFull, QueueFull, NumbersSpent}
 
 -- "the old number is remembered for handshake records of epoch 2 and above"
 unfoldable pub remembers : Entry → Bool
@@ -104,8 +103,8 @@ closed_state s = with_queue s (with_end s.queue s.queue.count true s.queue.lengt
 -- 19, 20
 unfoldable pub fit_answer : Sending → Flight → SendAnswer
 fit_answer s f =
-    choose (ltb s.queue.limit (tail_after s.queue.mtu (tail_of s.queue) f f.saved).count) QueueFull
-    (choose (any_spent s.keys f) NumbersSpent Done)
+    choose (ltb s.queue.limit (tail_after s.queue.mtu (tail_of s.queue) f f.saved).count) (Err QueueFull)
+    (choose (any_spent s.keys f) (Err NumbersSpent) (Ok tt))
 
 -- 12, 13, 14, 17, 22, 19, 20
 unfoldable pub resend_answer : Sending → Flight → ℕ → ℕ → SendAnswer
@@ -117,12 +116,12 @@ resend_answer s f room kept =
     (choose (all_pass 2 s.keys s.queue.mtu f f.saved)
     (choose (all_pass 3 s.keys s.queue.mtu f f.saved)
     (fit_answer (closed_state s) f)
-    HistoryFull)
-    KeysAbsent)
-    BadRecord)
-    BadEpoch)
-    OutOfRange)
-    OutOfRange
+    (Err HistoryFull))
+    (Err KeysAbsent))
+    (Err BadRecord))
+    (Err BadEpoch))
+    (Err OutOfRange))
+    (Err OutOfRange)
 
 -- ---- laws
 

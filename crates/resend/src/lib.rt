@@ -8,18 +8,10 @@ ghost use Rattle.queue.specs.Queue.{Tailed};
 ghost use Rattle.resend.specs.Tests.{remembers, has_room, joined, surveyed_with, is_over, Joins};
 ghost use Rattle.resend.specs.Resend.{can_remember, new_entry, new_table, sent_entry, sent_table};
 
-use flight::{Entry, Flight};
-use outgoing::Sending;
+use flight::{Entry, NUMBERS, REMEMBERED};
 use queue::Tail;
 use record::{HANDSHAKE, LAST_NUMBER};
-use send_keys::SendAnswer;
-
-#[derive(Clone, Copy)]
-pub struct Resent {
-    pub answer: SendAnswer,
-    pub state: Sending,
-    pub flight: Flight,
-}
+use send_keys::SendError;
 
 // The tests of a saved record, and whether all records pass each.
 #[derive(Clone, Copy)]
@@ -40,32 +32,19 @@ pub struct Survey {
 }
 
 // Whether a record's earlier numbers are remembered: a handshake record of epoch 2 or above.
+#[tactic(auto, unfolding(crate::specs::Tests::remembers, base::specs::Choose::both))]
 fn remembers(e: Entry) -> bool
     ensures { result ≡ remembers e }
 {
-    if e.content_type == HANDSHAKE {
-        return 2 <= e.epoch;
-    }
-    false
+    e.content_type == HANDSHAKE && 2 <= e.epoch
 }
 
 // Whether its present number can be remembered besides, if it is to be.
+#[tactic(auto, unfolding(crate::specs::Tests::has_room, base::specs::Choose::choose))]
 pub fn has_room(e: Entry) -> bool
     ensures { result ≡ has_room e }
 {
-    if remembers(e) {
-        return e.remembered < 32;
-    }
-    true
-}
-
-pub fn both(a: bool, b: bool) -> bool
-    ensures { result ≡ choose a b false }
-{
-    if a {
-        return b;
-    }
-    false
+    !remembers(e) || e.remembered < REMEMBERED
 }
 
 // The queue's end with a saved record sent again.
@@ -85,27 +64,21 @@ fn join(mtu: usize, t: Tail, e: Entry) -> Tail
     }
 }
 
+#[tactic(auto, unfolding(base::specs::Choose::choose))]
 fn one_if(e: Entry, epoch: u16) -> usize
     ensures { (result ≡ choose e.marked 0 (choose (tests.eqb e.epoch epoch) 1 0)) × (result ≤ 1) }
 {
-    if e.marked {
-        return 0;
-    }
-    if e.epoch == epoch {
-        return 1;
-    }
-    0
+    usize::from(!e.marked && e.epoch == epoch)
 }
 
 // A record more.
+#[tactic(auto, unfolding(crate::specs::Tests::surveyed_with))]
 pub fn surveyed_with(d: Survey, mtu: usize, epoch: u16, e: Entry) -> Survey
     requires { (mtu ≤ 1500) × Tailed d.tail × (d.tail.count ≤ 64) × Joins mtu e × (d.plaintext ≤ 64) × (d.handshake ≤ 64) × (d.application ≤ 64) }
     ensures { (result ≡ surveyed_with d mtu epoch e) × (result.plaintext ≤ d.plaintext + 1) × (result.handshake ≤ d.handshake + 1) × (result.application ≤ d.application + 1) }
 {
-    let t = d.tail;
-    let u = join(mtu, t, e);
     Survey {
-        tail: u,
+        tail: join(mtu, d.tail, e),
         plaintext: d.plaintext + one_if(e, 0),
         handshake: d.handshake + one_if(e, 2),
         application: d.application + one_if(e, epoch),
@@ -113,51 +86,53 @@ pub fn surveyed_with(d: Survey, mtu: usize, epoch: u16, e: Entry) -> Survey
 }
 
 // Whether so many numbers from one on would use 2^48 - 1.
+#[tactic(auto, unfolding(crate::specs::Tests::is_over, base::specs::Choose::choose))]
 pub fn is_over(next: u64, count: usize) -> bool
     requires { count ≤ 12 }
     ensures { result ≡ is_over next count }
 {
-    if count == 0 {
-        return false;
-    }
-    if LAST_NUMBER < next {
-        return true;
-    }
-    LAST_NUMBER < next + count as u64
+    count != 0 && LAST_NUMBER < next.saturating_add(count as u64)
 }
 
 // Whether a record's present number is to be remembered, and a cell is free for it.
+#[tactic(auto, unfolding(crate::specs::Resend::can_remember, base::specs::Choose::both))]
 fn can_remember(e: Entry) -> bool
     ensures { result ≡ can_remember e }
 {
-    if remembers(e) {
-        return e.remembered < 32;
-    }
-    false
+    remembers(e) && e.remembered < REMEMBERED
 }
 
 // The i-th saved record has a new number; its old one is remembered where numbers are.
-fn renew(e: Entry, numbers: &mut [u64; 384], i: usize, number: u64) -> Entry
+#[tactic(auto, unfolding(crate::specs::Resend::new_entry, crate::specs::Resend::new_table, crate::specs::Resend::with_number, base::specs::Choose::choose))]
+fn renew(e: Entry, numbers: &mut [u64; NUMBERS], i: usize, number: u64) -> Entry
     requires { i < 12 }
     ensures { (result ≡ new_entry e number) × (numbers.new ≡ new_table e i numbers.old) }
 {
-    let mut t = e;
-    t.number = number;
     if can_remember(e) {
-        let at = i * 32 + e.remembered;
+        let at = i * REMEMBERED + e.remembered;
         numbers[at] = e.number;
-        t.remembered = e.remembered + 1;
-        return t;
+        return Entry {
+            number,
+            remembered: e.remembered + 1,
+            ..e
+        };
     }
-    t
+    Entry { number, ..e }
 }
 
-pub fn renew_if(a: SendAnswer, e: Entry, numbers: &mut [u64; 384], i: usize, number: u64) -> Entry
+#[tactic(auto, unfolding(crate::specs::Resend::sent_entry, crate::specs::Resend::sent_table, base::specs::Choose::choose))]
+pub fn renew_if(
+    a: Result<(), SendError>,
+    e: Entry,
+    numbers: &mut [u64; NUMBERS],
+    i: usize,
+    number: u64,
+) -> Entry
     requires { i < 12 }
     ensures { (result ≡ sent_entry a e number) × (numbers.new ≡ sent_table a e i numbers.old) }
 {
-    if send_keys::is_done(a) {
-        return renew(e, numbers, i, number);
+    match a {
+        Ok(()) => renew(e, numbers, i, number),
+        Err(_) => e,
     }
-    e
 }

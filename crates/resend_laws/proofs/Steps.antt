@@ -1,5 +1,5 @@
 -- One record of a flight sent again after the other: each that is not marked is sent, and what that leaves. Assumes nothing.
-use Rattle.std.specs.Prelude.{true, false, ◌≡◌, eqb}
+use Rattle.std.specs.Prelude.{true, false, ◌≡◌, eqb, Ok}
 use mathlib.Core.List.{List}
 use Rattle.std.proofs.Math.Path.{refl, sym, ap, subst}
 use Rattle.std.proofs.Common.{◌∙◌, mul-le-mul_right, arith, get_or-set_other}
@@ -14,8 +14,7 @@ use Rattle.queue.specs.Queue.{tail_of, place_of, grown, laid, start_of, Ready, F
 use Rattle.queue.specs.Laid.{record_len, record_bytes, length_record, len_over}
 use Rattle.send_keys.specs.Keys.{is_usable, is_keyed, next_of}
 use Rattle.outgoing.specs.declared.Sending.{Sending}
-use Rattle.send_keys.specs.declared.SendAnswer.{SendAnswer}
-use Rattle.send_keys.specs.declared.SendAnswer.TheVariants.{Done}
+use Rattle.send_keys.specs.Answer.{SendAnswer}
 use Rattle.outgoing.specs.State.{is_allowed}
 use Rattle.outgoing.specs.Send.{spot_of, laid_state, laid_memory, send_answer, send_state, send_memory}
 use Rattle.outgoing.proofs.Send.{allowed-fits}
@@ -31,7 +30,7 @@ use Rattle.resend_laws.specs.Steps.{laid_again, beginning, reached, kept_content
 
 -- a send that meets no refusal
 pub send_done : (s : Sending) (room e t n : ℕ) → Ready s.queue room → is_usable s.keys e ≡ true → is_allowed s.queue.mtu e t n ≡ true → is_keyed s.keys e ≡ true
-    → (spot_of s e n).datagram < s.queue.limit → next_of s.keys e < 281474976710655 → send_answer s room e t n ≡ Done
+    → (spot_of s e n).datagram < s.queue.limit → next_of s.keys e < 281474976710655 → send_answer s room e t n ≡ Ok tt
 unfolding send_answer
 send_done s room e t n r u a k p m =
     if_true _ _ (ready-again r) ∙ if_true _ _ u ∙ if_true _ _ a ∙ if_true _ _ k ∙ if_false _ _ (lt-leb s.queue.limit (spot_of s e n).datagram p)
@@ -42,11 +41,11 @@ module _ (kept : List ℕ) (i : ℕ) (l : Laying) where
   unfolding again_at
   again_skips m = if_true _ _ m
 
-  sent-laid : sent_again Done kept i l ≡ laid_again kept i l
+  sent-laid : sent_again (Ok tt) kept i l ≡ laid_again kept i l
   unfolding sent_again send_state renewed_if send_memory choose
   sent-laid = refl
 
-  pub again-lays : (entry_at l.flight i).marked ≡ false → again_answer kept i l ≡ Done → again_at kept i l ≡ laid_again kept i l
+  pub again-lays : (entry_at l.flight i).marked ≡ false → again_answer kept i l ≡ Ok tt → again_at kept i l ≡ laid_again kept i l
   unfolding again_at
   again-lays m d = if_false _ _ m ∙ ap (λ (a : SendAnswer). sent_again a kept i l) d ∙ sent-laid
 
@@ -170,13 +169,13 @@ module _ (s : Sending) (f : Flight) (kept q : List ℕ) (a : Able s f kept q) (n
       omega (arith, one, grows, none-spent s.keys f x.epoch a.unspent (a.usable n below fresh) (omega (arith, one, grows)))
 
   -- it is sent
-  done_as_saved : send_answer l.state (length l.queue) x.epoch x.content_type x.length ≡ Done
+  done_as_saved : send_answer l.state (length l.queue) x.epoch x.content_type x.length ≡ Ok tt
   done_as_saved =
       send_done l.state (length l.queue) x.epoch x.content_type x.length r.ready (r.usable x.epoch ∙ a.usable n below fresh)
       (ap (λ (m : ℕ). is_allowed m x.epoch x.content_type x.length) r.mtu ∙ a.allowed n below fresh)
       (r.keyed x.epoch ∙ a.keyed n below fresh) under-limit (omega (arith, number_is, under_top))
 
-  pub again-done : again_answer kept n l ≡ Done
+  pub again-done : again_answer kept n l ≡ Ok tt
   again-done =
       ap (λ (k : ℕ). send_answer l.state (length l.queue) (entry_at l.flight n).epoch (entry_at l.flight n).content_type k) content-long
       ∙ ap (λ (e : Entry). send_answer l.state (length l.queue) e.epoch e.content_type x.length) as_saved ∙ done_as_saved

@@ -16,7 +16,7 @@ use Rattle.outgoing.specs.Send.{laid_state, laid_memory}
 use Rattle.flight.specs.declared.Entry.{Entry}
 use Rattle.flight.specs.declared.Flight.{Flight}
 use Rattle.flight.specs.Flight.{entry_at, no_entry}
-use Rattle.resend.specs.declared.Resent.{Resent}
+use Rattle.flight.specs.declared.Saved.{Saved}
 use Rattle.resend.specs.Tests.{remembers, has_room, count_after, closed_state, count_next}
 use Rattle.resend.specs.Resend.{with_number, can_remember, renewed, Laying, again_after, resend_state, resend_queue}
 use Rattle.resend.proofs.Resend.{again-next}
@@ -211,10 +211,10 @@ module _ (s : Sending) (f : Flight) (kept q : List ℕ) (t : Tables s f) (d : is
   left_is = if_true _ _ d
 
   state-is : (left_state s f kept q).state ≡ (reached s f kept q n).state
-  state-is = ap (λ (r : Resent). r.state) left_is
+  state-is = ap (λ (r : Saved). r.state) left_is
 
   flight-is : (left_state s f kept q).flight ≡ (reached s f kept q n).flight
-  flight-is = ap (λ (r : Resent). r.flight) left_is
+  flight-is = ap (λ (r : Saved). r.flight) left_is
 
   queue-is : left_queue s f kept q ≡ (reached s f kept q n).queue
   unfolding resend_queue
@@ -271,8 +271,8 @@ numbers_apart s f i j l m same =
 pub not_at-all : (s : Sending) (f : Flight) (kept q : List ℕ) → is_done (answer_to s f kept q) ≡ false → Untouched s f kept q
 unfolding resend_state resend_queue
 not_at-all s f kept q d = record {
-  state = ap (λ (r : Resent). r.state) (if_false _ _ d);
-  flight = ap (λ (r : Resent). r.flight) (if_false _ _ d);
+  state = ap (λ (r : Saved). r.state) (if_false _ _ d);
+  flight = ap (λ (r : Saved). r.flight) (if_false _ _ d);
   queue = if_false _ _ d;
 }
 

@@ -15,9 +15,8 @@ use Rattle.outgoing.specs.State.{is_allowed}
 use Rattle.flight.specs.declared.Entry.{Entry}
 use Rattle.flight.specs.declared.Flight.{Flight}
 use Rattle.flight.specs.Flight.{is_kept, entry_at}
-use Rattle.send_keys.specs.declared.SendAnswer.{SendAnswer}
 use Rattle.resend.specs.Tests.{has_room, passes, joined, tail_after, count_after, is_over, is_spent, any_spent, closed_state, fit_answer, resend_answer, pass_at, tail-next, count_next}
-use Rattle.send_keys.specs.Answer.{is_done}
+use Rattle.send_keys.specs.Answer.{SendAnswer, is_done}
 
 -- ---- what the tests found
 

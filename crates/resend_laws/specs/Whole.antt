@@ -1,19 +1,18 @@
 -- A flight is sent again wholly or not at all (01, "Flights acknowledged or sent again"): every record that is not marked, no marked one.
 -- Assumes nothing.
-use Rattle.std.specs.Prelude.{true, List, ◌≡◌, ℕ, ◌+◌, ◌*◌, ◌≤◌, ◌<◌, length}
+use Rattle.std.specs.Prelude.{true, List, ◌≡◌, ℕ, ◌+◌, ◌*◌, ◌≤◌, ◌<◌, length, Ok}
 use Rattle.std.proofs.Math.Bool.{false}
 use Rattle.std.proofs.Math.ListN.{get_or}
 use Rattle.base.specs.Choose.{choose}
 use Rattle.queue.specs.Queue.{tail_of}
 use Rattle.send_keys.specs.Keys.{is_usable, next_of}
 use Rattle.outgoing.specs.declared.Sending.{Sending}
-use Rattle.send_keys.specs.declared.SendAnswer.TheVariants as send
 use Rattle.outgoing.specs.Send.{laid_state, laid_memory}
 use Rattle.flight.specs.declared.Entry.{Entry}
 use Rattle.flight.specs.declared.Flight.{Flight}
 use Rattle.flight.specs.Flight.{entry_at}
-use Rattle.resend.specs.declared.Resent.{Resent}
-use Rattle.send_keys.specs.declared.SendAnswer.{SendAnswer}
+use Rattle.flight.specs.declared.Saved.{Saved}
+use Rattle.send_keys.specs.Answer.{SendAnswer}
 use Rattle.resend.specs.Tests.{remembers, tail_after, count_after, closed_state, resend_answer}
 use Rattle.resend.specs.Resend.{with_number, content_at, again_answer, resend_state, resend_queue}
 use Rattle.resend_laws.specs.Steps.{Tables, reached, kept_content, number_again}
@@ -23,7 +22,7 @@ use Rattle.resend_laws.specs.Steps.{Tables, reached, kept_content, number_again}
 abbrev pub answer_to : Sending → Flight → List ℕ → List ℕ → SendAnswer
 answer_to s f kept q = resend_answer s f (length q) (length kept)
 
-abbrev pub left_state : Sending → Flight → List ℕ → List ℕ → Resent
+abbrev pub left_state : Sending → Flight → List ℕ → List ℕ → Saved
 left_state s f kept q = resend_state (answer_to s f kept q) s f kept q
 
 abbrev pub left_queue : Sending → Flight → List ℕ → List ℕ → List ℕ
@@ -41,7 +40,7 @@ pub record Whole (s : Sending) (f : Flight) (kept q : List ℕ) : Type 0 where
   pub flight : (left_state s f kept q).flight ≡ (reached s f kept q f.saved).flight
   pub queue : left_queue s f kept q ≡ (reached s f kept q f.saved).queue
   -- each record that is not marked is sent, in its turn, under the then next number of its epoch, with its own epoch, type and content
-  pub sent : (i : ℕ) → i < f.saved → (entry_at f i).marked ≡ false → again_answer kept i (reached s f kept q i) ≡ send.Done
+  pub sent : (i : ℕ) → i < f.saved → (entry_at f i).marked ≡ false → again_answer kept i (reached s f kept q i) ≡ Ok tt
   pub still : (i : ℕ) → i < f.saved → entry_at (reached s f kept q i).flight i ≡ entry_at f i
   pub content : (i : ℕ) → i < f.saved → (entry_at f i).marked ≡ false → content_at kept i (reached s f kept q i) ≡ kept_content s.queue.mtu f kept i
   pub number : (i : ℕ) → i < f.saved → (entry_at f i).marked ≡ false → next_of (reached s f kept q i).state.keys (entry_at f i).epoch ≡ number_again s f i

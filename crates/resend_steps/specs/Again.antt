@@ -6,7 +6,6 @@ use Rattle.base.specs.Choose.{choose, if_true, both_right, both_true, test_cases
 use Rattle.base.specs.Parts.{part}
 use Rattle.queue.specs.Queue.{InRange}
 use Rattle.send_keys.specs.Keys.{next_of}
-use Rattle.send_keys.specs.declared.SendAnswer.{SendAnswer}
 use Rattle.flight.specs.declared.Entry.{Entry}
 use Rattle.flight.specs.declared.Flight.{Flight}
 use Rattle.flight.specs.Flight.{entry_at}
@@ -19,7 +18,7 @@ use Rattle.flight_words.specs.Entries.{Entered, with_numbers}
 use Rattle.resend.specs.Tests.{closed_state}
 use Rattle.resend.specs.Resend.{Laying, can_remember, with_number, new_entry, sent_entry, sent_table, sent_again, again_at, again_after}
 use Rattle.resend.proofs.Resend.{again-next, again-range, sent-again}
-use Rattle.send_keys.specs.Answer.{is_done}
+use Rattle.send_keys.specs.Answer.{SendAnswer, is_done}
 
 -- state, flight and queue that the words stand for
 abbrev pub laying_of : List ℕ → List ℕ → List ℕ → List ℕ → Laying

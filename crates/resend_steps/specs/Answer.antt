@@ -1,5 +1,5 @@
 -- Whether a flight can be sent again, by the words. Assumes nothing.
-use Rattle.std.specs.Prelude.{Bool, true, false, List, ◌≡◌, refl, ℕ, ◌+◌, ◌≤◌, ◌<◌}
+use Rattle.std.specs.Prelude.{Bool, true, false, List, ◌≡◌, refl, ℕ, ◌+◌, ◌≤◌, ◌<◌, Ok, Err}
 use Rattle.std.proofs.lemmas.Bool.{false≢true}
 use Rattle.std.proofs.Math.Path.{sym, ap}
 use Rattle.std.proofs.Common.{◌∙◌, lt-ltb, le-ltb}
@@ -17,21 +17,20 @@ use Rattle.flight_words.specs.Words.{entry_at as row_at, flight_of}
 use Rattle.flight_words.specs.Entries.{entry-at}
 use Rattle.resend.specs.declared.Passed.{Passed}
 use Rattle.resend.specs.declared.Survey.{Survey}
-use Rattle.send_keys.specs.declared.SendAnswer.{SendAnswer}
-use Rattle.send_keys.specs.declared.SendAnswer.TheVariants.{Done, OutOfRange, BadEpoch, BadRecord, KeysAbsent, HistoryFull, QueueFull, NumbersSpent}
+use Rattle.send_keys.specs.declared.SendError.TheVariants.{OutOfRange, BadEpoch, BadRecord, KeysAbsent, HistoryFull, QueueFull, NumbersSpent}
 use Rattle.resend.specs.Tests.{remembers, has_room, passes, passed_with, passed_after, surveyed_with, surveyed_after, is_over, is_spent, any_spent, closed_state, fit_answer, resend_answer, passed-next, surveyed_next}
-use Rattle.send_keys.specs.Answer.{is_done}
+use Rattle.send_keys.specs.Answer.{SendAnswer, is_done}
 
 -- the first test that is not passed, else a
 abbrev pub refused_by : Passed → SendAnswer → SendAnswer
-refused_by p a = choose p.usable (choose p.allowed (choose p.keyed (choose p.room a HistoryFull) KeysAbsent) BadRecord) BadEpoch
+refused_by p a = choose p.usable (choose p.allowed (choose p.keyed (choose p.room a (Err HistoryFull)) (Err KeysAbsent)) (Err BadRecord)) (Err BadEpoch)
 
 -- all are passed, or what refuses does not depend on a
 pub record Cleared (p : Passed) : Type 0 where
   pub allowed : p.allowed ≡ true
   pub same : (a : SendAnswer) → refused_by p a ≡ a
 
-pub cleared : (p : Passed) → is_done (refused_by p Done) ≡ true → Cleared p
+pub cleared : (p : Passed) → is_done (refused_by p (Ok tt)) ≡ true → Cleared p
 unfolding choose
 cleared p =
     test_cases p.usable
@@ -42,7 +41,7 @@ cleared p =
     (λ b e. absurd (false≢true (rw (a, b) at e))))
     (λ a e. absurd (false≢true (rw a at e)))
 
-pub refused : (p : Passed) (x : SendAnswer) → is_done (refused_by p Done) ≡ false → refused_by p Done ≡ refused_by p x
+pub refused : (p : Passed) (x : SendAnswer) → is_done (refused_by p (Ok tt)) ≡ false → refused_by p (Ok tt) ≡ refused_by p x
 unfolding choose
 refused p x =
     test_cases p.usable
@@ -84,29 +83,29 @@ closed-end s = refl
 
 -- the dry run decides
 module _ (s : Sending) (f : Flight) (d : Survey) (e : d ≡ surveyed_after s.queue.mtu s.keys.application.epoch (tail_of (closed_state s).queue) f f.saved) where
-  pub fit_full : s.queue.limit < d.tail.count → QueueFull ≡ fit_answer (closed_state s) f
+  pub fit_full : s.queue.limit < d.tail.count → Err QueueFull ≡ fit_answer (closed_state s) f
   unfolding fit_answer surveyed_after closed_state
   fit_full h = sym (if_true _ _ (lt-ltb _ _ (rw e at h)))
 
   module _ (h : d.tail.count ≤ s.queue.limit) {x : Bool}
       (y : x ≡ choose (is_over (next_of s.keys 0) d.plaintext) true (choose (is_over (next_of s.keys 2) d.handshake) true (is_over (next_of s.keys s.keys.application.epoch) d.application))) where
-    pub fit-spent : x ≡ true → NumbersSpent ≡ fit_answer (closed_state s) f
+    pub fit-spent : x ≡ true → Err NumbersSpent ≡ fit_answer (closed_state s) f
     unfolding fit_answer surveyed_after closed_state is_spent any_spent
     fit-spent t = sym (if_false _ _ (le-ltb _ _ (rw e at h)) ∙ if_true _ _ (sym (rw e at y) ∙ t))
 
-    pub fit-done : x ≡ false → Done ≡ fit_answer (closed_state s) f
+    pub fit-done : x ≡ false → Ok tt ≡ fit_answer (closed_state s) f
     unfolding fit_answer surveyed_after closed_state is_spent any_spent
     fit-done t = sym (if_false _ _ (le-ltb _ _ (rw e at h)) ∙ if_false _ _ (sym (rw e at y) ∙ t))
 
 -- ---- the answer
 
 module _ (s : Sending) (f : Flight) (room kept : ℕ) where
-  pub answer-unready : is_ready s.queue room ≡ false → OutOfRange ≡ resend_answer s f room kept
+  pub answer-unready : is_ready s.queue room ≡ false → Err OutOfRange ≡ resend_answer s f room kept
   unfolding resend_answer
   answer-unready r = sym (if_false _ _ r)
 
   module _ (r : is_ready s.queue room ≡ true) where
-    pub answer-unkept : is_kept f s.queue.mtu kept ≡ false → OutOfRange ≡ resend_answer s f room kept
+    pub answer-unkept : is_kept f s.queue.mtu kept ≡ false → Err OutOfRange ≡ resend_answer s f room kept
     unfolding resend_answer
     answer-unkept k = sym (if_true _ _ r ∙ if_false _ _ k)
 

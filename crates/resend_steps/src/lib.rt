@@ -1,12 +1,10 @@
 // A flight sent again, over the words of the sending side and of the flight: each saved record is read, and renewed, in its place.
 #![tactic(auto)]
 
-ghost use Rattle.std.specs.Prelude.{true, List, ◌≡◌, ℕ, ◌≤◌, ◌<◌, get_or};
+ghost use Rattle.std.specs.Prelude.{true, Ok, List, ◌≡◌, ℕ, ◌≤◌, ◌<◌, get_or};
 ghost use Rattle.base.specs.Choose.{choose};
 ghost use Rattle.queue.specs.Queue.{InRange, Tailed, tail_of};
 ghost use Rattle.send_keys.specs.Keys.{next_of};
-ghost use Rattle.flight.specs.Flight.{is_kept};
-ghost use Rattle.send_keys.specs.declared.SendAnswer.TheVariants as answers;
 ghost use Rattle.resend.specs.Tests.{passed_with, passed_after, surveyed_after, is_over, closed_state, fit_answer, resend_answer, Fitting};
 ghost use Rattle.resend.specs.Resend.{again_at, again_after};
 ghost use Rattle.send_words.specs.Words.{mtu-at, queue_of, state_of};
@@ -15,16 +13,17 @@ ghost use Rattle.flight_words.specs.Words.{saved-at, flight_of};
 ghost use Rattle.resend_steps.specs.Again.{Relaid};
 ghost use Rattle.resend_steps.specs.Answer.{refused_by};
 
-use flight::Entry;
+use flight::{Entry, NUMBERS};
 use flight_words::SAVED;
 use queue::Tail;
 use resend::{Passed, Survey};
-use send_keys::SendAnswer;
+use send_keys::SendError;
 use send_words::{APPLICATION, CLOSED, LIMIT, MTU, WORDS};
 
 // ---- whether it can be sent again
 
 // The tests of a saved record more; an acknowledged one passes them all.
+#[tactic(auto, unfolding(resend::specs::Tests::passed_with, resend::specs::Tests::passes, base::specs::Choose::choose))]
 fn passed_with(p: Passed, w: &[u64; WORDS], e: Entry) -> Passed
     ensures { result ≡ passed_with p (state_of w.now).keys (get_or w.now mtu-at 0) e }
 {
@@ -36,10 +35,10 @@ fn passed_with(p: Passed, w: &[u64; WORDS], e: Entry) -> Passed
     let keyed = send_steps::is_keyed(w, e.epoch);
     let room = resend::has_room(e);
     Passed {
-        usable: resend::both(usable, p.usable),
-        allowed: resend::both(allowed, p.allowed),
-        keyed: resend::both(keyed, p.keyed),
-        room: resend::both(room, p.room),
+        usable: usable && p.usable,
+        allowed: allowed && p.allowed,
+        keyed: keyed && p.keyed,
+        room: room && p.room,
     }
 }
 
@@ -55,31 +54,29 @@ fn all_passed(w: &[u64; WORDS], f: &[u64; flight_words::WORDS]) -> Passed
         keyed: true,
         room: true,
     };
-    let mut i = 0;
-    while i < saved {
+    for i in 0..saved {
         p = passed_with(p, w, flight_words::entry_of(f, i));
-        i += 1;
     }
     p
 }
 
 // The first test that some record does not pass.
-fn refused_by(p: Passed) -> SendAnswer
-    ensures { result ≡ refused_by p answers.Done }
+fn refused_by(p: Passed) -> Result<(), SendError>
+    ensures { result ≡ refused_by p (Ok tt) }
 {
     if !p.usable {
-        return SendAnswer::BadEpoch;
+        return Err(SendError::BadEpoch);
     }
     if !p.allowed {
-        return SendAnswer::BadRecord;
+        return Err(SendError::BadRecord);
     }
     if !p.keyed {
-        return SendAnswer::KeysAbsent;
+        return Err(SendError::KeysAbsent);
     }
     if !p.room {
-        return SendAnswer::HistoryFull;
+        return Err(SendError::HistoryFull);
     }
-    SendAnswer::Done
+    Ok(())
 }
 
 // A dry run: all of them sent again from the queue's end on, with this application epoch.
@@ -94,26 +91,21 @@ fn survey_all(mtu: usize, epoch: u16, from: Tail, f: &[u64; flight_words::WORDS]
         handshake: 0,
         application: 0,
     };
-    let mut i = 0;
-    while i < saved {
+    for i in 0..saved {
         d = resend::surveyed_with(d, mtu, epoch, flight_words::entry_of(f, i));
-        i += 1;
     }
     d
 }
 
 // Whether one of the three epochs has too few numbers left.
+#[tactic(auto, unfolding(base::specs::Choose::choose))]
 fn any_spent(w: &[u64; WORDS], epoch: u16, d: Survey) -> bool
     requires { (d.plaintext ≤ 12) × (d.handshake ≤ 12) × (d.application ≤ 12) }
     ensures { result ≡ choose (is_over (next_of (state_of w.now).keys 0) d.plaintext) true (choose (is_over (next_of (state_of w.now).keys 2) d.handshake) true (is_over (next_of (state_of w.now).keys epoch) d.application)) }
 {
-    if resend::is_over(send_steps::next_of(w, 0), d.plaintext) {
-        return true;
-    }
-    if resend::is_over(send_steps::next_of(w, 2), d.handshake) {
-        return true;
-    }
-    resend::is_over(send_steps::next_of(w, epoch), d.application)
+    resend::is_over(send_steps::next_of(w, 0), d.plaintext)
+        || resend::is_over(send_steps::next_of(w, 2), d.handshake)
+        || resend::is_over(send_steps::next_of(w, epoch), d.application)
 }
 
 // The queue's end, closed to further records.
@@ -130,7 +122,7 @@ fn closed_tail(w: &[u64; WORDS]) -> Tail
 }
 
 // Whether a new datagram beyond the limit is needed, or a number that is spent.
-fn fit_answer(w: &[u64; WORDS], f: &[u64; flight_words::WORDS]) -> SendAnswer
+fn fit_answer(w: &[u64; WORDS], f: &[u64; flight_words::WORDS]) -> Result<(), SendError>
     requires { InRange (queue_of w.now) × (get_or f.now saved-at 0 ≤ 12) × ((n : List ℕ) → Fitting (get_or w.now mtu-at 0) (flight_of f.now n)) }
     ensures { (n : List ℕ) → result ≡ fit_answer (closed_state (state_of w.now)) (flight_of f.now n) }
 {
@@ -138,23 +130,12 @@ fn fit_answer(w: &[u64; WORDS], f: &[u64; flight_words::WORDS]) -> SendAnswer
     let d = survey_all(w[MTU] as usize, epoch, closed_tail(w), f);
     let t = d.tail;
     if (w[LIMIT] as usize) < t.count {
-        return SendAnswer::QueueFull;
+        return Err(SendError::QueueFull);
     }
     if any_spent(w, epoch, d) {
-        return SendAnswer::NumbersSpent;
+        return Err(SendError::NumbersSpent);
     }
-    SendAnswer::Done
-}
-
-// Whether the saved records are in range and the buffer of their contents is long enough.
-fn is_kept(f: &[u64; flight_words::WORDS], mtu: usize, room: usize) -> bool
-    requires { mtu ≤ 1500 }
-    ensures { (n : List ℕ) → result ≡ is_kept (flight_of f.now n) mtu room }
-{
-    if f[SAVED] <= 12 {
-        return 12 * mtu <= room;
-    }
-    false
+    Ok(())
 }
 
 // Whether every saved record that is not acknowledged can be sent again, or why not.
@@ -163,20 +144,17 @@ pub fn resend_answer(
     f: &[u64; flight_words::WORDS],
     room: usize,
     kept: usize,
-) -> SendAnswer
+) -> Result<(), SendError>
     ensures { (n : List ℕ) → result ≡ resend_answer (state_of w.now) (flight_of f.now n) room kept }
 {
     if !send_steps::is_ready(w, room) {
-        return SendAnswer::OutOfRange;
+        return Err(SendError::OutOfRange);
     }
-    if !is_kept(f, w[MTU] as usize, kept) {
-        return SendAnswer::OutOfRange;
+    if !flight::has_room(f[SAVED] as usize, w[MTU] as usize, kept) {
+        return Err(SendError::OutOfRange);
     }
-    let a = refused_by(all_passed(w, f));
-    if send_keys::is_done(a) {
-        return fit_answer(w, f);
-    }
-    a
+    refused_by(all_passed(w, f))?;
+    fit_answer(w, f)
 }
 
 // ---- sent again
@@ -185,7 +163,6 @@ pub fn resend_answer(
 pub fn close(w: &mut [u64; WORDS])
     ensures { Partly (closed_state (state_of w.old)) w.old w.new }
 {
-    send_words::sized(w);
     w[CLOSED] = 1;
 }
 
@@ -193,7 +170,7 @@ pub fn close(w: &mut [u64; WORDS])
 fn again(
     w: &mut [u64; WORDS],
     f: &mut [u64; flight_words::WORDS],
-    numbers: &mut [u64; 384],
+    numbers: &mut [u64; NUMBERS],
     kept: &[u8],
     memory: &mut [u8],
     i: usize,
@@ -216,7 +193,7 @@ fn again(
 pub fn resend_all(
     w: &mut [u64; WORDS],
     f: &mut [u64; flight_words::WORDS],
-    numbers: &mut [u64; 384],
+    numbers: &mut [u64; NUMBERS],
     kept: &[u8],
     memory: &mut [u8],
 )
@@ -224,9 +201,7 @@ pub fn resend_all(
     ensures { Relaid (λ l. again_after kept.now l l.flight.saved) w.old f.old numbers.old memory.old w.new f.new numbers.new memory.new }
 {
     let saved = f[SAVED] as usize;
-    let mut i = 0;
-    while i < saved {
+    for i in 0..saved {
         again(w, f, numbers, kept, memory, i);
-        i += 1;
     }
 }

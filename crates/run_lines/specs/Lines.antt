@@ -1,13 +1,7 @@
 -- Text that the programs read and write: a line is a letter, a space and bytes in lowercase hexadecimal. Assumes nothing.
-use Rattle.std.specs.Prelude.{List, [], ◌∷◌, ◌++◌, ◌≡◌, ℕ, ◌+◌, ◌*◌, ◌/◌, ◌%◌, min, max, ltb, eqb, length, get_or}
+use Rattle.std.specs.Prelude.{List, [], ◌∷◌, ◌++◌, ◌≡◌, ℕ, ◌+◌, ◌*◌, ◌/◌, ◌%◌, min, max, ltb, eqb, length, take}
 use Rattle.std.proofs.lemmas.List.Edits.{sets}
 use Rattle.base.specs.Choose.{choose}
-
--- the twelve bytes from place i on; 0 for those beyond the end
-abbrev pub twelve_at : List ℕ → ℕ → List ℕ
-twelve_at d i =
-    get_or d i 0 ∷ (get_or d (i + 1) 0 ∷ (get_or d (i + 2) 0 ∷ (get_or d (i + 3) 0 ∷ (get_or d (i + 4) 0 ∷ (get_or d (i + 5) 0
-    ∷ (get_or d (i + 6) 0 ∷ (get_or d (i + 7) 0 ∷ (get_or d (i + 8) 0 ∷ (get_or d (i + 9) 0 ∷ (get_or d (i + 10) 0 ∷ (get_or d (i + 11) 0 ∷ [])))))))))))
 
 -- where n bytes written from a place on end; what does not fit is left out
 abbrev pub reach : ℕ → ℕ → ℕ → ℕ
@@ -39,6 +33,10 @@ line_of letter d = letter ∷ (32 ∷ (hex_of d ++ (10 ∷ [])))
 unfoldable pub line_len : List ℕ → ℕ
 line_len [] = 0
 line_len (b ∷ t) = choose (eqb b 10) 0 (1 + line_len t)
+
+-- the first line, without its newline
+abbrev pub line_in : List ℕ → List ℕ
+line_in t = take (line_len t) t
 
 -- ---- laws
 

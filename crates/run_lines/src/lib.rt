@@ -1,10 +1,13 @@
 // Text that the programs read and write: a line is a letter, a space and bytes in lowercase hexadecimal.
 #![tactic(auto)]
 
-ghost use Rattle.std.specs.Prelude.{◌≡◌, ◌+◌, ◌-◌, ◌*◌, ◌/◌, ◌%◌, ◌^◌, ◌<◌, ◌≤◌, min, length, get_or, set};
+ghost use Rattle.std.specs.Prelude.{◌≡◌, ◌==◌, position, ℕ, ◌+◌, ◌%◌, ◌<◌, length, get_or, set, take, drop};
 ghost use Rattle.std.proofs.lemmas.List.Edits.{sets};
 ghost use Rattle.base.specs.Bytes.{be_at};
-ghost use Rattle.run_lines.specs.Lines.{twelve_at, reach, digit_of, bytes_of, hex_digit, line_of, line_len};
+ghost use Rattle.run_lines.specs.Lines.{line_in, reach, digit_of, bytes_of, hex_digit, line_of, line_len};
+
+// Buffers are lent, and a place goes in and the place behind comes out: vectors can fail, and a struct that held the lent buffer would need clauses on
+// what its borrow leaves.
 
 // A byte written at a place of a lent buffer, and the place behind it; where the buffer is full it is left out.
 pub fn push(out: &mut [u8], at: usize, b: u8) -> usize
@@ -21,77 +24,59 @@ pub fn push(out: &mut [u8], at: usize, b: u8) -> usize
 pub fn push_all(out: &mut [u8], at: usize, d: &[u8]) -> usize
     ensures { (result ≡ reach at (length d.now) (length out.old)) × (out.new ≡ sets out.old at d.now) }
 {
-    let mut n = at;
-    let mut i = 0;
-    while i < d.len() {
-        n = push(out, n, d[i]);
-        i += 1;
+    if out.len() <= at {
+        return at;
     }
-    n
+    let n = d.len().min(out.len() - at);
+    out[at..at + n].copy_from_slice(&d[..n]);
+    at + n
 }
 
 // The byte at a place; 0 beyond the end.
 pub fn get1(d: &[u8], i: usize) -> u8
     ensures { result ≡ get_or d.now i 0 }
 {
-    if i < d.len() {
-        return d[i];
-    }
-    0
+    d.get(i).copied().unwrap_or(0)
 }
 
-// The number that bytes from a place on make; bytes beyond the end count as 0.
-pub fn get2(d: &[u8], i: usize) -> u16
-    requires { i ≤ 65536 }
+// The N bytes from a place on; 0 for those beyond the end.
+pub fn bytes_at<const N: usize>(d: &[u8], i: usize) -> [u8; N]
+    ensures { (k : ℕ) → k < N → get_or result k 0 ≡ get_or d.now (i + k) 0 }
+{
+    let mut bytes = [0; N];
+    push_all(&mut bytes, 0, base::behind(d, i));
+    bytes
+}
+
+// The number that two bytes from a place on make, the highest first.
+pub fn u16_at(d: &[u8], i: usize) -> u16
     ensures { result ≡ be_at 2 d.now i }
 {
-    (get1(d, i) as u16) * 256 + get1(d, i + 1) as u16
+    u16::from_be_bytes(bytes_at(d, i))
 }
 
-pub fn get4(d: &[u8], i: usize) -> u32
-    requires { i ≤ 65500 }
+pub fn u32_at(d: &[u8], i: usize) -> u32
     ensures { result ≡ be_at 4 d.now i }
 {
-    (get2(d, i) as u32) * 65536 + get2(d, i + 2) as u32
+    u32::from_be_bytes(bytes_at(d, i))
 }
 
-pub fn get8(d: &[u8], i: usize) -> u64
-    requires { i ≤ 65000 }
+pub fn u64_at(d: &[u8], i: usize) -> u64
     ensures { result ≡ be_at 8 d.now i }
 {
-    (get4(d, i) as u64) * 0x1_0000_0000 + get4(d, i + 4) as u64
+    u64::from_be_bytes(bytes_at(d, i))
 }
 
-// The twelve bytes from a place on; 0 for those beyond the end.
-pub fn get12(d: &[u8], i: usize) -> [u8; 12]
-    requires { i ≤ 65536 }
-    ensures { result ≡ twelve_at d.now i }
+// The first n bytes of a buffer, or all of them.
+pub fn front(d: &mut [u8], n: usize) -> &mut [u8]
+    ensures { result.now ≡ take n d.old }
 {
-    [
-        get1(d, i),
-        get1(d, i + 1),
-        get1(d, i + 2),
-        get1(d, i + 3),
-        get1(d, i + 4),
-        get1(d, i + 5),
-        get1(d, i + 6),
-        get1(d, i + 7),
-        get1(d, i + 8),
-        get1(d, i + 9),
-        get1(d, i + 10),
-        get1(d, i + 11),
-    ]
-}
-
-// Byte k of a number, the lowest being byte 0.
-pub fn byte(v: u64, k: u64) -> u8
-    requires { k < 8 }
-    ensures { result ≡ v / 2 ^ (8 * k) % 256 }
-{
-    ((v >> (8 * k)) % 256) as u8
+    let m = n.min(d.len());
+    &mut d[..m]
 }
 
 // What a hex digit stands for.
+#[tactic(auto, unfolding(crate::specs::Lines::digit_of, base::specs::Choose::choose))]
 fn digit(b: u8) -> u8
     ensures { (result ≡ digit_of b) × (result < 16) }
 {
@@ -106,64 +91,67 @@ pub fn decode(digits: &[u8], out: &mut [u8]) -> usize
     ensures { (result ≡ reach 0 (length (bytes_of digits.now)) (length out.old)) × (out.new ≡ sets out.old 0 (bytes_of digits.now)) }
 {
     let mut n = 0;
-    let mut i = 0;
-    while 2 <= digits.len() - i {
-        let high = digit(get1(digits, i));
-        let low = digit(get1(digits, i + 1));
-        n = push(out, n, high * 16 + low);
-        i += 2;
+    let mut rest = digits;
+    while let [high, low, more @ ..] = rest {
+        n = push(out, n, digit(*high) * 16 + digit(*low));
+        rest = more;
     }
     n
 }
 
 // The last digit of a number.
+#[tactic(auto, unfolding(crate::specs::Lines::hex_digit, base::specs::Choose::choose))]
 fn hex(v: u8) -> u8
     ensures { result ≡ hex_digit (v % 16) }
 {
     let d = v % 16;
     if d < 10 {
-        return 48 + d;
+        return b'0' + d;
     }
-    87 + d
+    b'a' + (d - 10)
 }
 
 // A line, and its length.
 pub fn encode(letter: u8, d: &[u8], out: &mut [u8]) -> usize
     ensures { (result ≡ reach 0 (length (line_of letter d.now)) (length out.old)) × (out.new ≡ sets out.old 0 (line_of letter d.now)) }
 {
-    let a = push(out, 0, letter);
-    let mut n = push(out, a, b' ');
-    let mut i = 0;
-    while i < d.len() {
-        let b = d[i];
-        let m = push(out, n, hex(b / 16));
-        n = push(out, m, hex(b));
-        i += 1;
+    let mut n = push(out, 0, letter);
+    n = push(out, n, b' ');
+    for b in d {
+        n = push(out, n, hex(b / 16));
+        n = push(out, n, hex(*b));
     }
     push(out, n, b'\n')
+}
+
+// The line in a lent buffer, as far as it fits.
+pub fn line<'a>(letter: u8, d: &[u8], out: &'a mut [u8]) -> &'a [u8]
+    ensures { result.now ≡ take (length out.old) (line_of letter d.now) }
+{
+    let n = encode(letter, d, out);
+    &out[..n]
+}
+
+// Where the first newline stands.
+fn newline(text: &[u8]) -> Option<usize>
+    ensures { result ≡ position (λ b. b == 10) text.now }
+{
+    text.iter().position(|b| *b == b'\n')
 }
 
 // The length of the first line, without its newline.
 pub fn line_len(text: &[u8]) -> usize
     ensures { result ≡ line_len text.now }
 {
-    let mut i = 0;
-    while i < text.len() {
-        if text[i] == b'\n' {
-            return i;
-        }
-        i += 1;
-    }
-    i
+    newline(text).unwrap_or(text.len())
 }
 
-// Where the next line begins: behind the newline, and no further than the end.
-pub fn next_line(i: usize, n: usize, end: usize) -> usize
-    requires { i < end }
-    ensures { (result ≡ min (i + n + 1) end) × (i < result) × (result ≤ end) }
+// A line's letter, and its bytes in a lent buffer, as many as fit.
+pub fn read<'a>(text: &[u8], out: &'a mut [u8]) -> (u8, &'a [u8])
+    ensures letter { result.0 ≡ get_or (line_in text.now) 0 0 }
+    ensures bytes { result.1.now ≡ take (length out.old) (bytes_of (drop 2 (line_in text.now))) }
 {
-    if n < end - i {
-        return i + n + 1;
-    }
-    end
+    let line = base::fragment(text, 0, line_len(text));
+    let n = decode(base::behind(line, 2), out);
+    (get1(line, 0), &out[..n])
 }

@@ -4,22 +4,31 @@
 // The state is the words and the buffer that a host keeps, and the content of a record, which is laid piece by piece.
 #![tactic(auto)]
 
+use assembly::PieceError;
 use assembly_calls::HuskPiece;
 use assembly_steps::{COUNT, EXPECTED, HEADER_LENGTH, TOTAL, TYPE, WORDS};
+use run_lines::{front, u16_at, u32_at, u64_at};
+use std::alloc::{AllocError, Global};
 use std::io;
 use std::io::Read;
 
 // How many bytes of a message's buffer are watched.
 const MESSAGE_ROOM: usize = 16384;
 
-fn push2(out: &mut [u8], at: usize, v: u64) -> usize {
-    let d = [run_lines::byte(v, 1), run_lines::byte(v, 0)];
-    run_lines::push_all(out, at, &d)
+// How many bytes the content of a record may have; more are left out.
+const CONTENT_ROOM: usize = 20480;
+
+// What a host keeps: the words, the content of a record as far as it is laid, and a message's buffer.
+#[derive(Drop)]
+struct Host {
+    w: [u64; WORDS],
+    content: Vec<u8>,
+    message: [u8; 16640],
 }
 
-fn push4(out: &mut [u8], at: usize, v: u64) -> usize {
-    let a = push2(out, at, v / 0x1_0000);
-    push2(out, a, v)
+// The low four bytes of a number.
+fn low4(v: u64) -> [u8; 4] {
+    ((v % 0x1_0000_0000) as u32).to_be_bytes()
 }
 
 // ---- the answer to a step
@@ -29,16 +38,14 @@ fn push4(out: &mut [u8], at: usize, v: u64) -> usize {
 fn checksum(d: &[u8]) -> u64 {
     let mut low: u64 = 1;
     let mut high: u64 = 0;
-    let mut i = 0;
-    while i < d.len() {
-        low = (low % 65521 + base::wide(d[i])) % 65521;
+    for b in d {
+        low = (low % 65521 + u64::from(*b)) % 65521;
         high = (high % 65521 + low % 65521) % 65521;
-        i += 1;
     }
     high % 65521 * 0x1_0000 + low % 65521
 }
 
-// The checksum of a message's body; 0 where none is told.
+// The checksum of a message's body; 0 where none is told. The C interface has numbers for the kinds.
 fn body_checksum(p: HuskPiece, d: &[u8]) -> u64 {
     if p.kind == 5 {
         return checksum(base::fragment(d, 0, p.length));
@@ -49,194 +56,131 @@ fn body_checksum(p: HuskPiece, d: &[u8]) -> u64 {
 fn bare(refusal: u8) -> HuskPiece {
     HuskPiece {
         kind: 0,
-        refusal: refusal,
+        refusal,
         msg_type: 0,
         number: 0,
         length: 0,
     }
 }
 
-// An answer on standard output: the fields, the checksum of a message's body and that of the whole buffer.
-fn say(rt: &impl Print, letter: u8, p: HuskPiece, d: &[u8]) -> io::Result<()> {
-    let mut found = [0u8; 32];
-    let mut text = [0u8; 128];
-    run_lines::push(&mut found, 0, p.kind);
-    run_lines::push(&mut found, 1, p.refusal);
-    run_lines::push(&mut found, 2, p.msg_type);
-    push2(&mut found, 3, p.number as u64);
-    push4(&mut found, 5, p.length as u64);
-    push4(&mut found, 9, body_checksum(p, d));
-    push4(&mut found, 13, checksum(base::fragment(d, 0, MESSAGE_ROOM)));
-    let n = run_lines::encode(letter, base::fragment(&found, 0, 17), &mut text);
-    rt.write_all(base::fragment(&text, 0, n))
+// The fields of an answer, the checksum of a message's body and that of the whole buffer.
+fn lay(alloc: Global, p: HuskPiece, d: &[u8]) -> Result<Vec<u8>, AllocError> {
+    let mut out = vec![in alloc; p.kind, p.refusal, p.msg_type]?;
+    out.extend_from_slice(&p.number.to_be_bytes())?;
+    out.extend_from_slice(&low4(p.length as u64))?;
+    out.extend_from_slice(&low4(body_checksum(p, d)))?;
+    out.extend_from_slice(&low4(checksum(base::fragment(d, 0, MESSAGE_ROOM))))?;
+    Ok(out)
 }
 
-// ---- the content of a record
+// A line has a number: that of a refusal, or 0.
+fn begun(a: Result<(), PieceError>) -> HuskPiece {
+    match a {
+        Ok(()) => bare(0),
+        Err(e) => bare(u8::from(e)),
+    }
+}
+
+// ---- steps
 
 // The byte at offset + i of a message. The salt tells pieces apart that bring the same byte.
 fn body_byte(offset: u64, i: usize, salt: u8) -> u8 {
     let at = (offset % 0x100_0000) + (i as u64) % 0x100_0000;
-    ((at * 7 + at / 256 + base::wide(salt)) % 256) as u8
+    ((at * 7 + at / 256 + u64::from(salt)) % 256) as u8
 }
 
-fn lay_body(out: &mut [u8], at: usize, offset: u64, n: usize, salt: u8) -> usize {
-    let mut m = at;
-    let mut i = 0;
-    while i < n {
-        m = run_lines::push(out, m, body_byte(offset, i, salt));
-        i += 1;
-    }
-    m
-}
-
-// A piece behind what is laid: its header as it is given, and as many bytes of the body as the header says.
-fn lay_piece(out: &mut [u8], at: usize, input: &[u8]) -> usize {
-    let start = run_lines::push_all(out, at, base::fragment(input, 0, HEADER_LENGTH));
-    let offset = run_lines::get4(input, 6) as u64 / 256;
-    let length = (run_lines::get4(input, 8) % 0x100_0000) as usize;
-    lay_body(
-        out,
-        start,
-        offset,
-        length,
-        run_lines::get1(input, HEADER_LENGTH),
-    )
-}
-
-// How long the content is after a step that lays it.
-fn laid(size: usize, letter: u8, input: &[u8], c: &mut [u8]) -> usize {
-    match letter {
-        b'p' => lay_piece(c, size, input),
-        b'x' => run_lines::push_all(c, size, input),
-        b's' => base::lesser(size, run_lines::get2(input, 0) as usize),
-        _ => 0,
-    }
-}
-
-// ---- the words and the buffer
-
-fn fresh(w: &mut [u64; WORDS], d: &mut [u8]) {
-    let blank = [0xEEu8; 16640];
-    run_lines::push_all(d, 0, &blank);
-    assembly_calls::fresh(w);
-}
-
-// A word set, to come to message numbers that would take 65,535 messages, and out of range.
-fn set_word(w: &mut [u64; WORDS], i: usize, v: u64) {
-    if i < WORDS {
-        w[i] = v;
-    }
-}
-
-// The first bytes of a buffer.
-fn front(d: &mut [u8], n: usize) -> &mut [u8] {
-    if n < d.len() {
-        return &mut d[..n];
-    }
-    d
-}
-
-fn take(w: &mut [u64; WORDS], input: &[u8], c: &[u8], d: &mut [u8]) -> HuskPiece {
-    let n = run_lines::get2(input, 0) as usize;
-    assembly_calls::take_piece(w, c, front(d, n))
-}
-
-// The number expected and, in the place of the refusal, how many pieces are held; with one, type and total of the first.
-fn view(w: &[u64; WORDS]) -> HuskPiece {
-    let mut p = bare(0);
-    p.number = (w[EXPECTED] % 65536) as u16;
-    if w[COUNT] == 0 {
-        return p;
-    }
-    p.refusal = (w[COUNT] % 256) as u8;
-    p.msg_type = (w[TYPE] % 256) as u8;
-    p.length = (w[TOTAL] % 0x1_0000_0000) as usize;
-    p
-}
-
-// ---- any step
-
-// A step that is a call, or shows or sets what calls keep.
-fn step(w: &mut [u64; WORDS], letter: u8, input: &[u8], c: &[u8], d: &mut [u8]) -> HuskPiece {
-    match letter {
-        b'f' => {
-            fresh(w, d);
-            bare(0)
+impl Host {
+    fn new(alloc: Global) -> Host {
+        Host {
+            w: [0; WORDS],
+            content: Vec::new(alloc),
+            message: [0; 16640],
         }
-        b'w' => {
-            set_word(
-                w,
-                run_lines::get1(input, 0) as usize,
-                run_lines::get8(input, 1),
-            );
-            bare(0)
+    }
+
+    // How many bytes more the content may have.
+    fn room(&self) -> usize {
+        CONTENT_ROOM.saturating_sub(self.content.len())
+    }
+
+    // Bytes behind what is laid.
+    fn lay(&mut self, d: &[u8]) -> Result<(), AllocError> {
+        let n = self.room();
+        self.content.extend_from_slice(base::fragment(d, 0, n))
+    }
+
+    // A piece behind what is laid: its header as it is given, and as many bytes of the body as the header says.
+    fn lay_piece(&mut self, input: &[u8]) -> Result<(), AllocError> {
+        self.lay(base::fragment(input, 0, HEADER_LENGTH))?;
+        let offset = u32_at(input, 6) as u64 / 256;
+        let length = (u32_at(input, 8) % 0x100_0000) as usize;
+        let salt = run_lines::get1(input, HEADER_LENGTH);
+        for i in 0..length.min(self.room()) {
+            self.content.push(body_byte(offset, i, salt))?;
         }
-        b'b' => bare(assembly_calls::begin(w, c.len())),
-        b'n' => bare(assembly_calls::begin(w, run_lines::get8(input, 0) as usize)),
-        b't' => take(w, input, c, d),
-        b'v' => view(w),
-        _ => bare(0),
+        Ok(())
+    }
+
+    fn fresh(&mut self) {
+        self.message = [0xEE; 16640];
+        assembly_calls::fresh(&mut self.w);
+    }
+
+    // A word set, to come to message numbers that would take 65,535 messages, and out of range.
+    fn set_word(&mut self, i: usize, v: u64) {
+        if i < WORDS {
+            self.w[i] = v;
+        }
+    }
+
+    // The next piece, with so many bytes of the message's buffer lent.
+    fn take(&mut self, lent: usize) -> HuskPiece {
+        let d = front(&mut self.message, lent);
+        assembly_calls::take_piece(&mut self.w, &self.content, d)
+    }
+
+    // The number expected and, in the place of the refusal, how many pieces are held; with one, type and total of the first.
+    fn view(&self) -> HuskPiece {
+        let mut p = bare(0);
+        p.number = (self.w[EXPECTED] % 65536) as u16;
+        if self.w[COUNT] != 0 {
+            p.refusal = (self.w[COUNT] % 256) as u8;
+            p.msg_type = (self.w[TYPE] % 256) as u8;
+            p.length = (self.w[TOTAL] % 0x1_0000_0000) as usize;
+        }
+        p
+    }
+
+    // A step that lays content, is a call, or shows or sets what calls keep.
+    fn step(&mut self, letter: u8, input: &[u8]) -> Result<HuskPiece, AllocError> {
+        match letter {
+            b'e' => self.content.clear(),
+            b'p' => self.lay_piece(input)?,
+            b'x' => self.lay(input)?,
+            b's' => self.content.truncate(u16_at(input, 0) as usize),
+            b'f' => self.fresh(),
+            b'w' => self.set_word(run_lines::get1(input, 0) as usize, u64_at(input, 1)),
+            b'b' => return Ok(begun(assembly_calls::begin(&mut self.w, self.content.len()))),
+            b'n' => return Ok(begun(assembly_calls::begin(&mut self.w, u64_at(input, 0) as usize))),
+            b't' => return Ok(self.take(u16_at(input, 0) as usize)),
+            b'v' => return Ok(self.view()),
+            _ => {}
+        }
+        Ok(bare(0))
     }
 }
 
-fn is_laying(letter: u8) -> bool {
-    letter == b'e' || letter == b'p' || letter == b'x' || letter == b's'
-}
-
-// ---- lines
-
-// One line of input; how long the content is behind it.
-fn replay_line(
-    rt: &impl Print,
-    w: &mut [u64; WORDS],
-    size: usize,
-    line: &[u8],
-    c: &mut [u8],
-    d: &mut [u8],
-) -> io::Result<usize> {
-    let letter = run_lines::get1(line, 0);
-    let mut space = [0u8; 256];
-    let n = run_lines::decode(base::behind(line, 2), &mut space);
-    let input = base::fragment(&space, 0, n);
-    if is_laying(letter) {
-        let m = laid(size, letter, input, c);
-        say(rt, letter, bare(0), d)?;
-        return Ok(m);
-    }
-    let p = step(w, letter, input, base::fragment(c, 0, size), d);
-    say(rt, letter, p, d)?;
-    Ok(size)
-}
-
-fn replay_lines(
-    rt: &impl Print,
-    w: &mut [u64; WORDS],
-    text: &[u8],
-    c: &mut [u8],
-    d: &mut [u8],
-) -> io::Result<()> {
-    let mut size = 0;
-    let mut i = 0;
-    while i < text.len() {
-        let n = run_lines::line_len(base::behind(text, i));
-        size = replay_line(rt, w, size, base::fragment(text, i, n), c, d)?;
-        i = run_lines::next_line(i, n, text.len());
+// Each line of input is answered on standard output.
+fn main(rt: HostRuntime) -> io::Result<()> {
+    let mut host = Host::new(rt.alloc());
+    let mut text = Vec::new(rt.alloc());
+    rt.reader().take(65536).read_to_end(&mut text)?;
+    for line in text.split_inclusive(|b| *b == b'\n') {
+        let mut space = [0; 256];
+        let (letter, input) = run_lines::read(line, &mut space);
+        let p = host.step(letter, input)?;
+        let found = lay(rt.alloc(), p, &host.message)?;
+        rt.write_all(run_lines::line(letter, &found, &mut [0; 128]))?;
     }
     Ok(())
-}
-
-fn main(rt: HostRuntime) -> io::Result<()> {
-    let mut space = [0u8; 65536];
-    let mut c = [0u8; 20480];
-    let mut d = [0u8; 16640];
-    let mut w = [0u64; WORDS];
-    let mut room: &mut [u8] = &mut space;
-    let n = io::copy(&mut rt.reader().take(65536), &mut room)?;
-    replay_lines(
-        &rt,
-        &mut w,
-        base::fragment(&space, 0, n as usize),
-        &mut c,
-        &mut d,
-    )
 }

@@ -1,17 +1,18 @@
 -- What a record sent and saved reads and writes of the words, and that its steps are the definition's. Assumes nothing.
-use Rattle.std.specs.Prelude.{Bool, true, false, List, ◌≡◌, refl, ℕ, zero, suc, ◌+◌, ◌*◌, ◌≤◌, ◌<◌, ◌%◌, ltb, length, get_or, set}
+use Rattle.std.specs.Prelude.{true, false, List, ◌≡◌, refl, ℕ, zero, suc, ◌+◌, ◌*◌, ◌≤◌, ◌<◌, ◌%◌, ltb, length, get_or, set, leb, Result, Ok, Err}
 use Rattle.std.proofs.lemmas.Bool.{false≢true, lt-leb}
 use Rattle.std.proofs.Common.{⊎_elim, sym, subst, ◌∙◌, arith, le-leb, le-ltb, ltb-false, length-set, get_or-set_same, get_or-set_other}
 use Rattle.std.proofs.Math.Path.{ap}
 use Rattle.base.specs.Choose.{choose, if_true, if_false, test_cases, eq-or_ne}
 use Rattle.base.specs.Parts.{splice}
+use Rattle.queue.specs.declared.Place.{Place}
 use Rattle.queue.specs.Queue.{is_ready}
 use Rattle.send_keys.specs.Keys.{is_usable, is_keyed, next_of}
 use Rattle.outgoing.specs.declared.Sending.{Sending}
-use Rattle.send_keys.specs.declared.SendAnswer.{SendAnswer}
-use Rattle.send_keys.specs.declared.SendAnswer.TheVariants.{Done, OutOfRange, BadEpoch, BadRecord, KeysAbsent, MessagesSpent, FlightFull, QueueFull, NumbersSpent, HistoryFull, SealingWaits}
+use Rattle.send_keys.specs.declared.SendError.{SendError}
+use Rattle.send_keys.specs.declared.SendError.TheVariants.{OutOfRange, FlightFull}
 use Rattle.outgoing.specs.State.{is_allowed}
-use Rattle.outgoing.specs.Send.{spot_of, is_full, is_spent, send_answer, laid_state, laid_memory}
+use Rattle.outgoing.specs.Send.{laid_state, laid_memory}
 use Rattle.flight.specs.declared.Entry.{Entry}
 use Rattle.flight.specs.declared.Flight.{Flight}
 use Rattle.flight.specs.Flight.{entry_of, counted, is_kept, saved_with, saved_memory}
@@ -19,94 +20,45 @@ use Rattle.flight.specs.Save.{save_answer, save_state, save_queue, save_kept, an
 use Rattle.words.specs.Fields.{first_of, by-words, low-back}
 use Rattle.send_words.specs.Words.{state_of, is_flat}
 use Rattle.send_words.specs.Partly.{Partly}
-use Rattle.send_steps.specs.declared.Verdict.{Verdict}
+use Rattle.send_steps.specs.Steps.{placed, epoch_answer, room_answer, behind, tests-behind}
 use Rattle.flight_words.specs.Words.{words, type_at, epoch-at, number_at, length_at, marked-at, remembered_at, saved-at, entries_of, flight_of, flat_to, put_entry, LowEntry}
-use Rattle.send_keys.specs.Answer.{is_done}
+use Rattle.send_keys.specs.Answer.{SendAnswer, is_done}
 
 -- ---- the answer
 
--- the answer, and the place if it is done
-pub record Judged (v : Verdict) (s : Sending) (f : Flight) (room kept e t n : ℕ) : Type 0 where
-  pub answer : v.answer ≡ save_answer s f room kept e t n
-  pub place : is_done v.answer ≡ true → v.place ≡ spot_of s e n
-
 -- 18 goes before 19 and 20, and behind the others
-abbrev pub full_answer : SendAnswer → SendAnswer
-full_answer Done = FlightFull
-full_answer OutOfRange = OutOfRange
-full_answer BadEpoch = BadEpoch
-full_answer BadRecord = BadRecord
-full_answer KeysAbsent = KeysAbsent
-full_answer MessagesSpent = MessagesSpent
-full_answer FlightFull = FlightFull
-full_answer QueueFull = FlightFull
-full_answer NumbersSpent = FlightFull
-full_answer HistoryFull = HistoryFull
-full_answer SealingWaits = SealingWaits
+abbrev saved_room : Sending → Flight → ℕ → ℕ → SendAnswer
+saved_room s f e n = choose (leb 12 f.saved) (Err FlightFull) (room_answer s e n)
 
-not_full : (a : SendAnswer) → is_done (full_answer a) ≡ false
-not_full Done = refl
-not_full OutOfRange = refl
-not_full BadEpoch = refl
-not_full BadRecord = refl
-not_full KeysAbsent = refl
-not_full MessagesSpent = refl
-not_full FlightFull = refl
-not_full QueueFull = refl
-not_full NumbersSpent = refl
-not_full HistoryFull = refl
-not_full SealingWaits = refl
+in-turn : (s : Sending) (f : Flight) (room kept e t n : ℕ) → is_ready s.queue room ≡ true → is_kept f s.queue.mtu kept ≡ true
+    → save_answer s f room kept e t n ≡ behind (epoch_answer s e t n) (saved_room s f e n)
+unfolding save_answer epoch_answer room_answer
+in-turn s f room kept e t n r k =
+    if_true _ _ r ∙ if_true _ _ k ∙ sym (tests-behind (is_usable s.keys e) (is_allowed s.queue.mtu e t n) (is_keyed s.keys e) (saved_room s f e n))
 
--- the tests of a send, and of a saved one with those of the flight between them
-abbrev sends : Bool → Bool → Bool → Bool → Bool → Bool → SendAnswer
-sends r u l y g p =
-    choose r (choose u (choose l (choose y (choose g QueueFull (choose p NumbersSpent Done)) KeysAbsent) BadRecord) BadEpoch) OutOfRange
-
-abbrev saves : Bool → Bool → Bool → Bool → Bool → Bool → Bool → Bool → SendAnswer
-saves r k u l y v g p =
-    choose r (choose k (choose u (choose l (choose y (choose v FlightFull (choose g QueueFull (choose p NumbersSpent Done))) KeysAbsent) BadRecord) BadEpoch) OutOfRange) OutOfRange
-
-room-left : {r k v : Bool} (u l y g p : Bool) → r ≡ true → k ≡ true → v ≡ false → sends r u l y g p ≡ saves r k u l y v g p
-unfolding choose
-room-left u l y g p a b c = rw (a, b, c)
-
-no_room-left : {r k v : Bool} (u l y g p : Bool) → r ≡ true → k ≡ true → v ≡ true → full_answer (sends r u l y g p) ≡ saves r k u l y v g p
-unfolding choose
-no_room-left false l y g p a b c = rw (a, b)
-no_room-left true false y g p a b c = rw (a, b)
-no_room-left true true false g p a b c = rw (a, b)
-no_room-left true true true true p a b c = rw (a, b, c)
-no_room-left true true true false true a b c = rw (a, b, c)
-no_room-left true true true false false a b c = rw (a, b, c)
-
-module _ {v : Verdict} (s : Sending) (f : Flight) (room kept e t n : ℕ) where
-  refused-by : v.answer ≡ OutOfRange → save_answer s f room kept e t n ≡ OutOfRange → Judged v s f room kept e t n
-  refused-by p q = record { answer = p ∙ sym q; place = λ d. absurd (false≢true (ap is_done (sym p) ∙ d)) }
-
-  pub judged-range : v.answer ≡ OutOfRange → is_ready s.queue room ≡ false → Judged v s f room kept e t n
+module _ (s : Sending) (f : Flight) (room kept e t n : ℕ) (p : Place) where
+  pub not_ready : is_ready s.queue room ≡ false → Err OutOfRange ≡ placed (save_answer s f room kept e t n) p
   unfolding save_answer
-  judged-range p r = refused-by p (if_false _ _ r)
+  not_ready r = ap (λ (a : SendAnswer). placed a p) (sym (if_false _ _ r))
 
-  pub judged-kept : v.answer ≡ OutOfRange → is_ready s.queue room ≡ true → is_kept f s.queue.mtu kept ≡ false → Judged v s f room kept e t n
-  unfolding save_answer
-  judged-kept p r k = refused-by p (if_true _ _ r ∙ if_false _ _ k)
+  module _ (r : is_ready s.queue room ≡ true) where
+    pub not_kept : is_kept f s.queue.mtu kept ≡ false → Err OutOfRange ≡ placed (save_answer s f room kept e t n) p
+    unfolding save_answer
+    not_kept k = ap (λ (a : SendAnswer). placed a p) (sym (if_true _ _ r ∙ if_false _ _ k))
 
-  module _ (r : is_ready s.queue room ≡ true) (k : is_kept f s.queue.mtu kept ≡ true) where
-    pub judged-sent : f.saved < 12 → v.answer ≡ send_answer s room e t n → (is_done v.answer ≡ true → v.place ≡ spot_of s e n) → Judged v s f room kept e t n
-    unfolding send_answer save_answer
-    judged-sent h p q =
-        record {
-          answer = p ∙ room-left (is_usable s.keys e) (is_allowed s.queue.mtu e t n) (is_keyed s.keys e) (is_full s e n) (is_spent s e) r k (lt-leb _ _ h);
-          place = q;
-        }
+    module _ (k : is_kept f s.queue.mtu kept ≡ true) where
+      answer-by : {a b : SendAnswer} → epoch_answer s e t n ≡ a → saved_room s f e n ≡ b → save_answer s f room kept e t n ≡ behind a b
+      answer-by {a} h g = in-turn s f room kept e t n r k ∙ ap (λ (x : SendAnswer). behind x (saved_room s f e n)) h ∙ ap (behind a) g
 
-    pub judged_full : 12 ≤ f.saved → {a : SendAnswer} → v.answer ≡ full_answer a → a ≡ send_answer s room e t n → Judged v s f room kept e t n
-    unfolding send_answer save_answer
-    judged_full h {a} p q =
-        record {
-          answer = p ∙ ap full_answer q ∙ no_room-left (is_usable s.keys e) (is_allowed s.queue.mtu e t n) (is_keyed s.keys e) (is_full s e n) (is_spent s e) r k (le-leb _ _ h);
-          place = λ d. absurd (false≢true (sym (not_full a) ∙ ap is_done (sym p) ∙ d));
-        }
+      pub not_sent : {x : SendError} → epoch_answer s e t n ≡ Err x → Err x ≡ placed (save_answer s f room kept e t n) p
+      not_sent h = ap (λ (a : SendAnswer). placed a p) (sym (answer-by h refl))
+
+      module _ (h : epoch_answer s e t n ≡ Ok tt) where
+        pub flight_full : 12 ≤ f.saved → Err FlightFull ≡ placed (save_answer s f room kept e t n) p
+        flight_full g = ap (λ (a : SendAnswer). placed a p) (sym (answer-by h (if_true _ _ (le-leb 12 f.saved g))))
+
+        pub then_placed : f.saved < 12 → {v : Result Place SendError} → v ≡ placed (room_answer s e n) p → v ≡ placed (save_answer s f room kept e t n) p
+        then_placed g v = v ∙ ap (λ (a : SendAnswer). placed a p) (sym (answer-by h (if_false _ _ (lt-leb _ _ g))))
 
 -- ---- an entry written
 

@@ -6,38 +6,20 @@ ghost use Rattle.std.specs.Prelude.{◌≡◌, ◌<◌, length, get_or};
 ghost use Rattle.send_keys.specs.Keys.{next_of};
 ghost use Rattle.outgoing.specs.Send.{spot_of, laid_state, laid_memory, Clear};
 ghost use Rattle.flight.specs.Flight.{counted};
+ghost use Rattle.flight.specs.Save.{save_answer};
 ghost use Rattle.send_words.specs.Words.{state_of};
 ghost use Rattle.send_words.specs.Partly.{Partly};
+ghost use Rattle.send_steps.specs.Steps.{placed};
 ghost use Rattle.flight_words.specs.Words as flights;
-ghost use Rattle.save_steps.specs.Save.{full_answer, Judged, Adds, Saves};
+ghost use Rattle.save_steps.specs.Save.{Adds, Saves};
 
 use flight::Entry;
 use flight_words::SAVED;
 use queue::Place;
-use send_keys::SendAnswer;
-use send_steps::Verdict;
+use send_keys::SendError;
 use send_words::MTU;
 
-// The answer where the flight is full: that comes before a full queue and spent numbers.
-fn full_answer(a: SendAnswer) -> SendAnswer
-    ensures { result ≡ full_answer a }
-{
-    match a {
-        SendAnswer::Done => SendAnswer::FlightFull,
-        SendAnswer::OutOfRange => SendAnswer::OutOfRange,
-        SendAnswer::BadEpoch => SendAnswer::BadEpoch,
-        SendAnswer::BadRecord => SendAnswer::BadRecord,
-        SendAnswer::KeysAbsent => SendAnswer::KeysAbsent,
-        SendAnswer::MessagesSpent => SendAnswer::MessagesSpent,
-        SendAnswer::FlightFull => SendAnswer::FlightFull,
-        SendAnswer::QueueFull => SendAnswer::FlightFull,
-        SendAnswer::NumbersSpent => SendAnswer::FlightFull,
-        SendAnswer::HistoryFull => SendAnswer::HistoryFull,
-        SendAnswer::SealingWaits => SendAnswer::SealingWaits,
-    }
-}
-
-// Whether a record can be sent and saved behind so many, or why not; and where it goes if it can.
+// Where a record goes, or why it cannot be sent and saved behind so many.
 pub fn save_answer(
     w: &[u64; send_words::WORDS],
     saved: usize,
@@ -46,21 +28,20 @@ pub fn save_answer(
     epoch: u16,
     t: u8,
     n: usize,
-) -> Verdict
-    ensures { Judged result (state_of w.now) (counted saved) room kept epoch t n }
+) -> Result<Place, SendError>
+    ensures { result ≡ placed (save_answer (state_of w.now) (counted saved) room kept epoch t n) (spot_of (state_of w.now) epoch n) }
 {
     if !send_steps::is_ready(w, room) {
-        return send_steps::refused(SendAnswer::OutOfRange);
+        return Err(SendError::OutOfRange);
     }
     if !flight::has_room(saved, w[MTU] as usize, kept) {
-        return send_steps::refused(SendAnswer::OutOfRange);
+        return Err(SendError::OutOfRange);
     }
-    let v = send_steps::send_answer(w, room, epoch, t, n);
-    if saved < 12 {
-        return v;
+    send_steps::epoch_answer(w, epoch, t, n)?;
+    if 12 <= saved {
+        return Err(SendError::FlightFull);
     }
-    let a = v.answer;
-    send_steps::refused(full_answer(a))
+    send_steps::place_for(w, epoch, n)
 }
 
 // A record more is saved: its entry, and the count.
@@ -68,7 +49,6 @@ fn put_saved(f: &mut [u64; flight_words::WORDS], t: u8, epoch: u16, number: u64,
     requires { get_or f.old flights.saved-at 0 < 12 }
     ensures { Adds t epoch number n f.old f.new }
 {
-    flight_words::sized(f);
     let saved = f[SAVED];
     flight_words::put_entry(
         f,
@@ -112,20 +92,15 @@ pub fn send_saved(
     content: &[u8],
     memory: &mut [u8],
     kept: &mut [u8],
-) -> SendAnswer
+) -> Result<(), SendError>
     ensures { Saves result epoch t content.now w.old w.new f.old f.new memory.old memory.new kept.old kept.new }
 {
     let n = content.len();
     let saved = f[SAVED] as usize;
-    let v = save_answer(w, saved, memory.len(), kept.len(), epoch, t, n);
-    let a = v.answer;
-    let p = v.place;
-    if send_keys::is_done(a) {
-        let at = saved * (w[MTU] as usize);
-        let end = at + n;
-        base::move_bytes(content, &mut kept[at..end]);
-        lay_saved(w, f, p, epoch, t, content, memory);
-        return a;
-    }
-    a
+    let p = save_answer(w, saved, memory.len(), kept.len(), epoch, t, n)?;
+    let at = saved * (w[MTU] as usize);
+    let end = at + n;
+    base::move_bytes(content, &mut kept[at..end]);
+    lay_saved(w, f, p, epoch, t, content, memory);
+    Ok(())
 }

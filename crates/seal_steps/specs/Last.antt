@@ -1,5 +1,5 @@
 -- Nothing is queued behind the oldest record that waits: then the search finds none. Assumes nothing.
-use Rattle.std.specs.Prelude.{Bool, true, List, ◌≡◌, refl, ℕ, suc, ◌+◌, ◌-◌, ◌<◌, leb, get_or}
+use Rattle.std.specs.Prelude.{Bool, true, List, ◌≡◌, ℕ, suc, ◌+◌, ◌-◌, ◌<◌, leb, get_or}
 use Rattle.std.proofs.Common.{ap, ◌∙◌, arith, lt-ltb, le-ltb, leb-true, leb-false}
 use Rattle.base.specs.Choose.{by_test, both, both_left, both_right, test_cases, if_true, if_false}
 use Rattle.queue.specs.declared.Queue.{Queue}
@@ -38,20 +38,17 @@ slot-nth first limit slot f s =
     if_false _ _ (le-ltb (first + nth_of first limit slot) limit (omega arith)) ∙ r)
 
 -- past the last datagram the search is over
-over : (q : Queue) (d : List ℕ) (c : Search) (k : ℕ) → leb q.count c.datagram ≡ true → seek (suc k) q d (seek_step q d c) ≡ no_waiting
+over : (q : Queue) (d : List ℕ) (c : Search) (k : ℕ) → leb q.count c.datagram ≡ true → seek (suc k) q d c ≡ no_waiting
 unfolding seek_step
-over q d c k e =
-    let r : Search = record { done = true; datagram = c.datagram; offset = c.offset; found = no_waiting } in
-    ap (seek (suc k) q d) (if_true _ _ e) ∙ seek-done q d r k refl
+over q d c k e = seek-done q d c k (if_true _ _ e)
 
-pub last_none : (s : Sending) (d : List ℕ) → Held s → is_last s ≡ true → seek 2000 s.queue d (behind_oldest s) ≡ no_waiting
+pub last_none : (s : Sending) (d : List ℕ) → Held s → is_last s ≡ true → seek 1999 s.queue d (behind_oldest s) ≡ no_waiting
 unfolding is_last behind_oldest seek_step beyond
 last_none s d held h =
     let q = s.queue in
     let c = behind_oldest s in
     let slot = slot-nth q.first q.limit s.waiting.slot held.range.first held.slot in
-    seek-on q d c 1999 refl
-    ∙ test_cases (leb q.count c.datagram) (λ t. over q d c 1998 t)
+    test_cases (leb q.count c.datagram) (λ t. over q d c 1998 t)
     (λ t.
     let e : seek_step q d c ≡ beyond c = if_false _ _ t ∙ ap (λ (k : ℕ). step_in q d k c) slot ∙ if_true _ _ (both_right _ _ h) in
-    ap (seek 1999 q d) e ∙ seek-on q d (beyond c) 1998 refl ∙ over q d (beyond c) 1997 (both_left _ _ h))
+    seek-on q d c 1998 e ∙ over q d (record { datagram = c.datagram + 1; offset = 0 }) 1997 (both_left _ _ h))

@@ -5,21 +5,17 @@ use Rattle.std.proofs.Math.Path.{ap}
 use native.Mathlib.Omega.{arith}
 use Rattle.std.proofs.Math.ListN.{get_or}
 use borrow.Author.Tests.{lt-ltb, le-ltb, lt-leb, le-leb, eq-eqb, ne_eqb, eqb-false}
+use Rattle.std.specs.declared.ops.ControlFlow.TheVariants.{Break}
 use Rattle.base.specs.Bytes.{be_at}
 use Rattle.base.specs.Choose.{by_test, if_true, if_false, both_true, both_false}
 use Rattle.record.specs.declared.Parsed.{Parsed}
 use Rattle.record.specs.Record.{plain_head, sealed_head, sealed_tail, parsed, parse_ciphertext, parse_plaintext, header_length, fragment_len, ciphertext_of, c_flag_of}
 use Rattle.sealing.specs.declared.Search.{Search}
-use Rattle.sealing.specs.Seek.{beyond, passed, found_at, step_of}
+use Rattle.sealing.specs.Seek.{Step, beyond, passed, found_at, step_of}
 
 -- a record of n bytes behind its header that waits
-abbrev pub waits : List ℕ → ℕ → ℕ → Search → Search
-waits d n slot c = record {
-  done = true;
-  datagram = c.datagram;
-  offset = c.offset;
-  found = record { any = true; slot = slot; start = c.offset; length = n; epoch = be_at 2 d (n - 11); number = be_at 6 d (n - 9) };
-}
+abbrev pub waits : List ℕ → ℕ → ℕ → Search → Step
+waits d n slot c = Break (record { any = true; slot = slot; start = c.offset; length = n; epoch = be_at 2 d (n - 11); number = be_at 6 d (n - 9) })
 
 pub nothing_read : (d : List ℕ) (slot : ℕ) (c : Search) → length d ≡ 0 → step_of (parsed d) d slot c ≡ beyond c
 unfolding parsed step_of

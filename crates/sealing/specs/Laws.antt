@@ -7,8 +7,7 @@ use Rattle.base.specs.Choose.{both_left, both_right, if_true, if_false}
 use Rattle.base.specs.Parts.{part, splice, splice-here, splice-before, splice-after}
 use Rattle.outgoing.specs.declared.Sending.{Sending}
 use Rattle.record.specs.Record.{sealed_head}
-use Rattle.sealing.specs.declared.SealAnswer.{SealAnswer}
-use Rattle.sealing.specs.Sealing.{is_asked, is_put, part_start, put_memory, masked_header, is_sealed, seal_answer, sealed_state, sealed_memory, asked-held, sealed-held, part-fits, length-masked}
+use Rattle.sealing.specs.Sealing.{SealAnswer, is_asked, is_put, part_start, put_memory, masked_header, is_sealed, seal_answer, sealed_state, sealed_memory, asked-held, sealed-held, part-fits, length-masked}
 
 -- sealed bytes are found where they were written; the queue's bytes in front of them and behind them stay as they were
 module _ (s : Sending) (v q : List ℕ) (h : is_put s (length v) (length q) ≡ true) where

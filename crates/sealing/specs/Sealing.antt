@@ -1,6 +1,6 @@
 -- The sealing question, what is lent for it, and the reply (01: "Sealings are asked oldest first and never cancelled"; refusals 12, 15).
 -- Assumes nothing.
-use Rattle.std.specs.Prelude.{Bool, true, false, List, [], ◌∷◌, ◌++◌, ◌≡◌, refl, ℕ, ◌+◌, ◌-◌, ◌*◌, ◌%◌, ◌<◌, ◌≤◌, ltb, leb, eqb, length, replicate}
+use Rattle.std.specs.Prelude.{Bool, true, false, List, [], ◌∷◌, ◌++◌, ◌≡◌, refl, ℕ, ◌+◌, ◌-◌, ◌*◌, ◌%◌, ◌<◌, ◌≤◌, ltb, leb, eqb, length, Option, Some, None, Result, Ok, Err, ⊤}
 use Rattle.std.proofs.lemmas.Bool.{false≢true}
 use Rattle.std.proofs.Common.{sym, ap, ◌∙◌, mul-le-mul, mul-le-mul_right, arith, ltb-true, leb-true}
 use borrow.Rule.Slice.PartMut.{put_mid}
@@ -13,21 +13,27 @@ use Rattle.queue.specs.Queue.{is_sound, is_ready, InRange, ready}
 use Rattle.send_keys.specs.Keys.{iv_of, sealed_up_to}
 use Rattle.outgoing.specs.declared.Waiting.{Waiting}
 use Rattle.outgoing.specs.declared.Sending.{Sending}
-use Rattle.outgoing.specs.State.{no_waiting, with_waiting, with_keys}
+use Rattle.outgoing.specs.State.{with_waiting, with_keys}
 use Rattle.sealing.specs.declared.Search.{Search}
-use Rattle.sealing.specs.declared.SealQuestion.{SealQuestion}
-use Rattle.sealing.specs.declared.SealQuestion.TheVariants as ask
-use Rattle.sealing.specs.declared.Question.{Question}
-use Rattle.sealing.specs.declared.SealAnswer.{SealAnswer}
-use Rattle.sealing.specs.declared.SealAnswer.TheVariants as reply
+use Rattle.sealing.specs.declared.Seal.{Seal}
+use Rattle.sealing.specs.declared.SealError.{SealError}
+use Rattle.sealing.specs.declared.SealError.TheVariants as reply
 use Rattle.sealing.specs.declared.Reply.{Reply}
 use Rattle.sealing.specs.Seek.{nth_of, seek}
 
+-- what a reply is answered
+abbrev pub SealAnswer : Type 0
+SealAnswer = Result ⊤ SealError
+
+-- what the host is asked: a record to seal; none waits; or why not
+abbrev pub Asked : Type 0
+Asked = Result (Option Seal) SealError
+
 -- the paper's number of each answer; 0 where it is done
 abbrev pub refusal : SealAnswer → ℕ
-refusal reply.Done = 0
-refusal reply.OutOfRange = 12
-refusal reply.NoQuestion = 15
+refusal (Ok u) = 0
+refusal (Err reply.OutOfRange) = 12
+refusal (Err reply.NoQuestion) = 15
 
 -- the oldest record that waits lies in a slot, header, content type and tag with it; its number is one that is sent
 unfoldable pub is_span : Waiting → ℕ → ℕ → Bool
@@ -46,22 +52,25 @@ is_asked s room = both (is_ready s.queue room) (both (is_held s) s.waiting.any)
 unfoldable pub part_start : Sending → ℕ
 part_start s = s.waiting.slot * s.queue.mtu + s.waiting.start + sealed_head
 
-abbrev pub nothing_asked : SealQuestion → Question
-nothing_asked q = record { question = q; nonce = replicate 12 0; header = replicate sealed_head 0 }
-
 -- "The question names epoch, number, nonce and unmasked header"
-abbrev pub asked : Sending → Question
-asked s = record {
-  question = ask.Seal s.waiting.epoch s.waiting.number (part_start s) s.waiting.length;
+abbrev pub seal_of : Sending → Seal
+seal_of s = record {
+  epoch = s.waiting.epoch;
+  number = s.waiting.number;
+  start = part_start s;
+  length = s.waiting.length;
   nonce = nonce_of (iv_of s.keys s.waiting.epoch) s.waiting.number;
   header = unified_header s.waiting.epoch s.waiting.number s.waiting.length;
 }
 
-unfoldable pub question_of : Sending → Question
+abbrev pub asked : Sending → Asked
+asked s = Ok (Some (seal_of s))
+
+unfoldable pub question_of : Sending → Asked
 question_of s =
     choose (is_sound s.queue)
-    (choose (is_held s) (choose s.waiting.any (asked s) (nothing_asked ask.Nothing)) (nothing_asked ask.OutOfRange))
-    (nothing_asked ask.OutOfRange)
+    (choose (is_held s) (choose s.waiting.any (asked s) (Ok None)) (Err reply.OutOfRange))
+    (Err reply.OutOfRange)
 
 -- what the host is lent
 unfoldable pub part_of : Sending → List ℕ → List ℕ
@@ -81,10 +90,8 @@ masked_header e n len mask = (0x2C + e % 4) ∷ xors mask 0 (be 2 n) ++ be 2 len
 -- the search for the next one begins behind it
 unfoldable pub behind_oldest : Sending → Search
 behind_oldest s = record {
-  done = false;
   datagram = nth_of s.queue.first s.queue.limit s.waiting.slot;
   offset = s.waiting.start + sealed_head + s.waiting.length;
-  found = no_waiting;
 }
 
 -- 12; 15: "reply that answers no waiting question or has the wrong length"
@@ -92,18 +99,17 @@ unfoldable pub seal_answer : Sending → ℕ → ℕ → SealAnswer
 seal_answer s room n =
     choose (is_ready s.queue room)
     (choose (is_held s)
-    (choose s.waiting.any (choose (eqb n s.waiting.length) reply.Done reply.NoQuestion) reply.NoQuestion)
-    reply.OutOfRange)
-    reply.OutOfRange
+    (choose s.waiting.any (choose (eqb n s.waiting.length) (Ok tt) (Err reply.NoQuestion)) (Err reply.NoQuestion))
+    (Err reply.OutOfRange))
+    (Err reply.OutOfRange)
 
 abbrev pub is_sealed : SealAnswer → Bool
-is_sealed reply.Done = true
-is_sealed reply.OutOfRange = false
-is_sealed reply.NoQuestion = false
+is_sealed (Ok u) = true
+is_sealed (Err e) = false
 
 -- the next one waits, and the number is sealed
 abbrev pub after_sealing : Sending → List ℕ → Sending
-after_sealing s q = with_waiting (with_keys s (sealed_up_to s.keys s.waiting.epoch s.waiting.number)) (seek 2000 s.queue q (behind_oldest s))
+after_sealing s q = with_waiting (with_keys s (sealed_up_to s.keys s.waiting.epoch s.waiting.number)) (seek 1999 s.queue q (behind_oldest s))
 
 unfoldable pub sealed_state : SealAnswer → Sending → List ℕ → Reply
 sealed_state a s q = record { answer = a; state = choose (is_sealed a) (after_sealing s q) s }

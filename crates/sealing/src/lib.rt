@@ -4,10 +4,11 @@
 ghost use Rattle.std.specs.Prelude.{◌≡◌, ◌+◌, ◌-◌, ◌/◌, ◌≤◌, ◌<◌, length, get_or};
 ghost use Rattle.record.specs.Record.{parsed};
 ghost use Rattle.sealing.specs.Seek.{nth_of, beyond, passed, step_of};
-ghost use Rattle.sealing.specs.Sealing.{refusal, is_span, nothing_asked, masked_header, is_sealed};
+ghost use Rattle.sealing.specs.Sealing.{refusal, is_span, masked_header};
 
 use outgoing::{Sending, Waiting};
 use record::{LAST_NUMBER, PLAINTEXT_HEADER_LEN, SEALED_HEADER_LEN, SEALED_TAIL_LEN, TAG_LEN};
+use std::ops::ControlFlow;
 
 // Of a record with n bytes behind its header, the tag begins at n less this, and the number in its place two bytes on.
 const TAG_BEHIND: usize = TAG_LEN - SEALED_HEADER_LEN;
@@ -16,54 +17,46 @@ const NUMBER_BEHIND: usize = TAG_BEHIND - 2;
 // Where a plaintext header has its length.
 const LENGTH_AT: usize = PLAINTEXT_HEADER_LEN - 2;
 
-// A search for the next record that waits: whether it is over, the datagram and the offset that it has come to, what it found.
+// A search for the next record that waits: the datagram, counted from the front, and the offset that it has come to.
 #[derive(Clone, Copy)]
 pub struct Search {
-    pub done: bool,
     pub datagram: usize,
     pub offset: usize,
-    pub found: Waiting,
 }
 
-// What the host is asked.
-#[derive(Clone, Copy)]
-pub enum SealQuestion {
-    OutOfRange,
-    // No record waits.
-    Nothing,
-    // A record's full epoch and number, and the place in the queue of what is to be sealed.
-    Seal {
-        epoch: u16,
-        number: u64,
-        start: usize,
-        length: usize,
-    },
-}
+// A step ends the search with what it found, or leaves it at a place.
+pub type Step = ControlFlow<Waiting, Search>;
 
-#[derive(Clone, Copy)]
-pub struct Question {
-    pub question: SealQuestion,
-    pub nonce: [u8; 12],
-    pub header: [u8; SEALED_HEADER_LEN],
-}
-
-#[derive(Clone, Copy)]
-pub enum SealAnswer {
-    Done,
+// Why the host is asked nothing, or its reply is not taken.
+#[derive(Clone, Copy, Debug, PartialEq, Eq)]
+pub enum SealError {
     OutOfRange,
     // No sealing waits, or the length is another.
     NoQuestion,
 }
 
+// What the host is asked to seal: a record's full epoch and number, nonce, header with its number not masked, and the place in the queue
+// of what is to be sealed.
+#[derive(Clone, Copy)]
+pub struct Seal {
+    pub epoch: u16,
+    pub number: u64,
+    pub start: usize,
+    pub length: usize,
+    pub nonce: [u8; 12],
+    pub header: [u8; SEALED_HEADER_LEN],
+}
+
 #[derive(Clone, Copy)]
 pub struct Reply {
-    pub answer: SealAnswer,
+    pub answer: Result<(), SealError>,
     pub state: Sending,
 }
 
 // ---- the next record that waits
 
 // Which datagram, counted from the front, a slot has.
+#[tactic(auto, unfolding(crate::specs::Seek::nth_of, base::specs::Choose::choose))]
 pub fn nth_of(first: usize, limit: usize, slot: usize) -> usize
     requires { (first < limit) × (slot < limit) × (limit ≤ 16) }
     ensures { (result ≡ nth_of first limit slot) × (result < limit) }
@@ -75,21 +68,19 @@ pub fn nth_of(first: usize, limit: usize, slot: usize) -> usize
 }
 
 // The search goes on in the next datagram.
-pub fn go_beyond(c: Search) -> Search
+#[tactic(auto, unfolding(crate::specs::Seek::beyond))]
+pub fn go_beyond(c: Search) -> Step
     requires { c.datagram ≤ 16 }
     ensures { result ≡ beyond c }
 {
-    let found = c.found;
-    Search {
-        done: false,
+    ControlFlow::Continue(Search {
         datagram: c.datagram + 1,
         offset: 0,
-        found: found,
-    }
+    })
 }
 
 // A sealed record as it is laid is met: it waits, with its epoch and number in the tag's place.
-fn found_at(d: &[u8], slot: usize, c: Search) -> Search
+fn found_at(d: &[u8], slot: usize, c: Search) -> Step
     requires { (0 < length d.now) × (get_or d.now 0 0 / 4 ≡ 11) × (c.datagram ≤ 16) }
     ensures { result ≡ step_of (parsed d.now) d.now slot c }
 {
@@ -97,7 +88,7 @@ fn found_at(d: &[u8], slot: usize, c: Search) -> Search
     if size < SEALED_HEADER_LEN {
         return go_beyond(c);
     }
-    let n = base::be16(d, 3) as usize;
+    let n = base::be::<2>(d, 3) as usize;
     if size - SEALED_HEADER_LEN < n {
         return go_beyond(c);
     }
@@ -105,39 +96,32 @@ fn found_at(d: &[u8], slot: usize, c: Search) -> Search
     if short {
         return go_beyond(c);
     }
-    let epoch = base::be16(d, n - TAG_BEHIND) as u16;
-    let number = base::be48(d, n - NUMBER_BEHIND);
-    Search {
-        done: true,
-        datagram: c.datagram,
-        offset: c.offset,
-        found: Waiting {
-            any: true,
-            slot: slot,
-            start: c.offset,
-            length: n,
-            epoch: epoch,
-            number: number,
-        },
-    }
+    let epoch = base::be::<2>(d, n - TAG_BEHIND) as u16;
+    let number = base::be::<6>(d, n - NUMBER_BEHIND);
+    ControlFlow::Break(Waiting {
+        any: true,
+        slot,
+        start: c.offset,
+        length: n,
+        epoch,
+        number,
+    })
 }
 
 // The record at the search's offset is passed.
-fn go_past(c: Search, n: usize) -> Search
+#[tactic(auto, unfolding(crate::specs::Seek::passed))]
+fn go_past(c: Search, n: usize) -> Step
     requires { (c.offset ≤ 65535) × (n ≤ 65535) }
     ensures { result ≡ passed c n }
 {
-    let found = c.found;
-    Search {
-        done: false,
+    ControlFlow::Continue(Search {
         datagram: c.datagram,
         offset: c.offset + (PLAINTEXT_HEADER_LEN + n),
-        found: found,
-    }
+    })
 }
 
 // A record in plaintext is met.
-fn plain_at(d: &[u8], slot: usize, c: Search) -> Search
+fn plain_at(d: &[u8], slot: usize, c: Search) -> Step
     requires { (0 < length d.now) × (get_or d.now 0 0 / 32 ≡ 1 → ⊥) × (length d.now ≤ 65535) × (c.offset ≤ 65535) × (c.datagram ≤ 16) }
     ensures { result ≡ step_of (parsed d.now) d.now slot c }
 {
@@ -145,7 +129,7 @@ fn plain_at(d: &[u8], slot: usize, c: Search) -> Search
     if size < PLAINTEXT_HEADER_LEN {
         return go_beyond(c);
     }
-    let n = base::be16(d, LENGTH_AT) as usize;
+    let n = base::be::<2>(d, LENGTH_AT) as usize;
     if size - PLAINTEXT_HEADER_LEN < n {
         return go_beyond(c);
     }
@@ -154,7 +138,7 @@ fn plain_at(d: &[u8], slot: usize, c: Search) -> Search
 
 // What lies at the search's place means to it. The record's first bytes tell: 0x2C to 0x2F begins a sealed record as it is laid, any
 // other from 0x20 to 0x3F none that waits.
-pub fn step_of(d: &[u8], slot: usize, c: Search) -> Search
+pub fn step_of(d: &[u8], slot: usize, c: Search) -> Step
     requires { (length d.now ≤ 65535) × (c.offset ≤ 65535) × (c.datagram ≤ 16) }
     ensures { result ≡ step_of (parsed d.now) d.now slot c }
 {
@@ -174,41 +158,23 @@ pub fn step_of(d: &[u8], slot: usize, c: Search) -> Search
 // ---- the question
 
 // Whether the oldest record that waits lies in a slot, and its number is one that is sent.
+#[tactic(auto, unfolding(crate::specs::Sealing::is_span, base::specs::Choose::both))]
 pub fn is_span(w: Waiting, mtu: usize, limit: usize) -> bool
     requires { mtu ≤ 1500 }
     ensures { result ≡ is_span w mtu limit }
 {
-    if limit <= w.slot {
-        return false;
-    }
-    if w.length < SEALED_TAIL_LEN {
-        return false;
-    }
-    if mtu < w.start {
-        return false;
-    }
-    if mtu < w.length {
-        return false;
-    }
-    if mtu < w.start + SEALED_HEADER_LEN + w.length {
-        return false;
-    }
-    w.number < LAST_NUMBER
-}
-
-pub fn nothing(q: SealQuestion) -> Question
-    ensures { result ≡ nothing_asked q }
-{
-    Question {
-        question: q,
-        nonce: [0; 12],
-        header: [0; SEALED_HEADER_LEN],
-    }
+    w.slot < limit
+        && SEALED_TAIL_LEN <= w.length
+        && w.start <= mtu
+        && w.length <= mtu
+        && w.start + SEALED_HEADER_LEN + w.length <= mtu
+        && w.number < LAST_NUMBER
 }
 
 // ---- the reply
 
 // The header of a record with the mask on its number.
+#[tactic(auto, unfolding(crate::specs::Sealing::masked_header))]
 pub fn masked_header(epoch: u16, number: u64, length: u16, mask: [u8; 2]) -> [u8; SEALED_HEADER_LEN]
     ensures { result ≡ masked_header epoch number length mask }
 {
@@ -222,22 +188,12 @@ pub fn masked_header(epoch: u16, number: u64, length: u16, mask: [u8; 2]) -> [u8
 }
 
 // The number of an answer; 0 where a reply is taken.
-pub fn refusal(a: SealAnswer) -> u8
+pub fn refusal(a: Result<(), SealError>) -> u8
     ensures { result ≡ refusal a }
 {
     match a {
-        SealAnswer::Done => 0,
-        SealAnswer::OutOfRange => 12,
-        SealAnswer::NoQuestion => 15,
-    }
-}
-
-pub fn is_sealed(a: SealAnswer) -> bool
-    ensures { result ≡ is_sealed a }
-{
-    match a {
-        SealAnswer::Done => true,
-        SealAnswer::OutOfRange => false,
-        SealAnswer::NoQuestion => false,
+        Ok(()) => 0,
+        Err(SealError::OutOfRange) => 12,
+        Err(SealError::NoQuestion) => 15,
     }
 }

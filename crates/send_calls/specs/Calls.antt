@@ -1,6 +1,6 @@
 -- The calls of the sending side's C interface: each is the call on the state that the words stand for. Words that stand for none are
 -- refused by 12, and state and memory stay.
-use Rattle.std.specs.Prelude.{true, false, List, [], ◌∷◌, ◌≡◌, refl, ℕ, ◌*◌, replicate, length, set}
+use Rattle.std.specs.Prelude.{true, false, List, [], ◌∷◌, ◌≡◌, refl, ℕ, ◌*◌, replicate, length, set, Some, None, Ok, Err}
 use Rattle.std.proofs.Math.Path.{sym}
 use Rattle.std.proofs.Common.{ap, ◌∙◌, arith, ltb-true}
 use Rattle.base.specs.Choose.{choose, if_true, if_false, both_true, by_test}
@@ -9,25 +9,21 @@ use Rattle.send_keys.specs.Keys as keying
 use Rattle.outgoing.specs.State.{no_waiting, fresh_sending, started, keying_state}
 use Rattle.outgoing.specs.declared.Sending.{Sending}
 use Rattle.outgoing.specs.declared.Sent.{Sent}
-use Rattle.outgoing.specs.declared.Keying.{Keying}
 use Rattle.sealing.specs.Sealing as sealings
-use Rattle.sealing.specs.declared.Question.{Question}
-use Rattle.sealing.specs.declared.SealQuestion.{SealQuestion}
-use Rattle.sealing.specs.declared.SealQuestion.TheVariants as ask
+use Rattle.sealing.specs.Sealing.{Asked}
 use Rattle.sealing.specs.declared.Reply.{Reply}
+use Rattle.taking.specs.Take.{TakeAnswer}
 use Rattle.taking.specs.declared.Take.{Take}
-use Rattle.taking.specs.declared.TakeAnswer.{TakeAnswer}
-use Rattle.taking.specs.declared.TakeAnswer.TheVariants as take
+use Rattle.taking.specs.declared.TakeError.TheVariants as take
 use Rattle.words.specs.Packed.{iv_of}
 use Rattle.send_words.specs.Words.{words, mtu-at, limit-at, lows_from, state_of, is_flat}
 use Rattle.send_words.specs.Laws.{slot-length}
-use Rattle.send_words.specs.Partly.{Partly}
 use Rattle.queue.specs.Queue.{is_setting, ready}
-use Rattle.take_steps.specs.Front.{front_start}
-use Rattle.send_keys.specs.declared.SendAnswer.{SendAnswer}
-use Rattle.outgoing.specs.Send.{send_answer, send_state, send_memory, laid_state, laid_memory}
+use Rattle.take_steps.specs.Front.{front_of, told, begins}
+use Rattle.outgoing.specs.Send.{send_answer, send_state, send_memory}
 use Rattle.taking.specs.Take as takes
-use Rattle.send_keys.specs.Answer.{is_done, refusal}
+use Rattle.send_steps.specs.Sends as steps
+use Rattle.send_keys.specs.Answer.{SendAnswer, refusal}
 use Rattle.send_calls.specs.declared.HuskSealing.{HuskSealing}
 use Rattle.send_calls.specs.declared.HuskTake.{HuskTake}
 use Rattle.send_calls.specs.declared.HuskPart.{HuskPart}
@@ -44,31 +40,31 @@ either w x y = choose (is_flat w) x y
 abbrev pub no_sealing : ℕ → ℕ → HuskSealing
 no_sealing kind n = record { kind = kind; refusal = n; epoch = 0; number = 0; start = 0; length = 0; nonce = replicate 12 0; header = replicate 5 0 }
 
-abbrev pub flat_sealing : SealQuestion → List ℕ → List ℕ → HuskSealing
-flat_sealing ask.OutOfRange v h = no_sealing 0 12
-flat_sealing ask.Nothing v h = no_sealing 1 0
-flat_sealing (ask.Seal e n s l) v h = record { kind = 2; refusal = 0; epoch = e; number = n; start = s; length = l; nonce = v; header = h }
+abbrev pub flat_sealing : Asked → HuskSealing
+flat_sealing (Ok (Some x)) = record { kind = 2; refusal = 0; epoch = x.epoch; number = x.number; start = x.start; length = x.length; nonce = x.nonce; header = x.header }
+flat_sealing (Ok None) = no_sealing 1 0
+flat_sealing (Err x) = no_sealing 0 (sealings.refusal (Err x))
 
 abbrev pub no_take : ℕ → ℕ → ℕ → HuskTake
 no_take kind n len = record { kind = kind; refusal = n; length = len }
 
 abbrev pub flat_take : TakeAnswer → HuskTake
-flat_take (take.Taken n) = no_take 2 0 n
-flat_take take.OutOfRange = no_take 0 12 0
-flat_take take.Nothing = no_take 1 0 0
-flat_take take.Unsealed = no_take 0 23 0
-flat_take (take.Short n) = no_take 0 16 n
+flat_take (Ok (Some n)) = no_take 2 0 n
+flat_take (Err take.OutOfRange) = no_take 0 12 0
+flat_take (Ok None) = no_take 1 0 0
+flat_take (Err take.Unsealed) = no_take 0 23 0
+flat_take (Err (take.Short n)) = no_take 0 16 n
 
 abbrev pub no_part : ℕ → ℕ → HuskPart
 no_part kind n = record { kind = kind; refusal = n; start = 0; length = 0 }
 
 -- a datagram that is taken begins at start
 abbrev pub flat_part : TakeAnswer → ℕ → HuskPart
-flat_part (take.Taken n) start = record { kind = 2; refusal = 0; start = start; length = n }
-flat_part take.OutOfRange start = no_part 0 12
-flat_part take.Nothing start = no_part 1 0
-flat_part take.Unsealed start = no_part 0 23
-flat_part (take.Short n) start = no_part 0 16
+flat_part (Ok (Some n)) start = record { kind = 2; refusal = 0; start = start; length = n }
+flat_part (Err take.OutOfRange) start = no_part 0 12
+flat_part (Ok None) start = no_part 1 0
+flat_part (Err take.Unsealed) start = no_part 0 23
+flat_part (Err (take.Short n)) start = no_part 0 16
 
 -- ---- w before a call, v behind it, k what the definition makes of the state
 
@@ -79,11 +75,11 @@ After v w s = (state_of v ≡ choose (is_flat w) s (state_of w)) × (is_flat v �
 abbrev pub Sends : ℕ → List ℕ → List ℕ → Sent → Type 0
 Sends r v w k = (r ≡ choose (is_flat w) (refusal k.answer) 12) × After v w k.state
 
-abbrev pub Keys : ℕ → List ℕ → List ℕ → Keying → Type 0
+abbrev pub Keys : ℕ → List ℕ → List ℕ → Sent → Type 0
 Keys r v w k = (r ≡ choose (is_flat w) (refusal k.answer) 12) × After v w k.state
 
-abbrev pub Seals : List ℕ → Question → HuskSealing
-Seals w k = choose (is_flat w) (flat_sealing k.question k.nonce k.header) (no_sealing 0 12)
+abbrev pub Seals : List ℕ → Asked → HuskSealing
+Seals w k = choose (is_flat w) (flat_sealing k) (no_sealing 0 12)
 
 abbrev pub Takes : ℕ → List ℕ → List ℕ → Reply → Type 0
 Takes r v w k = (r ≡ choose (is_flat w) (sealings.refusal k.answer) 12) × After v w k.state
@@ -152,26 +148,18 @@ module _ (mtu limit : ℕ) where
 
 -- ---- a record laid, or refused
 
-module _ {r : ℕ} (w : List ℕ) (a : SendAnswer) (e t : ℕ) (c q : List ℕ) (f : is_flat w ≡ true) (g : r ≡ refusal a) where
-  pub sends-laid : (v p : List ℕ) → is_done a ≡ true → Partly (laid_state (state_of w) e (length c)) w v → p ≡ laid_memory (state_of w) e t c q
-      → Sends r v w (send_state a (state_of w) e (length c)) × (p ≡ either w (send_memory a (state_of w) e t c q) q)
-  unfolding send_state send_memory
-  sends-laid v p d l m =
-      ((g ∙ sym (if_true _ _ f), (l.0 ∙ sym (if_true _ _ d) ∙ sym (if_true _ _ f), l.1 f ∙ sym f)), m ∙ sym (if_true _ _ d) ∙ sym (if_true _ _ f))
-
-  pub sends-nothing : is_done a ≡ false → Sends r w w (send_state a (state_of w) e (length c)) × (q ≡ either w (send_memory a (state_of w) e t c q) q)
-  unfolding send_state send_memory
-  sends-nothing d =
-      ((g ∙ sym (if_true _ _ f), (sym (if_false _ _ d) ∙ sym (if_true _ _ f), refl)), sym (if_false _ _ d) ∙ sym (if_true _ _ f))
+pub sends : {r e t : ℕ} {a : SendAnswer} {w v c q p : List ℕ} → is_flat w ≡ true → r ≡ refusal a → steps.Sends a e t c w v q p → SendCall r v w e t c p q
+unfolding send_state
+sends f g y = rw (← y.answer) ((g ∙ sym (if_true _ _ f), (y.state ∙ sym (if_true _ _ f), y.flat f ∙ sym f)), y.memory ∙ sym (if_true _ _ f))
 
 -- ---- a datagram taken in place
 
-pub part_at : (a : TakeAnswer) (s : Sending) → flat_part a (front_start a s) ≡ flat_part a (s.queue.first * s.queue.mtu)
-part_at (take.Taken n) s = ap (flat_part (take.Taken n)) (if_true _ _ refl)
-part_at take.OutOfRange s = refl
-part_at take.Nothing s = refl
-part_at take.Unsealed s = refl
-part_at (take.Short n) s = refl
+pub part_at : (a : TakeAnswer) (s : Sending) → flat_part (told (front_of a s)) (begins (front_of a s)) ≡ flat_part a (s.queue.first * s.queue.mtu)
+part_at (Ok (Some n)) s = refl
+part_at (Ok None) s = refl
+part_at (Err take.OutOfRange) s = refl
+part_at (Err take.Unsealed) s = refl
+part_at (Err (take.Short n)) s = refl
 
 abbrev InBuffer : Sending → List ℕ → List ℕ → TakeAnswer → Type 0
 InBuffer s q b a =

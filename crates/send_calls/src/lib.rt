@@ -3,6 +3,9 @@
 #![tactic(auto)]
 
 ghost use Rattle.std.specs.Prelude.{◌≡◌};
+ghost use Rattle.sealing.specs.Sealing as sealings;
+ghost use Rattle.send_keys.specs.Answer.{refusal};
+ghost use Rattle.take_steps.specs.Front.{told, begins};
 ghost use Rattle.send_calls.specs.Calls.{
   flat_sealing,
   no_sealing,
@@ -19,12 +22,15 @@ ghost use Rattle.send_calls.specs.Calls.{
   TakeInPlaceCall,
 };
 
-use sealing::SealQuestion;
+use sealing::{Seal, SealError};
+use send_keys::SendError;
 use send_words::{LIMIT, MTU, WORDS};
-use taking::TakeAnswer;
+use take_steps::Front;
+use taking::TakeError;
 
 // The sealing that is asked for, by kind: 0 refused by 12, 1 none waits, 2 a record's full epoch and number, nonce, header with its
 // number not masked, and the place in the queue of what is to be sealed.
+// The C interface has numbers.
 #[repr(C)]
 #[derive(Clone, Copy)]
 pub struct HuskSealing {
@@ -40,6 +46,7 @@ pub struct HuskSealing {
 
 // A datagram taken, by kind: 0 refused by 12, 16 or 23, 1 the queue is empty, 2 a datagram of so many bytes. For 16 the length is
 // what is needed.
+// The C interface has numbers.
 #[repr(C)]
 #[derive(Clone, Copy)]
 pub struct HuskTake {
@@ -50,6 +57,7 @@ pub struct HuskTake {
 
 // A datagram taken where it lies in the queue, by kind: 0 refused by 12 or 23, 1 the queue is empty, 2 a datagram of so many bytes from a
 // place of the queue on.
+// The C interface has numbers.
 #[repr(C)]
 #[derive(Clone, Copy)]
 pub struct HuskPart {
@@ -59,7 +67,7 @@ pub struct HuskPart {
     pub length: usize,
 }
 
-// ---- answers flat
+// ---- answers flat: the C interface has numbers. One maker for each of its structs, since a trait over the three is no plainer.
 
 fn no_sealing(kind: u8, refusal: u8) -> HuskSealing
     ensures { result ≡ no_sealing kind refusal }
@@ -76,27 +84,26 @@ fn no_sealing(kind: u8, refusal: u8) -> HuskSealing
     }
 }
 
-fn flat_sealing(q: SealQuestion, nonce: [u8; 12], header: [u8; 5]) -> HuskSealing
-    ensures { result ≡ flat_sealing q nonce header }
+fn flat_sealing(q: Result<Option<Seal>, SealError>) -> HuskSealing
+    ensures { result ≡ flat_sealing q }
 {
     match q {
-        SealQuestion::OutOfRange => no_sealing(0, 12),
-        SealQuestion::Nothing => no_sealing(1, 0),
-        SealQuestion::Seal {
-            epoch,
-            number,
-            start,
-            length,
-        } => HuskSealing {
-            kind: 2,
-            refusal: 0,
-            epoch: epoch,
-            number: number,
-            start: start,
-            length: length,
-            nonce: nonce,
-            header: header,
-        },
+        Ok(Some(seal)) => {
+            let nonce = seal.nonce;
+            let header = seal.header;
+            HuskSealing {
+                kind: 2,
+                refusal: 0,
+                epoch: seal.epoch,
+                number: seal.number,
+                start: seal.start,
+                length: seal.length,
+                nonce,
+                header,
+            }
+        }
+        Ok(None) => no_sealing(1, 0),
+        Err(e) => no_sealing(0, sealing::refusal(Err(e))),
     }
 }
 
@@ -110,15 +117,15 @@ fn no_take(kind: u8, refusal: u8, length: usize) -> HuskTake
     }
 }
 
-fn flat_take(a: TakeAnswer) -> HuskTake
+fn flat_take(a: Result<Option<usize>, TakeError>) -> HuskTake
     ensures { result ≡ flat_take a }
 {
     match a {
-        TakeAnswer::Taken(n) => no_take(2, 0, n),
-        TakeAnswer::OutOfRange => no_take(0, 12, 0),
-        TakeAnswer::Nothing => no_take(1, 0, 0),
-        TakeAnswer::Unsealed => no_take(0, 23, 0),
-        TakeAnswer::Short(n) => no_take(0, 16, n),
+        Ok(Some(n)) => no_take(2, 0, n),
+        Ok(None) => no_take(1, 0, 0),
+        Err(TakeError::OutOfRange) => no_take(0, 12, 0),
+        Err(TakeError::Unsealed) => no_take(0, 23, 0),
+        Err(TakeError::Short(n)) => no_take(0, 16, n),
     }
 }
 
@@ -133,97 +140,96 @@ fn no_part(kind: u8, refusal: u8) -> HuskPart
     }
 }
 
-fn flat_part(a: TakeAnswer, start: usize) -> HuskPart
-    ensures { result ≡ flat_part a start }
+fn flat_part(a: Result<Option<Front>, TakeError>) -> HuskPart
+    ensures { result ≡ flat_part (told a) (begins a) }
 {
     match a {
-        TakeAnswer::Taken(n) => HuskPart {
+        Ok(Some(front)) => HuskPart {
             kind: 2,
             refusal: 0,
-            start: start,
-            length: n,
+            start: front.start,
+            length: front.length,
         },
-        TakeAnswer::OutOfRange => no_part(0, 12),
-        TakeAnswer::Nothing => no_part(1, 0),
-        TakeAnswer::Unsealed => no_part(0, 23),
-        TakeAnswer::Short(_) => no_part(0, 16),
+        Ok(None) => no_part(1, 0),
+        Err(TakeError::OutOfRange) => no_part(0, 12),
+        Err(TakeError::Unsealed) => no_part(0, 23),
+        Err(TakeError::Short(_)) => no_part(0, 16),
     }
 }
 
 // ---- the calls
 
 // Nothing keyed, nothing queued, whatever stood in the words. MTU 576 to 1,500, at most 1 to 16 datagrams.
-pub fn fresh(w: &mut [u64; WORDS], mtu: usize, limit: usize) -> u8
-    ensures { FreshCall result w.new mtu limit }
+pub fn fresh(w: &mut [u64; WORDS], mtu: usize, limit: usize) -> Result<(), SendError>
+    ensures { FreshCall (refusal result) w.new mtu limit }
 {
     *w = [0u64; WORDS];
     w[MTU] = mtu as u64;
     w[LIMIT] = limit as u64;
     if queue::is_setting(mtu, limit) {
-        return 0;
+        return Ok(());
     }
-    12
+    Err(SendError::OutOfRange)
 }
 
 // Keys an epoch to send, with its IV.
-pub fn key_send(w: &mut [u64; WORDS], epoch: u16, iv: &[u8; 12]) -> u8
-    ensures { KeySendCall result w.new w.old epoch iv.now }
+#[tactic(auto, unfolding(outgoing::specs::State::keying_state, base::specs::Choose::choose))]
+pub fn key_send(w: &mut [u64; WORDS], epoch: u16, iv: &[u8; 12]) -> Result<(), SendError>
+    ensures { KeySendCall (refusal result) w.new w.old epoch iv.now }
 {
     if send_words::is_flat(w) {
-        let v = *iv;
-        return send_keys::refusal(send_key_steps::key_send(w, epoch, v));
+        return send_key_steps::key_send(w, epoch, *iv);
     }
-    12
+    Err(SendError::OutOfRange)
 }
 
 // A record that is not saved: in plaintext in epoch 0, else to be sealed.
+#[tactic(auto, unfolding(outgoing::specs::Send::send_state, base::specs::Choose::choose))]
 pub fn send(
     w: &mut [u64; WORDS],
     epoch: u16,
     content_type: u8,
     content: &[u8],
     queue: &mut [u8],
-) -> u8
-    ensures { SendCall result w.new w.old epoch content_type content.now queue.new queue.old }
+) -> Result<(), SendError>
+    ensures { SendCall (refusal result) w.new w.old epoch content_type content.now queue.new queue.old }
 {
     if send_words::is_flat(w) {
-        let v = send_steps::send_answer(w, queue.len(), epoch, content_type, content.len());
-        let a = v.answer;
-        let p = v.place;
-        if send_keys::is_done(a) {
-            send_steps::lay(w, p, epoch, content_type, content, queue);
-            return send_keys::refusal(a);
-        }
-        return send_keys::refusal(a);
+        return send_steps::send(w, epoch, content_type, content, queue);
     }
-    12
+    Err(SendError::OutOfRange)
 }
 
 // The oldest sealing that waits.
+#[tactic(auto, unfolding(base::specs::Choose::choose))]
 pub fn sealing(w: &[u64; WORDS]) -> HuskSealing
     ensures { SealingCall result w.now }
 {
     if send_words::is_flat(w) {
-        let q = seal_steps::question(w);
-        let k = q.question;
-        let nonce = q.nonce;
-        let header = q.header;
-        return flat_sealing(k, nonce, header);
+        return flat_sealing(seal_steps::question(w));
     }
     no_sealing(0, 12)
 }
 
 // The host has sealed so many bytes in place, and this is the mask of the two number bytes.
-pub fn sealed(w: &mut [u64; WORDS], length: usize, mask_0: u8, mask_1: u8, queue: &mut [u8]) -> u8
-    ensures { SealedCall result w.new w.old length mask_0 mask_1 queue.new queue.old }
+#[tactic(auto, unfolding(sealing::specs::Sealing::sealed_state, base::specs::Choose::choose))]
+pub fn sealed(
+    w: &mut [u64; WORDS],
+    length: usize,
+    mask_0: u8,
+    mask_1: u8,
+    queue: &mut [u8],
+) -> Result<(), SealError>
+    ensures { SealedCall (sealings.refusal result) w.new w.old length mask_0 mask_1 queue.new queue.old }
 {
     if send_words::is_flat(w) {
-        return sealing::refusal(seal_steps::sealed(w, length, [mask_0, mask_1], queue));
+        return seal_steps::sealed(w, length, [mask_0, mask_1], queue);
     }
-    12
+    Err(SealError::OutOfRange)
 }
 
 // The front datagram, if it is wholly sealed, copied to the start of a buffer.
+#[tactic(auto, unfolding(taking::specs::Take::take_state, base::specs::Choose::choose))]
 pub fn take(w: &mut [u64; WORDS], buffer: &mut [u8], queue: &[u8]) -> HuskTake
     ensures { TakeCall result w.new w.old buffer.new buffer.old queue.now }
 {
@@ -238,9 +244,7 @@ pub fn take_in_place(w: &mut [u64; WORDS], queue: &[u8]) -> HuskPart
     ensures { TakeInPlaceCall result w.new w.old queue.now }
 {
     if send_words::is_flat(w) {
-        let f = take_steps::take_front(w, queue.len(), 65535);
-        let a = f.answer;
-        return flat_part(a, f.start);
+        return flat_part(take_steps::take_front(w, queue.len(), 65535));
     }
     no_part(0, 12)
 }

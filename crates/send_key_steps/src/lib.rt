@@ -8,43 +8,42 @@ ghost use Rattle.outgoing.specs.State.{with_keys, keying_state};
 ghost use Rattle.send_words.specs.Words.{state_of};
 ghost use Rattle.send_words.specs.Partly.{Partly};
 
-use send_keys::{SendAnswer, SendEpoch};
+use send_keys::{SendEpoch, SendError};
 use send_words::{
     APPLICATION, APPLICATION_IV, APPLICATION_NEXT, APPLICATION_SEALED, HANDSHAKE, HANDSHAKE_IV,
     WORDS,
 };
 
 // Whether an epoch can be keyed to send, or why not.
-pub fn key_answer(w: &[u64; WORDS], epoch: u16) -> SendAnswer
+pub fn key_answer(w: &[u64; WORDS], epoch: u16) -> Result<(), SendError>
     ensures { result ≡ key_answer (state_of w.now).keys (is_sound (state_of w.now).queue) epoch }
 {
     if !send_steps::is_sound(w) {
-        return SendAnswer::OutOfRange;
+        return Err(SendError::OutOfRange);
     }
     let application = words::low(w[APPLICATION]);
     if epoch < 2 {
-        return SendAnswer::BadEpoch;
+        return Err(SendError::BadEpoch);
     }
     if epoch <= words::low(w[HANDSHAKE]) {
-        return SendAnswer::BadEpoch;
+        return Err(SendError::BadEpoch);
     }
     if epoch <= application {
-        return SendAnswer::BadEpoch;
+        return Err(SendError::BadEpoch);
     }
     if application == 0 {
-        return SendAnswer::Done;
+        return Ok(());
     }
     if w[APPLICATION_SEALED] < w[APPLICATION_NEXT] {
-        return SendAnswer::SealingWaits;
+        return Err(SendError::SealingWaits);
     }
-    SendAnswer::Done
+    Ok(())
 }
 
 // An epoch keyed: numbers begin at 0; an application epoch takes the place of the one before.
 fn put_keyed(w: &mut [u64; WORDS], epoch: u16, iv: [u8; 12])
     ensures { Partly (with_keys (state_of w.old) (keyed (state_of w.old).keys epoch iv)) w.old w.new }
 {
-    send_words::sized(w);
     let e = SendEpoch {
         epoch: epoch,
         iv: iv,
@@ -59,12 +58,10 @@ fn put_keyed(w: &mut [u64; WORDS], epoch: u16, iv: [u8; 12])
 }
 
 // An epoch keyed to send, with its IV.
-pub fn key_send(w: &mut [u64; WORDS], epoch: u16, iv: [u8; 12]) -> SendAnswer
+pub fn key_send(w: &mut [u64; WORDS], epoch: u16, iv: [u8; 12]) -> Result<(), SendError>
     ensures { (result ≡ (keying_state (state_of w.old) epoch iv).answer) × Partly (keying_state (state_of w.old) epoch iv).state w.old w.new }
 {
-    let a = key_answer(w, epoch);
-    if send_keys::is_done(a) {
-        put_keyed(w, epoch, iv);
-    }
-    a
+    key_answer(w, epoch)?;
+    put_keyed(w, epoch, iv);
+    Ok(())
 }

@@ -1,60 +1,48 @@
--- What a call of the sending side answers, and the paper's number of each answer (01, "Refusals"). Assumes nothing.
-use Rattle.std.specs.Prelude.{Bool, true, false, ◌≡◌, refl, ℕ, eqb}
+-- What a call of the sending side answers, and the paper's number of each refusal (01, "Refusals"). Assumes nothing.
+use Rattle.std.specs.Prelude.{Bool, true, ◌≡◌, refl, ℕ, eqb, ⊤, is_ok, Result, Ok, Err}
 use Rattle.std.proofs.lemmas.Bool.{false≢true}
-use Rattle.send_keys.specs.declared.SendAnswer.{SendAnswer}
-use Rattle.send_keys.specs.declared.SendAnswer.TheVariants.{Done, OutOfRange, BadEpoch, BadRecord, KeysAbsent, FlightFull, QueueFull, NumbersSpent, MessagesSpent, HistoryFull, SealingWaits}
+use Rattle.send_keys.specs.declared.SendError.{SendError}
+use Rattle.send_keys.specs.declared.SendError.TheVariants.{OutOfRange, BadEpoch, BadRecord, KeysAbsent, FlightFull, QueueFull, NumbersSpent, MessagesSpent, HistoryFull, SealingWaits}
+
+-- done, or why not
+abbrev pub SendAnswer : Type 0
+SendAnswer = Result ⊤ SendError
+
+abbrev pub number_of : SendError → ℕ
+number_of OutOfRange = 12
+number_of BadEpoch = 13
+number_of BadRecord = 14
+number_of KeysAbsent = 17
+number_of FlightFull = 18
+number_of QueueFull = 19
+number_of NumbersSpent = 20
+number_of MessagesSpent = 21
+number_of HistoryFull = 22
+number_of SealingWaits = 23
 
 -- 0 where it is done
 abbrev pub refusal : SendAnswer → ℕ
-refusal Done = 0
-refusal OutOfRange = 12
-refusal BadEpoch = 13
-refusal BadRecord = 14
-refusal KeysAbsent = 17
-refusal FlightFull = 18
-refusal QueueFull = 19
-refusal NumbersSpent = 20
-refusal MessagesSpent = 21
-refusal HistoryFull = 22
-refusal SealingWaits = 23
+refusal (Ok x) = 0
+refusal (Err e) = number_of e
 
 abbrev pub is_done : SendAnswer → Bool
-is_done Done = true
-is_done OutOfRange = false
-is_done BadEpoch = false
-is_done BadRecord = false
-is_done KeysAbsent = false
-is_done FlightFull = false
-is_done QueueFull = false
-is_done NumbersSpent = false
-is_done MessagesSpent = false
-is_done HistoryFull = false
-is_done SealingWaits = false
+is_done a = is_ok a
 
 -- ---- laws
 
 pub done-number : (a : SendAnswer) → eqb (refusal a) 0 ≡ is_done a
-done-number Done = refl
-done-number OutOfRange = refl
-done-number BadEpoch = refl
-done-number BadRecord = refl
-done-number KeysAbsent = refl
-done-number FlightFull = refl
-done-number QueueFull = refl
-done-number NumbersSpent = refl
-done-number MessagesSpent = refl
-done-number HistoryFull = refl
-done-number SealingWaits = refl
+done-number (Ok tt) = refl
+done-number (Err OutOfRange) = refl
+done-number (Err BadEpoch) = refl
+done-number (Err BadRecord) = refl
+done-number (Err KeysAbsent) = refl
+done-number (Err FlightFull) = refl
+done-number (Err QueueFull) = refl
+done-number (Err NumbersSpent) = refl
+done-number (Err MessagesSpent) = refl
+done-number (Err HistoryFull) = refl
+done-number (Err SealingWaits) = refl
 
-pub is-done : (a : SendAnswer) → is_done a ≡ true → a ≡ Done
-is-done Done h = refl
-is-done OutOfRange h = absurd (false≢true h)
-is-done BadEpoch h = absurd (false≢true h)
-is-done BadRecord h = absurd (false≢true h)
-is-done KeysAbsent h = absurd (false≢true h)
-is-done FlightFull h = absurd (false≢true h)
-is-done QueueFull h = absurd (false≢true h)
-is-done NumbersSpent h = absurd (false≢true h)
-is-done MessagesSpent h = absurd (false≢true h)
-is-done HistoryFull h = absurd (false≢true h)
-is-done SealingWaits h = absurd (false≢true h)
+pub is-done : (a : SendAnswer) → is_done a ≡ true → a ≡ Ok tt
+is-done (Ok tt) h = refl
+is-done (Err e) h = absurd (false≢true h)

@@ -1,11 +1,11 @@
 -- The epochs to send in (01, "The record link" and refusals 13, 17, 23): which may be used, their next numbers, keying. Assumes nothing.
-use Rattle.std.specs.Prelude.{Bool, true, List, ◌≡◌, ℕ, ◌+◌, ltb, leb, eqb, replicate}
+use Rattle.std.specs.Prelude.{Bool, true, List, ◌≡◌, ℕ, ◌+◌, ltb, leb, eqb, replicate, Ok, Err}
 use Rattle.std.proofs.Common.{◌∙◌, eq-eqb, ne_eqb}
 use Rattle.base.specs.Choose.{choose, both, either, if_true, if_false, test_cases}
 use Rattle.send_keys.specs.declared.SendEpoch.{SendEpoch}
 use Rattle.send_keys.specs.declared.SendKeys.{SendKeys}
-use Rattle.send_keys.specs.declared.SendAnswer.{SendAnswer}
-use Rattle.send_keys.specs.declared.SendAnswer.TheVariants.{Done, OutOfRange, BadEpoch, SealingWaits}
+use Rattle.send_keys.specs.Answer.{SendAnswer}
+use Rattle.send_keys.specs.declared.SendError.TheVariants.{OutOfRange, BadEpoch, SealingWaits}
 
 unfoldable pub no_epoch : SendEpoch
 no_epoch = record { epoch = 0; iv = replicate 12 0; next = 0; sealed = 0 }
@@ -64,12 +64,12 @@ sealed_up_to k e n =
 unfoldable pub key_answer : SendKeys → Bool → ℕ → SendAnswer
 key_answer k sound e =
     choose sound
-    (choose (ltb e 2) BadEpoch
-    (choose (leb e k.handshake.epoch) BadEpoch
-    (choose (leb e k.application.epoch) BadEpoch
-    (choose (eqb k.application.epoch 0) Done
-    (choose (ltb k.application.sealed k.application.next) SealingWaits Done)))))
-    OutOfRange
+    (choose (ltb e 2) (Err BadEpoch)
+    (choose (leb e k.handshake.epoch) (Err BadEpoch)
+    (choose (leb e k.application.epoch) (Err BadEpoch)
+    (choose (eqb k.application.epoch 0) (Ok tt)
+    (choose (ltb k.application.sealed k.application.next) (Err SealingWaits) (Ok tt))))))
+    (Err OutOfRange)
 
 -- its IV, and numbers from 0
 abbrev pub begun : ℕ → List ℕ → SendEpoch

@@ -1,7 +1,7 @@
 // The epochs to send in, after `Keys` of engine.rs: their IVs and the next numbers.
 #![tactic(auto)]
 
-ghost use Rattle.send_keys.specs.Answer.{is_done, refusal};
+ghost use Rattle.send_keys.specs.Answer.{number_of, refusal};
 ghost use Rattle.std.specs.Prelude.{◌≡◌};
 
 // A send epoch, 0 where none is keyed: its IV, its next number, and the number from which on its records may wait for their sealing.
@@ -21,10 +21,9 @@ pub struct SendKeys {
     pub application: SendEpoch,
 }
 
-// What a call of the sending side answers. A call has those that its definition names.
-#[derive(Clone, Copy)]
-pub enum SendAnswer {
-    Done,
+// Why a call of the sending side is refused. A call has those that its definition names.
+#[derive(Clone, Copy, Debug, PartialEq, Eq)]
+pub enum SendError {
     // A setting or a field out of its range, or a lent buffer too short.
     OutOfRange,
     // To send in: neither 0 nor 2 nor the application epoch. To key: 0, 1, or not above every earlier one.
@@ -42,39 +41,32 @@ pub enum SendAnswer {
     SealingWaits,
 }
 
-// The number of an answer; 0 where a call is done.
-pub fn refusal(a: SendAnswer) -> u8
-    ensures { result ≡ refusal a }
-{
-    match a {
-        SendAnswer::Done => 0,
-        SendAnswer::OutOfRange => 12,
-        SendAnswer::BadEpoch => 13,
-        SendAnswer::BadRecord => 14,
-        SendAnswer::KeysAbsent => 17,
-        SendAnswer::FlightFull => 18,
-        SendAnswer::QueueFull => 19,
-        SendAnswer::NumbersSpent => 20,
-        SendAnswer::MessagesSpent => 21,
-        SendAnswer::HistoryFull => 22,
-        SendAnswer::SealingWaits => 23,
+// The number of a refusal.
+impl From<SendError> for u8 {
+    ghost from_gives = { λ e n. n ≡ number_of e };
+
+    fn from(e: SendError) -> u8 {
+        match e {
+            SendError::OutOfRange => 12,
+            SendError::BadEpoch => 13,
+            SendError::BadRecord => 14,
+            SendError::KeysAbsent => 17,
+            SendError::FlightFull => 18,
+            SendError::QueueFull => 19,
+            SendError::NumbersSpent => 20,
+            SendError::MessagesSpent => 21,
+            SendError::HistoryFull => 22,
+            SendError::SealingWaits => 23,
+        }
     }
 }
 
-pub fn is_done(a: SendAnswer) -> bool
-    ensures { result ≡ is_done a }
+// The number of an answer; 0 where a call is done.
+pub fn refusal(a: Result<(), SendError>) -> u8
+    ensures { result ≡ refusal a }
 {
     match a {
-        SendAnswer::Done => true,
-        SendAnswer::OutOfRange => false,
-        SendAnswer::BadEpoch => false,
-        SendAnswer::BadRecord => false,
-        SendAnswer::KeysAbsent => false,
-        SendAnswer::FlightFull => false,
-        SendAnswer::QueueFull => false,
-        SendAnswer::NumbersSpent => false,
-        SendAnswer::MessagesSpent => false,
-        SendAnswer::HistoryFull => false,
-        SendAnswer::SealingWaits => false,
+        Ok(()) => 0,
+        Err(e) => u8::from(e),
     }
 }

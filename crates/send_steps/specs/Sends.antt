@@ -3,11 +3,10 @@ use Rattle.std.specs.Prelude.{true, false, List, ◌≡◌, ℕ, length}
 use Rattle.std.proofs.Math.Path.{sym}
 use Rattle.std.proofs.Common.{◌∙◌}
 use Rattle.base.specs.Choose.{if_true, if_false}
-use Rattle.send_keys.specs.declared.SendAnswer.{SendAnswer}
 use Rattle.outgoing.specs.Send.{send_answer, send_state, send_memory, laid_state, laid_memory}
 use Rattle.send_words.specs.Words.{state_of, is_flat}
 use Rattle.send_words.specs.Partly.{Partly}
-use Rattle.send_keys.specs.Answer.{is_done}
+use Rattle.send_keys.specs.Answer.{SendAnswer, is_done}
 
 -- a record of epoch e and type t with this content: w and queue q before; v and p behind
 pub record Sends (a : SendAnswer) (e t : ℕ) (x w v q p : List ℕ) : Type 0 where

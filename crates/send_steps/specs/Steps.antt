@@ -1,34 +1,104 @@
 -- What a record sent reads and writes of the words, and that its steps are the definition's. Assumes nothing.
-use Rattle.std.specs.Prelude.{true, false, ◌≡◌, refl, ℕ, zero, suc, ◌+◌, ◌*◌, ◌≤◌, ◌<◌, ◌%◌, leb, eqb, length, get_or, set}
+use Rattle.std.specs.Prelude.{Bool, true, false, ◌≡◌, refl, is_ok, Result, Ok, Err, ⊤, ℕ, zero, suc, ◌+◌, ◌*◌, ◌≤◌, ◌<◌, ◌%◌, leb, eqb, length, get_or, set}
 use Rattle.std.proofs.lemmas.Bool.{false≢true}
 use mathlib.Core.List.{List}
 use Rattle.std.proofs.Math.Path.{sym, ap}
 use Rattle.std.proofs.Common.{◌∙◌, arith, eq-eqb, ne_eqb}
-use Rattle.base.specs.Choose.{choose, both, either, both_left, both_right, both_true, if_true, if_false}
+use Rattle.base.specs.Choose.{choose, by_test, both, either, both_left, both_right, both_true, if_true, if_false}
 use Rattle.queue.specs.declared.Place.{Place}
-use Rattle.queue.specs.Queue.{slot_of, laid, slot_lt, Fits, spot, with_end}
+use Rattle.queue.specs.Queue.{is_ready, slot_of, laid, slot_lt, Fits, spot, with_end}
 use Rattle.queue.specs.Laid.{record_len}
 use Rattle.send_keys.specs.declared.SendKeys.{SendKeys}
-use Rattle.send_keys.specs.Keys.{next_of, used, with_next, next-plaintext, next-handshake, next-application, with_plaintext, with_handshake, with_application}
-use Rattle.send_keys.specs.declared.SendAnswer.{SendAnswer}
+use Rattle.send_keys.specs.Keys.{is_usable, is_keyed, next_of, used, with_next, next-plaintext, next-handshake, next-application, with_plaintext, with_handshake, with_application}
 use Rattle.outgoing.specs.declared.Sending.{Sending}
 use Rattle.outgoing.specs.declared.Waiting.{Waiting}
-use Rattle.outgoing.specs.State.{with_keys, with_queue, with_waiting}
-use Rattle.outgoing.specs.Send.{spot_of, send_answer, waits_behind, laid_state, Clear}
+use Rattle.outgoing.specs.State.{is_allowed, with_keys, with_queue, with_waiting}
+use Rattle.outgoing.specs.Send.{spot_of, is_full, is_spent, send_answer, waits_behind, laid_state, Clear}
 use Rattle.outgoing.proofs.Send.{clear-short, clear-fits}
 use Rattle.words.specs.Fields.{first_of, by-words, low_bit, low-back}
 use Rattle.send_words.specs.Words.{words, count_at, closed_at, sealing-at, plaintext-next-at, handshake-next-at, application-next-at, length_at, lows_from, state_of, is_flat, put_waiting}
 use Rattle.send_words.specs.Partly.{Partly, low-waiting, waiting-back}
-use Rattle.send_keys.specs.Answer.{is_done}
-use Rattle.send_steps.specs.declared.Verdict.{Verdict}
+use Rattle.std.specs.Result.{result_and, result_unwrap_or}
+use Rattle.send_keys.specs.Answer.{SendAnswer}
+use Rattle.send_keys.specs.declared.SendError.{SendError}
+use Rattle.send_keys.specs.declared.SendError.TheVariants.{OutOfRange, BadEpoch, BadRecord, KeysAbsent, QueueFull, NumbersSpent}
 
--- the answer, and the place if it is done
-pub record Judged (v : Verdict) (s : Sending) (room e t n : ℕ) : Type 0 where
-  pub answer : v.answer ≡ send_answer s room e t n
-  pub place : is_done v.answer ≡ true → v.place ≡ spot_of s e n
+-- ---- the answer in its steps
 
-pub not_done : {v : Verdict} {a : SendAnswer} {s : Sending} {room e t n : ℕ} → v.answer ≡ a → is_done a ≡ false → send_answer s room e t n ≡ a → Judged v s room e t n
-not_done p f q = record { answer = p ∙ sym q; place = λ h. absurd (false≢true (sym f ∙ ap is_done (sym p) ∙ h)) }
+-- the place, where the answer is done
+abbrev pub placed : SendAnswer → Place → Result Place SendError
+placed a p = result_and a (Ok p)
+
+-- the tests of epoch and type, and what comes behind them
+abbrev pub epoch_tests : Bool → Bool → Bool → SendAnswer → SendAnswer
+epoch_tests u l y a = choose u (choose l (choose y a (Err KeysAbsent)) (Err BadRecord)) (Err BadEpoch)
+
+-- 13, 14, 17
+unfoldable pub epoch_answer : Sending → ℕ → ℕ → ℕ → SendAnswer
+epoch_answer s e t n = epoch_tests (is_usable s.keys e) (is_allowed s.queue.mtu e t n) (is_keyed s.keys e) (Ok tt)
+
+-- 19, 20
+unfoldable pub room_answer : Sending → ℕ → ℕ → SendAnswer
+room_answer s e n = choose (is_full s e n) (Err QueueFull) (choose (is_spent s e) (Err NumbersSpent) (Ok tt))
+
+abbrev pub behind : SendAnswer → SendAnswer → SendAnswer
+behind a b = result_and a b
+
+pub tests-behind : (u l y : Bool) (a : SendAnswer) → behind (epoch_tests u l y (Ok tt)) a ≡ epoch_tests u l y a
+unfolding choose
+tests-behind true true true a = refl
+tests-behind true true false a = refl
+tests-behind true false y a = refl
+tests-behind false l y a = refl
+
+in-turn : (s : Sending) (room e t n : ℕ) → is_ready s.queue room ≡ true → send_answer s room e t n ≡ behind (epoch_answer s e t n) (room_answer s e n)
+unfolding send_answer epoch_answer room_answer
+in-turn s room e t n r = if_true _ _ r ∙ sym (tests-behind (is_usable s.keys e) (is_allowed s.queue.mtu e t n) (is_keyed s.keys e) (room_answer s e n))
+
+-- what a place, or none, tells of the answer
+pub placed-done : (a : SendAnswer) {p x : Place} → placed a p ≡ Ok x → (a ≡ Ok tt) × (x ≡ p)
+placed-done (Ok tt) {p} h = (refl, sym (ap (λ (r : Result Place SendError). result_unwrap_or r p) h))
+placed-done (Err e) h = absurd (false≢true (ap is_ok h))
+
+pub placed-refused : (a : SendAnswer) (p : Place) {e : SendError} → placed a p ≡ Err e → a ≡ Err e
+placed-refused (Ok tt) p h = absurd (false≢true (sym (ap is_ok h)))
+placed-refused (Err e) p h = ap (λ (r : Result Place SendError). result_and {U = ⊤} r (Ok tt)) h
+
+module _ (s : Sending) (e n : ℕ) (p : Place) where
+  pub no-room : is_full s e n ≡ true → Err QueueFull ≡ placed (room_answer s e n) p
+  unfolding room_answer
+  no-room f = ap (λ (a : SendAnswer). placed a p) (sym (if_true _ _ f))
+
+  module _ (f : is_full s e n ≡ false) where
+    pub no-number : is_spent s e ≡ true → Err NumbersSpent ≡ placed (room_answer s e n) p
+    unfolding room_answer
+    no-number x = ap (λ (a : SendAnswer). placed a p) (sym (if_false _ _ f ∙ if_true _ _ x))
+
+    pub has-room : is_spent s e ≡ false → Ok p ≡ placed (room_answer s e n) p
+    unfolding room_answer
+    has-room x = ap (λ (a : SendAnswer). placed a p) (sym (if_false _ _ f ∙ if_false _ _ x))
+
+module _ (s : Sending) (room e t n : ℕ) (p : Place) where
+  pub not_ready : is_ready s.queue room ≡ false → Err OutOfRange ≡ placed (send_answer s room e t n) p
+  unfolding send_answer
+  not_ready r = ap (λ (a : SendAnswer). placed a p) (sym (if_false _ _ r))
+
+  module _ (r : is_ready s.queue room ≡ true) where
+    answer-by : {a : SendAnswer} → epoch_answer s e t n ≡ a → send_answer s room e t n ≡ behind a (room_answer s e n)
+    answer-by h = in-turn s room e t n r ∙ ap (λ (a : SendAnswer). behind a (room_answer s e n)) h
+
+    pub not_sent : {x : SendError} → epoch_answer s e t n ≡ Err x → Err x ≡ placed (send_answer s room e t n) p
+    not_sent h = ap (λ (a : SendAnswer). placed a p) (sym (answer-by h))
+
+    pub then_placed : {v : Result Place SendError} → epoch_answer s e t n ≡ Ok tt → v ≡ placed (room_answer s e n) p → v ≡ placed (send_answer s room e t n) p
+    then_placed h v = v ∙ ap (λ (a : SendAnswer). placed a p) (sym (answer-by h))
+
+pub allowed : (s : Sending) (e t n : ℕ) → epoch_answer s e t n ≡ Ok tt → is_allowed s.queue.mtu e t n ≡ true
+unfolding epoch_answer
+allowed s e t n =
+    by_test (λ (a : SendAnswer). a ≡ Ok tt → is_allowed s.queue.mtu e t n ≡ true)
+    (λ u. by_test (λ (a : SendAnswer). a ≡ Ok tt → is_allowed s.queue.mtu e t n ≡ true) (λ l h. l) (λ l h. absurd (false≢true (ap is_ok h))))
+    (λ u h. absurd (false≢true (ap is_ok h)))
 
 -- ---- what is written
 

@@ -5,32 +5,26 @@ ghost use Rattle.std.specs.Prelude.{◌≡◌, ◌+◌, ◌≤◌, ◌<◌, leng
 ghost use Rattle.queue.specs.Queue.{InRange, Tailed, is_sound, is_ready, last_len, tail_of};
 ghost use Rattle.send_keys.specs.Keys.{is_usable, is_keyed, next_of, used};
 ghost use Rattle.outgoing.specs.State.{with_keys};
-ghost use Rattle.outgoing.specs.Send.{spot_of, laid_state, laid_memory, Clear};
+ghost use Rattle.outgoing.specs.Send.{spot_of, send_answer, laid_state, laid_memory, Clear};
 ghost use Rattle.send_words.specs.Words.{queue_of, state_of};
 ghost use Rattle.outgoing.specs.State.{with_waiting};
 ghost use Rattle.send_words.specs.Partly.{Partly};
-ghost use Rattle.send_steps.specs.Steps.{end_at, waits, Judged, Lays};
+ghost use Rattle.send_steps.specs.Steps.{placed, epoch_answer, room_answer, end_at, waits, Lays};
 ghost use Rattle.send_steps.specs.Sends.{Sends};
 
 use outgoing::Waiting;
 use queue::{Place, Tail};
 use record::{LAST_NUMBER, SEALED_TAIL_LEN};
-use send_keys::SendAnswer;
+use send_keys::SendError;
 use send_words::{
     APPLICATION, APPLICATION_NEXT, CLOSED, COUNT, FIRST, HANDSHAKE, HANDSHAKE_NEXT, LENGTHS, LIMIT,
     MTU, PLAINTEXT_NEXT, SEALING, WORDS,
 };
 
-// Whether a record can be sent, or why not; and where it goes if it can.
-#[derive(Clone, Copy)]
-pub struct Verdict {
-    pub answer: SendAnswer,
-    pub place: Place,
-}
-
 // ---- the tests
 
 // Whether settings and ring are in range.
+#[tactic(auto, unfolding(queue::specs::Queue::is_sound, base::specs::Choose::both))]
 pub fn is_sound(w: &[u64; WORDS]) -> bool
     ensures { result ≡ is_sound (queue_of w.now) }
 {
@@ -54,6 +48,7 @@ pub fn is_ready(w: &[u64; WORDS], room: usize) -> bool
 }
 
 // Whether an epoch may be sent in: 0, 2, or the application epoch.
+#[tactic(auto, unfolding(send_keys::specs::Keys::is_usable, base::specs::Choose::both, base::specs::Choose::either))]
 pub fn is_usable(w: &[u64; WORDS], epoch: u16) -> bool
     ensures { result ≡ is_usable (state_of w.now).keys epoch }
 {
@@ -70,6 +65,7 @@ pub fn is_usable(w: &[u64; WORDS], epoch: u16) -> bool
 }
 
 // Whether a usable epoch has its keys.
+#[tactic(auto, unfolding(send_keys::specs::Keys::is_keyed, base::specs::Choose::choose))]
 pub fn is_keyed(w: &[u64; WORDS], epoch: u16) -> bool
     ensures { result ≡ is_keyed (state_of w.now).keys epoch }
 {
@@ -101,7 +97,10 @@ pub fn length_at(w: &[u64; WORDS], slot: usize) -> usize
     (w[i] % 65536) as usize
 }
 
+// That the queue is in its range stays a condition on the words: these are written between two readings, so a type that keeps it would be made anew
+// at each call, from the same condition.
 // The last datagram's length, closed or not; 0 where there is none.
+#[tactic(auto, unfolding(queue::specs::Queue::last_len, base::specs::Choose::choose))]
 pub fn last_len(w: &[u64; WORDS]) -> usize
     requires { InRange (queue_of w.now) }
     ensures { (result ≡ last_len (queue_of w.now)) × (result ≤ 65535) }
@@ -115,6 +114,7 @@ pub fn last_len(w: &[u64; WORDS]) -> usize
 }
 
 // Whether a record may join the last datagram: one is there, not closed.
+#[tactic(auto, unfolding(queue::specs::Queue::tail_of, base::specs::Choose::choose))]
 fn is_joinable(w: &[u64; WORDS]) -> bool
     ensures { result ≡ (tail_of (queue_of w.now)).joinable }
 {
@@ -147,45 +147,53 @@ fn spot_of(w: &[u64; WORDS], epoch: u16, n: usize) -> Place
     queue::place_of(w[MTU] as usize, t, len)
 }
 
-pub fn refused(a: SendAnswer) -> Verdict
-    ensures { result.answer ≡ a }
+// Whether a record of this type and length may be sent in an epoch, or why not.
+#[tactic(auto, unfolding(crate::specs::Steps::epoch_answer, base::specs::Choose::choose))]
+pub fn epoch_answer(w: &[u64; WORDS], epoch: u16, t: u8, n: usize) -> Result<(), SendError>
+    ensures { result ≡ epoch_answer (state_of w.now) epoch t n }
 {
-    Verdict {
-        answer: a,
-        place: Place {
-            datagram: 0,
-            offset: 0,
-        },
-    }
-}
-
-// Whether a record can be sent, and where it goes.
-pub fn send_answer(w: &[u64; WORDS], room: usize, epoch: u16, t: u8, n: usize) -> Verdict
-    ensures { Judged result (state_of w.now) room epoch t n }
-{
-    if !is_ready(w, room) {
-        return refused(SendAnswer::OutOfRange);
-    }
     if !is_usable(w, epoch) {
-        return refused(SendAnswer::BadEpoch);
+        return Err(SendError::BadEpoch);
     }
     if !outgoing::is_allowed(w[MTU] as usize, epoch, t, n) {
-        return refused(SendAnswer::BadRecord);
+        return Err(SendError::BadRecord);
     }
     if !is_keyed(w, epoch) {
-        return refused(SendAnswer::KeysAbsent);
+        return Err(SendError::KeysAbsent);
     }
+    Ok(())
+}
+
+// Where a record goes, or why there is no place or no number for it.
+pub fn place_for(w: &[u64; WORDS], epoch: u16, n: usize) -> Result<Place, SendError>
+    requires { InRange (queue_of w.now) × (n ≤ 16384) }
+    ensures { result ≡ placed (room_answer (state_of w.now) epoch n) (spot_of (state_of w.now) epoch n) }
+{
     let p = spot_of(w, epoch, n);
     if w[LIMIT] as usize <= p.datagram {
-        return refused(SendAnswer::QueueFull);
+        return Err(SendError::QueueFull);
     }
     if LAST_NUMBER <= next_of(w, epoch) {
-        return refused(SendAnswer::NumbersSpent);
+        return Err(SendError::NumbersSpent);
     }
-    Verdict {
-        answer: SendAnswer::Done,
-        place: p,
+    Ok(p)
+}
+
+// Where a record goes, or why it cannot be sent.
+pub fn send_answer(
+    w: &[u64; WORDS],
+    room: usize,
+    epoch: u16,
+    t: u8,
+    n: usize,
+) -> Result<Place, SendError>
+    ensures { result ≡ placed (send_answer (state_of w.now) room epoch t n) (spot_of (state_of w.now) epoch n) }
+{
+    if !is_ready(w, room) {
+        return Err(SendError::OutOfRange);
     }
+    epoch_answer(w, epoch, t, n)?;
+    place_for(w, epoch, n)
 }
 
 // ---- a record laid
@@ -195,7 +203,6 @@ fn use_number(w: &mut [u64; WORDS], epoch: u16, number: u64)
     requires { (number ≡ next_of (state_of w.old).keys epoch) × (number < 281474976710655) }
     ensures { Partly (with_keys (state_of w.old) (used (state_of w.old).keys epoch)) w.old w.new }
 {
-    send_words::sized(w);
     let next = number + 1;
     if epoch == 0 {
         w[PLAINTEXT_NEXT] = next;
@@ -213,7 +220,6 @@ fn wait_for(w: &mut [u64; WORDS], epoch: u16, n: usize, slot: usize, start: usiz
     requires { n ≤ 1500 }
     ensures { Partly (with_waiting (state_of w.old) (waits (state_of w.old).waiting epoch n slot start number)) w.old w.new }
 {
-    send_words::sized(w);
     let waits = w[SEALING] == 1;
     if waits {
         return;
@@ -239,7 +245,6 @@ fn put_end(w: &mut [u64; WORDS], slot: usize, nth: usize, end: usize)
     requires { (slot < 16) × (nth < 16) × (end ≤ 65535) }
     ensures { Partly (end_at (state_of w.old) slot (nth + 1) end) w.old w.new }
 {
-    send_words::sized(w);
     let at = LENGTHS + slot;
     w[at] = end as u64;
     w[COUNT] = (nth + 1) as u64;
@@ -271,15 +276,16 @@ pub fn lay(w: &mut [u64; WORDS], p: Place, epoch: u16, t: u8, content: &[u8], d:
 }
 
 // A record sent, if no refusal applies.
-pub fn send(w: &mut [u64; WORDS], epoch: u16, t: u8, content: &[u8], d: &mut [u8]) -> SendAnswer
+pub fn send(
+    w: &mut [u64; WORDS],
+    epoch: u16,
+    t: u8,
+    content: &[u8],
+    d: &mut [u8],
+) -> Result<(), SendError>
     ensures { Sends result epoch t content.now w.old w.new d.old d.new }
 {
-    let v = send_answer(w, d.len(), epoch, t, content.len());
-    let a = v.answer;
-    let p = v.place;
-    if send_keys::is_done(a) {
-        lay(w, p, epoch, t, content, d);
-        return a;
-    }
-    a
+    let p = send_answer(w, d.len(), epoch, t, content.len())?;
+    lay(w, p, epoch, t, content, d);
+    Ok(())
 }

@@ -67,19 +67,6 @@ pub const APPLICATION_IV: usize = 37;
 
 pub const APPLICATION_IV_BACK: usize = APPLICATION_IV + BACK;
 
-fn count_of(w: &[u64]) -> usize
-    ensures { result ≡ length w.now }
-{
-    w.len()
-}
-
-// How many words there are.
-pub fn sized(w: &[u64; WORDS]) -> usize
-    ensures { length w.now ≡ words }
-{
-    count_of(w)
-}
-
 // ---- read
 
 // The oldest sealing that waits.
@@ -97,13 +84,11 @@ pub fn waiting_of(w: &[u64; WORDS]) -> Waiting
 }
 
 // Whether the words stand for a state: flags are 0 or 1.
+#[tactic(auto, unfolding(crate::specs::Words::is_flat, base::specs::Choose::both))]
 pub fn is_flat(w: &[u64; WORDS]) -> bool
     ensures { result ≡ is_flat w.now }
 {
-    if 1 < w[CLOSED] {
-        return false;
-    }
-    w[SEALING] <= 1
+    w[CLOSED] <= 1 && w[SEALING] <= 1
 }
 
 // ---- written
@@ -111,12 +96,11 @@ pub fn is_flat(w: &[u64; WORDS]) -> bool
 pub fn put_waiting(w: &mut [u64; WORDS], x: Waiting)
     ensures { (w.new ≡ put_waiting x w.old) × (x.epoch ≤ 65535) }
 {
-    let epoch = words::wide(x.epoch);
     w[SEALING] = x.any as u64;
     w[SEALING_SLOT] = x.slot as u64;
     w[SEALING_START] = x.start as u64;
     w[SEALING_LENGTH] = x.length as u64;
-    w[SEALING_EPOCH] = epoch;
+    w[SEALING_EPOCH] = u64::from(x.epoch);
     w[SEALING_NUMBER] = x.number;
 }
 
@@ -124,13 +108,11 @@ pub fn put_epoch(w: &mut [u64; WORDS], b: usize, at: usize, e: SendEpoch)
     requires { (b ≤ application-at) × (at ≤ application-iv-at) }
     ensures { (w.new ≡ put_epoch b at e w.old) × (e.epoch ≤ 65535) × LowIv e.iv }
 {
-    let iv = e.iv;
     let next = b + NEXT;
     let sealed = b + SEALED;
     let back = at + BACK;
-    w[b] = words::wide(e.epoch);
+    w[b] = u64::from(e.epoch);
     w[next] = e.next;
     w[sealed] = e.sealed;
-    sized(w);
-    words::put_iv(w, at, back, iv);
+    words::put_iv(w, at, back, e.iv);
 }

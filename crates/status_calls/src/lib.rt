@@ -8,12 +8,9 @@ ghost use Rattle.flight.specs.Status.{unmarked_after};
 ghost use Rattle.flight_words.specs.Words.{flight_of};
 ghost use Rattle.status_calls.specs.Calls.{most, no_saved, no_queued, FlightStatusCall, SendingStatusCall};
 
-use flight::Entry;
+use flight::RECORDS;
 use flight_words::SAVED;
 use send_words::{APPLICATION_NEXT, APPLICATION_SEALED, COUNT, HANDSHAKE_NEXT, HANDSHAKE_SEALED};
-
-// All that a word can say.
-const MOST: u64 = 0xffff_ffff_ffff_ffff;
 
 // How many records are saved, and how many of them no ACK has named.
 #[repr(C)]
@@ -57,85 +54,47 @@ fn no_queued() -> HuskQueued
 
 // ---- counts
 
-// A saved record that is not acknowledged counts one.
-fn one_unmarked(e: Entry) -> usize
-    ensures { (result ≡ choose e.marked 0 1) × (result ≤ 1) }
-{
-    if e.marked {
-        return 0;
-    }
-    1
-}
-
 // Of the first n saved records, how many are not acknowledged.
 pub fn unmarked(f: &[u64; flight_words::WORDS], n: usize) -> usize
     requires { n ≤ 12 }
     ensures { ((m : List ℕ) → result ≡ unmarked_after (flight_of f.now m) n) × (result ≤ n) }
 {
-    let mut count: usize = 0;
-    let mut i = 0;
-    while i < n {
-        count = count + one_unmarked(flight_words::entry_of(f, i));
-        i += 1;
-    }
-    count
-}
-
-// How many numbers there are from one on below another.
-fn between(first: u64, next: u64) -> u64
-    ensures { result ≡ next - first }
-{
-    if first < next {
-        return next - first;
-    }
-    0
-}
-
-// A sum, or all that a word can say.
-fn sum(a: u64, b: u64) -> u64
-    ensures { result ≡ min (a + b) most }
-{
-    if a <= MOST - b {
-        return a + b;
-    }
-    MOST
+    (0..n)
+        .filter(|i| !flight_words::entry_of(f, *i).marked)
+        .count()
 }
 
 // ---- the calls
 
 // How many records are saved, and how many of them are not acknowledged: with none left, nothing is to be sent again.
+#[tactic(auto, unfolding(base::specs::Choose::choose, base::specs::Choose::both))]
 pub fn flight_status(f: &[u64; flight_words::WORDS]) -> HuskSaved
     ensures { FlightStatusCall result f.now }
 {
-    if flight_words::is_flat(f) {
-        let saved = f[SAVED] as usize;
-        if saved <= 12 {
-            return HuskSaved {
-                refusal: 0,
-                saved: saved as u8,
-                unacknowledged: unmarked(f, saved) as u8,
-            };
-        }
-        return no_saved();
+    let saved = f[SAVED] as usize;
+    if flight_words::is_flat(f) && saved <= RECORDS {
+        return HuskSaved {
+            refusal: 0,
+            saved: saved as u8,
+            unacknowledged: unmarked(f, saved) as u8,
+        };
     }
     no_saved()
 }
 
 // How many datagrams are queued, and how many records wait to be sealed.
+#[tactic(auto, unfolding(base::specs::Choose::choose, base::specs::Choose::both))]
 pub fn sending_status(w: &[u64; send_words::WORDS]) -> HuskQueued
     ensures { SendingStatusCall result w.now }
 {
-    if send_words::is_flat(w) {
-        if send_steps::is_sound(w) {
-            let handshake = between(w[HANDSHAKE_SEALED], w[HANDSHAKE_NEXT]);
-            let application = between(w[APPLICATION_SEALED], w[APPLICATION_NEXT]);
-            return HuskQueued {
-                refusal: 0,
-                queued: w[COUNT] as u8,
-                waiting: sum(handshake, application) as usize,
-            };
-        }
-        return no_queued();
+    if send_words::is_flat(w) && send_steps::is_sound(w) {
+        let handshake = w[HANDSHAKE_NEXT].saturating_sub(w[HANDSHAKE_SEALED]);
+        let application = w[APPLICATION_NEXT].saturating_sub(w[APPLICATION_SEALED]);
+        return HuskQueued {
+            refusal: 0,
+            queued: w[COUNT] as u8,
+            waiting: handshake.saturating_add(application) as usize,
+        };
     }
     no_queued()
 }

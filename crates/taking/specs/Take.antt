@@ -1,5 +1,5 @@
 -- Taking the front datagram (01, refusals 12, 23, 16: "An empty queue gives none, after 12"). Assumes nothing.
-use Rattle.std.specs.Prelude.{Bool, true, false, List, ◌≡◌, ℕ, ◌+◌, ◌-◌, ◌*◌, ◌<◌, ◌≤◌, ltb, leb, eqb, get_or}
+use Rattle.std.specs.Prelude.{Bool, true, false, List, Option, Some, None, Result, Ok, Err, ◌≡◌, ℕ, ◌+◌, ◌-◌, ◌*◌, ◌<◌, ◌≤◌, ltb, leb, eqb, get_or}
 use Rattle.std.proofs.lemmas.Bool.{false≢true, eqb-false}
 use Rattle.std.proofs.Common.{mul-le-mul_right, mul-le-mul, arith, leb-true, ltb-false}
 use Rattle.outgoing.specs.State.{with_queue}
@@ -8,17 +8,20 @@ use Rattle.base.specs.Parts.{part, splice}
 use Rattle.queue.specs.Queue.{is_ready, Ready, ready, with_front}
 use Rattle.outgoing.specs.declared.Waiting.{Waiting}
 use Rattle.outgoing.specs.declared.Sending.{Sending}
-use Rattle.taking.specs.declared.TakeAnswer.{TakeAnswer}
-use Rattle.taking.specs.declared.TakeAnswer.TheVariants as take
+use Rattle.taking.specs.declared.TakeError.{TakeError}
+use Rattle.taking.specs.declared.TakeError.TheVariants as take
 use Rattle.taking.specs.declared.Take.{Take}
+
+-- a datagram of so many bytes; none, the queue is empty; or why it is not taken
+abbrev pub TakeAnswer : Type 0
+TakeAnswer = Result (Option ℕ) TakeError
 
 -- the paper's number of each answer; 0 where a datagram, or none, is handed out
 abbrev pub refusal : TakeAnswer → ℕ
-refusal (take.Taken n) = 0
-refusal take.Nothing = 0
-refusal take.OutOfRange = 12
-refusal take.Unsealed = 23
-refusal (take.Short n) = 16
+refusal (Ok n) = 0
+refusal (Err take.OutOfRange) = 12
+refusal (Err take.Unsealed) = 23
+refusal (Err (take.Short n)) = 16
 
 -- the front datagram's length
 abbrev pub front_len : Sending → ℕ
@@ -37,19 +40,17 @@ next_slot first limit = choose (ltb (first + 1) limit) (first + 1) 0
 unfoldable pub take_answer : Sending → ℕ → ℕ → TakeAnswer
 take_answer s room have =
     choose (is_ready s.queue room)
-    (choose (eqb s.queue.count 0) take.Nothing
+    (choose (eqb s.queue.count 0) (Ok None)
     (choose (leb (front_len s) s.queue.mtu)
-    (choose (is_front s.waiting s.queue.first) take.Unsealed
-    (choose (ltb have (front_len s)) (take.Short (front_len s)) (take.Taken (front_len s))))
-    take.OutOfRange))
-    take.OutOfRange
+    (choose (is_front s.waiting s.queue.first) (Err take.Unsealed)
+    (choose (ltb have (front_len s)) (Err (take.Short (front_len s))) (Ok (Some (front_len s)))))
+    (Err take.OutOfRange)))
+    (Err take.OutOfRange)
 
 abbrev pub is_taken : TakeAnswer → Bool
-is_taken (take.Taken n) = true
-is_taken take.OutOfRange = false
-is_taken take.Nothing = false
-is_taken take.Unsealed = false
-is_taken (take.Short n) = false
+is_taken (Ok (Some n)) = true
+is_taken (Ok None) = false
+is_taken (Err e) = false
 
 -- the front moves on; no byte of the queue moves
 abbrev pub after_take : Sending → Sending

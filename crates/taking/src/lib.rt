@@ -2,30 +2,29 @@
 #![tactic(auto)]
 
 ghost use Rattle.std.specs.Prelude.{◌≡◌, ◌≤◌};
-ghost use Rattle.taking.specs.Take.{next_slot, is_taken};
+ghost use Rattle.taking.specs.Take.{next_slot};
 
 use outgoing::Sending;
 
-#[derive(Clone, Copy)]
-pub enum TakeAnswer {
-    // A datagram of so many bytes.
-    Taken(usize),
+// Why the front datagram is not taken.
+#[derive(Clone, Copy, Debug, PartialEq, Eq)]
+pub enum TakeError {
     OutOfRange,
-    // The queue is empty.
-    Nothing,
     // The front datagram is not wholly sealed.
     Unsealed,
     // The buffer is too short; so many bytes are needed.
     Short(usize),
 }
 
+// A datagram of so many bytes, or none where the queue is empty, and the state behind it.
 #[derive(Clone, Copy)]
 pub struct Take {
-    pub answer: TakeAnswer,
+    pub answer: Result<Option<usize>, TakeError>,
     pub state: Sending,
 }
 
-// The slot behind one.
+// The slot behind one. Not by `queue::slot_of`: that asks for a first slot below the limit.
+#[tactic(auto, unfolding(crate::specs::Take::next_slot, base::specs::Choose::choose))]
 pub fn next_slot(first: usize, limit: usize) -> usize
     requires { first ≤ 16 }
     ensures { result ≡ next_slot first limit }
@@ -34,16 +33,4 @@ pub fn next_slot(first: usize, limit: usize) -> usize
         return first + 1;
     }
     0
-}
-
-pub fn is_taken(a: TakeAnswer) -> bool
-    ensures { result ≡ is_taken a }
-{
-    match a {
-        TakeAnswer::Taken(_) => true,
-        TakeAnswer::OutOfRange => false,
-        TakeAnswer::Nothing => false,
-        TakeAnswer::Unsealed => false,
-        TakeAnswer::Short(_) => false,
-    }
 }

@@ -10,8 +10,7 @@ use Rattle.base.specs.Parts.{length-splice}
 use Rattle.queue.specs.Queue.{is_ready}
 use Rattle.queue.specs.Laid.{trailer_of}
 use Rattle.outgoing.specs.declared.Sending.{Sending}
-use Rattle.sealing.specs.declared.SealAnswer.{SealAnswer}
-use Rattle.sealing.specs.Sealing.{is_held, is_asked, is_put, part_start, part_of, put_memory, seal_answer, is_sealed, asked-held, part-fits}
+use Rattle.sealing.specs.Sealing.{SealAnswer, is_held, is_asked, is_put, part_start, part_of, put_memory, seal_answer, is_sealed, asked-held, part-fits}
 use Rattle.waiting_laws.specs.Queued.{Queued, plain, waits, sealed, flat, waiting_of, AsLaid, Holds}
 use Rattle.waiting_laws.proofs.First.{seal_with, put_with, first_in, first_of, flat-first}
 use Rattle.waiting_laws.proofs.Seals.{put_holds}

@@ -1,6 +1,6 @@
 -- The meaning of a queue, computed: epoch 2 is keyed, a record is sent in plaintext and two to be sealed, the first of them is sealed.
 -- Assumes nothing.
-use Rattle.std.specs.Prelude.{true, List, [], ◌∷◌, ◌≡◌, refl, ℕ, length, replicate}
+use Rattle.std.specs.Prelude.{true, List, [], ◌∷◌, ◌≡◌, refl, ℕ, length, replicate, Err}
 use Rattle.std.proofs.Common.{arith}
 use Rattle.base.specs.Choose.{choose, both, either}
 use Rattle.base.specs.Parts.{splice}
@@ -13,7 +13,7 @@ use Rattle.outgoing.specs.State.{no_waiting, fresh_sending, is_content_type, is_
 use Rattle.outgoing.specs.Send.{waits_behind, laid_state, laid_memory, send_answer, send_state, send_memory}
 use Rattle.sealing.specs.Seek.{nth_of, beyond, passed, found_at, step_of, seek_step, seek}
 use Rattle.sealing.specs.Sealing.{is_span, is_held, part_start, masked_header, behind_oldest, seal_answer, sealed_state, sealed_memory}
-use Rattle.taking.specs.declared.TakeAnswer.TheVariants as take
+use Rattle.taking.specs.declared.TakeError.TheVariants as take
 use Rattle.taking.specs.Take.{take_answer}
 use Rattle.waiting_laws.specs.Queued.{Queued, plain, waits, sealed, Holds}
 use Rattle.waiting_laws.proofs.Fresh.{fresh_holds}
@@ -80,6 +80,6 @@ means setting =
 pub computed : (is_setting 576 1 ≡ true)
     × (meant ≡ (plain 22 0 (1 ∷ 2 ∷ 3 ∷ []) ∷ sealed 2 22 0 (9 ∷ []) mask (9 ∷ trailer_of 22 2 0) ∷ waits 2 22 1 (8 ∷ []) (8 ∷ trailer_of 22 2 1) ∷ []) ∷ [])
     × (s₃.waiting ≡ record { any = true; slot = 0; start = 16; length = 18; epoch = 2; number = 0 })
-    × (s₄.waiting ≡ record { any = true; slot = 0; start = 39; length = 18; epoch = 2; number = 1 }) × (take_answer s₄ (length q₄) 100 ≡ take.Unsealed)
+    × (s₄.waiting ≡ record { any = true; slot = 0; start = 39; length = 18; epoch = 2; number = 1 }) × (take_answer s₄ (length q₄) 100 ≡ (Err take.Unsealed))
 unfolding choose both either fresh_sending no_waiting no_keys no_epoch is_setting is_sound is_ready is_usable is_keyed key_answer keyed keying_state next_of used sealed_up_to is_type is_content_type is_allowed record_len send_answer send_state send_memory laid_state laid_memory waits_behind slot_of last_len tail_of place_of laid start_of splice record_bytes trailer_of plaintext_header unified_header is_span is_held part_start masked_header nth_of beyond passed found_at step_of seek_step seek behind_oldest seal_answer sealed_state sealed_memory take_answer parsed parse_ciphertext parse_plaintext header_length fragment_len partial_of is_plaintext is_version
 computed = (refl, refl, refl, refl, refl)

@@ -1,6 +1,6 @@
 -- Keying an epoch to send in (01, refusals 12, 13, 23): the queue means the same; 23 exactly if a sealing under the application epoch waits.
 -- Assumes nothing.
-use Rattle.std.specs.Prelude.{true, List, [], ◌∷◌, ◌++◌, ◌≡◌, refl, ℕ, ◌+◌, ◌*◌, ◌<◌, ◌≤◌, ltb, leb, eqb, length}
+use Rattle.std.specs.Prelude.{true, List, [], ◌∷◌, ◌++◌, ◌≡◌, refl, ℕ, ◌+◌, ◌*◌, ◌<◌, ◌≤◌, ltb, leb, eqb, length, Ok, Err}
 use Rattle.std.proofs.lemmas.Bool.{false≢true}
 use Rattle.std.proofs.Common.{inl, inr, ⊎_elim, subst, ◌∙◌, arith}
 use Rattle.std.proofs.Math.Path.{sym, ap}
@@ -9,12 +9,11 @@ use Rattle.base.specs.Choose.{choose, by_test, test_cases, if_true, if_false}
 use Rattle.queue.specs.declared.Queue.{Queue}
 use Rattle.queue.specs.Queue.{slot_of, is_sound, sound-again}
 use Rattle.send_keys.specs.declared.SendKeys.{SendKeys}
-use Rattle.send_keys.specs.declared.SendAnswer.{SendAnswer}
-use Rattle.send_keys.specs.declared.SendAnswer.TheVariants as key
+use Rattle.send_keys.specs.declared.SendError.TheVariants as key
 use Rattle.send_keys.specs.Keys.{key_answer, keyed}
 use Rattle.outgoing.specs.declared.Sending.{Sending}
 use Rattle.outgoing.specs.State.{keying_state}
-use Rattle.send_keys.specs.Answer.{is_done}
+use Rattle.send_keys.specs.Answer.{SendAnswer, is_done}
 use Rattle.waiting_laws.specs.Queued.{Queued, plain, waits, sealed, bytes_of, flat, numbers_of, Lies, Rows, Runs, Under, Agrees, Holds}
 use Rattle.waiting_laws.proofs.Lists.{numbers-append, runs-length}
 
@@ -106,17 +105,17 @@ module _ (s : Sending) (mem : List ℕ) (ds : List (List Queued)) (h : Holds s m
 
   -- 12 never; 13; 23: "a sending application epoch replaced while a sealing under it waits", exactly then
   pub keying-told : (e : ℕ) → key_answer k (is_sound s.queue) e
-      ≡ choose (ltb e 2) key.BadEpoch
-      (choose (leb e k.handshake.epoch) key.BadEpoch
-      (choose (leb e k.application.epoch) key.BadEpoch
-      (choose (ltb 0 (length (numbers_of k.application.epoch (flat ds)))) key.SealingWaits key.Done)))
+      ≡ choose (ltb e 2) (Err key.BadEpoch)
+      (choose (leb e k.handshake.epoch) (Err key.BadEpoch)
+      (choose (leb e k.application.epoch) (Err key.BadEpoch)
+      (choose (ltb 0 (length (numbers_of k.application.epoch (flat ds)))) (Err key.SealingWaits) (Ok tt))))
   unfolding key_answer
   keying-told e =
       if_true _ _ (sound-again h.range)
-      ∙ ap (λ (a : SendAnswer). choose (ltb e 2) key.BadEpoch (choose (leb e k.handshake.epoch) key.BadEpoch (choose (leb e k.application.epoch) key.BadEpoch a))) last
+      ∙ ap (λ (a : SendAnswer). choose (ltb e 2) (Err key.BadEpoch) (choose (leb e k.handshake.epoch) (Err key.BadEpoch) (choose (leb e k.application.epoch) (Err key.BadEpoch) a))) last
     where
-      last : choose (eqb k.application.epoch 0) key.Done (choose (ltb k.application.sealed k.application.next) key.SealingWaits key.Done)
-          ≡ choose (ltb 0 waiting_under) key.SealingWaits key.Done
+      last : choose {A = SendAnswer} (eqb k.application.epoch 0) (Ok tt) (choose (ltb k.application.sealed k.application.next) (Err key.SealingWaits) (Ok tt))
+          ≡ choose {A = SendAnswer} (ltb 0 waiting_under) (Err key.SealingWaits) (Ok tt)
       last =
           test_cases (eqb k.application.epoch 0)
           (λ z. if_true _ _ z ∙ sym (if_false _ _ (le-ltb 0 waiting_under (omega (arith, none-zero (eqb-true k.application.epoch 0 z))))))

@@ -1,40 +1,34 @@
 -- No list of calls that send, on a fresh state with buffers long enough, meets 12. Assumes nothing.
-use Rattle.std.specs.Prelude.{true, ◌≡◌, refl, ℕ, zero, suc, ◌+◌, ◌-◌, ◌*◌, ◌≤◌}
+use Rattle.std.specs.Prelude.{true, ◌≡◌, refl, ℕ, zero, suc, ◌+◌, ◌-◌, ◌*◌, ◌≤◌, Ok}
 use mathlib.Core.List.{List, [], ◌∷◌}
 use Rattle.std.proofs.Common.{sym, subst, ◌∙◌, arith, le-leb, le-ltb, ltb-true}
 use Rattle.std.proofs.Math.ListN.{length}
 use Rattle.base.specs.Choose.{choose, by_test, test_cases, if_true, if_false, both_true}
 use Rattle.base.specs.Parts.{length-splice}
 use Rattle.queue.specs.Queue.{is_setting, is_ready, last_len, laid}
-use Rattle.send_keys.specs.declared.SendAnswer.{SendAnswer}
 use Rattle.outgoing.specs.declared.Sending.{Sending}
-use Rattle.send_keys.specs.declared.SendAnswer.TheVariants.{Done}
 use Rattle.outgoing.specs.State.{fresh_sending, keying_state}
 use Rattle.outgoing.specs.Send.{laid_state, send_answer, send_state}
 use Rattle.flight.specs.declared.Flight.{Flight}
-use Rattle.flight.specs.declared.Begun.{Begun}
+use Rattle.flight.specs.declared.Acted.{Acted}
 use Rattle.flight.specs.declared.Saved.{Saved}
 use Rattle.flight.specs.Flight.{is_kept, fresh_flight, begun, saved_with, saved_memory}
 use Rattle.flight.specs.Save.{save_answer, save_state, save_kept, save_safe, kept-fits}
 use Rattle.messages.specs.Cut.{epoch_of, overhead, size-rest}
 use Rattle.messages.specs.Message.{content_of, Laid, piece_of, size_now, send_all, beginning, message_answer, message_state, message_kept, length-content}
-use Rattle.sealing.specs.declared.SealAnswer.{SealAnswer}
-use Rattle.taking.specs.declared.TakeAnswer.{TakeAnswer}
 use Rattle.sealing.specs.Sealing as seals
-use Rattle.sealing.specs.Sealing.{seal_answer, sealed_state}
-use Rattle.taking.specs.Take.{take_state}
-use Rattle.process_ack.specs.declared.Acked.{Acked}
+use Rattle.sealing.specs.Sealing.{SealAnswer, seal_answer, sealed_state}
+use Rattle.taking.specs.Take.{TakeAnswer, take_state}
 use Rattle.process_ack.specs.Ack.{pairs_in, marks_after, emptied, acked}
 use Rattle.process_ack.proofs.Ack.{marks-saved}
 use Rattle.acks.specs.declared.Notes.{Notes}
 use Rattle.acks.specs.declared.Noting.{Noting}
 use Rattle.acks.specs.declared.AckSent.{AckSent}
 use Rattle.acks.specs.Acks.{fresh_notes, noted, forgotten, ack_epoch, ack_len, notice_state, ack_answer, ack_sent, sent_ack}
-use Rattle.resend.specs.declared.Resent.{Resent}
 use Rattle.resend.specs.Tests.{closed_state, fit_answer, resend_answer}
 use Rattle.resend.specs.Resend.{renewed, renewed_if, Laying, again_at, sent_again, again_after, resend_state}
 use Rattle.resend_laws.specs.Steps as again
-use Rattle.send_keys.specs.Answer.{is_done, refusal}
+use Rattle.send_keys.specs.Answer.{SendAnswer, is_done, refusal}
 use Rattle.waiting_laws.specs.Calls.{Stores, SendCall, key_send·, send·, save·, message·, begin_flight·, resend·, note·, send_ack·, ack·, fill·, sealed·, take·, stored, fresh}
 use Rattle.waiting_laws.specs.Answers.{note_reply, take_reply, answered}
 use Rattle.waiting_laws.specs.Queued.{Queued, Holds}
@@ -125,7 +119,7 @@ resend_keeps : (a : SendAnswer) (s : Sending) (f : Flight) (q m : List ℕ) → 
     → Saves (resend_state a s f m q).flight (resend_state a s f m q).state.queue.mtu (length m)
 unfolding resend_state closed_state
 resend_keeps a s f q m h =
-    by_test (λ (r : Resent). Saves r.flight r.state.queue.mtu (length m))
+    by_test (λ (r : Saved). Saves r.flight r.state.queue.mtu (length m))
     (λ d.
     let all = again-all-same m (again.beginning s f q) f.saved in
     record { few = omega (arith, all.0, h.few); space = subst (λ (k : ℕ). 12 * k ≤ length m) (sym all.1) h.space })
@@ -140,7 +134,7 @@ emptied-few f =
 act-few : (f : Flight) (d : List ℕ) → (acked f d).flight.saved ≤ f.saved
 unfolding acked
 act-few f d =
-    by_test (λ (a : Acked). a.flight.saved ≤ f.saved) (λ l. omega arith)
+    by_test (λ (a : Acted). a.flight.saved ≤ f.saved) (λ l. omega arith)
     (λ l. by_test (λ (g : Flight). g.saved ≤ f.saved)
     (λ y. omega (arith, emptied-few (marks_after d (pairs_in d) f f.saved), marks-saved d (pairs_in d) f f.saved)) (λ y. omega arith))
 
@@ -186,7 +180,7 @@ call_keeps w (message· kind body) h = (
   h.1,
 )
 call_keeps w begin_flight· h = (
-  by_test (λ (b : Begun). Saves b.flight w.state.queue.mtu (length w.kept)) (λ d. record { few = omega arith; space = h.0.space }) (λ d. h.0),
+  by_test (λ (b : Acted). Saves b.flight w.state.queue.mtu (length w.kept)) (λ d. record { few = omega arith; space = h.0.space }) (λ d. h.0),
   h.1,
 )
 call_keeps w resend· h = (
@@ -231,7 +225,7 @@ message_not s f room kept kind n r k =
 
 begin_not : (f : Flight) → f.saved ≤ 12 → refusal (begun f).answer ≡ 12 → ⊥
 unfolding begun
-begin_not f h = subst (λ (b : Begun). refusal b.answer ≡ 12 → ⊥) (sym (if_true _ _ (le-leb f.saved 12 h))) (λ z. omega arith)
+begin_not f h = subst (λ (b : Acted). refusal b.answer ≡ 12 → ⊥) (sym (if_true _ _ (le-leb f.saved 12 h))) (λ z. omega arith)
 
 key_not : (s : Sending) (mem : List ℕ) (ds : List (List Queued)) → Holds s mem ds → (e : ℕ) (iv : List ℕ) → refusal (keying_state s e iv).answer ≡ 12 → ⊥
 unfolding keying_state
@@ -265,9 +259,9 @@ resend_not s f room kept r k =
 
 act_not : (f : Flight) (d : List ℕ) → f.saved ≤ 12 → refusal (acked f d).answer ≡ 12 → ⊥
 unfolding acked
-act_not f d h = subst (λ (a : Acked). refusal a.answer ≡ 12 → ⊥) (sym (if_false _ _ (le-ltb 12 f.saved h))) (λ z. omega arith)
+act_not f d h = subst (λ (a : Acted). refusal a.answer ≡ 12 → ⊥) (sym (if_false _ _ (le-ltb 12 f.saved h))) (λ z. omega arith)
 
-ack-done : (s : Sending) (n : Notes) (room : ℕ) → is_ready s.queue room ≡ true → n.count ≤ 32 → ack_answer s n room ≡ Done
+ack-done : (s : Sending) (n : Notes) (room : ℕ) → is_ready s.queue room ≡ true → n.count ≤ 32 → ack_answer s n room ≡ Ok tt
 unfolding ack_answer
 ack-done s n room r h = if_false _ _ (le-ltb 32 n.count h) ∙ if_true _ _ r
 
@@ -275,7 +269,7 @@ ack_not : (s : Sending) (n : Notes) (room : ℕ) → is_ready s.queue room ≡ t
 unfolding sent_ack ack_sent notice_state send_state
 ack_not s n room r h =
     let P : AckSent → Type 0 = λ a. refusal a.answer ≡ 12 → ⊥ in
-    let done : ack_answer s n room ≡ Done = ack-done s n room r h in
+    let done : ack_answer s n room ≡ Ok tt = ack-done s n room r h in
     let none : refusal (ack_answer s n room) ≡ 12 → ⊥ = subst (λ (a : SendAnswer). refusal a ≡ 12 → ⊥) (sym done) (λ z. omega arith) in
     by_test P (λ d. by_test P (λ z. none) (λ z. send_not s room (ack_epoch s.keys) 26 (ack_len n) r)) (λ d. none)
 

@@ -1,5 +1,5 @@
 -- The state names the first record that waits: its epoch, number, length and place; and the question shows it. Assumes nothing.
-use Rattle.std.specs.Prelude.{Bool, true, eqb}
+use Rattle.std.specs.Prelude.{Some, Bool, true, eqb, None, Ok}
 use Rattle.std.proofs.Math.Bool.{false}
 use Rattle.std.proofs.lemmas.Bool.{false≢true}
 use mathlib.Core.List.{List, [], ◌∷◌, ◌++◌}
@@ -19,9 +19,7 @@ use Rattle.send_keys.specs.Keys.{iv_of}
 use Rattle.outgoing.specs.declared.Waiting.{Waiting}
 use Rattle.outgoing.specs.declared.Sending.{Sending}
 use Rattle.outgoing.specs.State.{no_waiting}
-use Rattle.sealing.specs.declared.Question.{Question}
-use Rattle.sealing.specs.declared.SealQuestion.TheVariants as ask
-use Rattle.sealing.specs.Sealing.{is_asked, is_put, part_start, nothing_asked, question_of, part_of, put_memory}
+use Rattle.sealing.specs.Sealing.{Asked, is_asked, is_put, part_start, question_of, part_of, put_memory}
 use Rattle.waiting_laws.specs.Calls.{written_in}
 use Rattle.waiting_laws.specs.Queued.{Queued, plain, waits, sealed, bytes_of, flat, waiting_of, waits_in, Stands, Lies, Rows, oldest_in, oldest_of, Holds}
 use Rattle.waiting_laws.proofs.Ring.{part_left, part_right}
@@ -135,21 +133,27 @@ module _ (s : Sending) (mem : List ℕ) (ds : List (List Queued)) (h : Holds s m
 
   -- the question shows exactly the first: epoch, number, nonce, header; the part lent is its part; its header lies in front of that
   pub question-shows : (e t n : ℕ) (x p : List ℕ) (us : List Queued) → waiting_of (flat ds) ≡ waits e t n x p ∷ us
-      → question_of s ≡ record {
-        question = ask.Seal e n (part_start s) (length x + sealed_tail);
+      → question_of s ≡ Ok (Some (record {
+        epoch = e;
+        number = n;
+        start = part_start s;
+        length = length x + sealed_tail;
         nonce = nonce_of (iv_of s.keys e) n;
         header = unified_header e n (length x + sealed_tail);
-      }
+      }))
   question-shows e t n x p us y =
       let f = names-first e t n x p us y in
       question-told s mem ds h ∙ if_true _ _ (waiting-some (flat ds) (waits e t n x p) us y)
-      ∙ λ i. record {
-        question = ask.Seal (f.epoch i) (f.number i) (part_start s) (f.size i);
+      ∙ λ i. Ok (Some (record {
+        epoch = f.epoch i;
+        number = f.number i;
+        start = part_start s;
+        length = f.size i;
         nonce = nonce_of (iv_of s.keys (f.epoch i)) (f.number i);
         header = unified_header (f.epoch i) (f.number i) (f.size i);
-      }
+      }))
 
-  pub question-none : waiting_of (flat ds) ≡ [] → question_of s ≡ nothing_asked ask.Nothing
+  pub question-none : waiting_of (flat ds) ≡ [] → question_of s ≡ Ok None
   question-none y =
       test_cases (waits_in (flat ds))
       (λ a. let f = first-of (flat ds) a in absurd (let g = f.is in let z : ◌≡◌ {A = ℕ} 0 1 = cc in omega arith))
@@ -185,14 +189,14 @@ module _ (s : Sending) (mem : List ℕ) (ds : List (List Queued)) (h : Holds s m
       both_true (both_true (ready_always s mem ds h) ∙ both_true (held-again s mem ds h) ∙ f.any) ∙ ap (eqb (length v)) f.size
 
   -- what the host writes where the question shows it is written into the oldest's part
-  written_is : (v : List ℕ) → written_in (question_of s).question v mem ≡ put_memory s v mem
+  written_is : (v : List ℕ) → written_in (question_of s) v mem ≡ put_memory s v mem
   unfolding put_memory
   written_is v =
       waiting-cases (flat ds) (waiting_of (flat ds)) refl
-      (λ z. ap (λ (r : Question). written_in r.question v mem) (question-none z) ∙ sym (if_false _ _ (not_put z v)))
+      (λ z. ap (λ (r : Asked). written_in r v mem) (question-none z) ∙ sym (if_false _ _ (not_put z v)))
       (λ e t n x p us y z.
-      ap (λ (r : Question). written_in r.question v mem) (question-shows e t n x p us y)
+      ap (λ (r : Asked). written_in r v mem) (question-shows e t n x p us y)
       ∙ ap (λ (b : Bool). choose b (splice (part_start s) v mem) mem) (sym (put_test e t n x p us y v)))
 
-  pub fill_holds : (v : List ℕ) → Holds s (written_in (question_of s).question v mem) (after_put (is_put s (length v) (length mem)) v ds)
+  pub fill_holds : (v : List ℕ) → Holds s (written_in (question_of s) v mem) (after_put (is_put s (length v) (length mem)) v ds)
   fill_holds v = subst (λ (q : List ℕ). Holds s q (after_put (is_put s (length v) (length mem)) v ds)) (sym (written_is v)) (put_holds s mem ds h v)

@@ -5,14 +5,13 @@ use Rattle.std.proofs.Common.{append_assoc, append-nil, sym, ap, subst, ◌∙�
 use Rattle.base.specs.Choose.{choose, by_test, test_cases, if_true, if_false}
 use Rattle.queue.specs.Queue.{last_len}
 use Rattle.outgoing.specs.declared.Sending.{Sending}
-use Rattle.send_keys.specs.declared.SendAnswer.{SendAnswer}
 use Rattle.flight.specs.declared.Flight.{Flight}
 use Rattle.flight.specs.declared.Saved.{Saved}
 use Rattle.flight.specs.Save.{save_answer, save_state, save_queue}
 use Rattle.messages.specs.Cut.{epoch_of, overhead, size-rest}
 use Rattle.outgoing.specs.State.{numbered}
 use Rattle.messages.specs.Message.{content_of, Laid, piece_of, size_now, send_all, beginning, sent_all, message_state, message_queue, length-content}
-use Rattle.send_keys.specs.Answer.{is_done}
+use Rattle.send_keys.specs.Answer.{SendAnswer, is_done}
 use Rattle.waiting_laws.specs.Queued.{Queued, flat, AsLaid, Holds}
 use Rattle.waiting_laws.proofs.Lists.{laid-append}
 use Rattle.waiting_laws.proofs.Sends.{record_of, after_send, save_holds, sent-last, record_as_laid}

@@ -12,7 +12,6 @@ use Rattle.queue.specs.Queue.{with_end}
 use Rattle.queue.specs.declared.Queue.{Queue}
 use Rattle.send_keys.specs.Keys.{next_of}
 use Rattle.outgoing.specs.declared.Sending.{Sending}
-use Rattle.send_keys.specs.declared.SendAnswer.{SendAnswer}
 use Rattle.outgoing.specs.Send.{send_answer, send_state, send_memory}
 use Rattle.flight.specs.declared.Entry.{Entry}
 use Rattle.flight.specs.declared.Flight.{Flight}
@@ -21,13 +20,13 @@ use Rattle.acks.specs.declared.Notes.{Notes}
 use Rattle.acks.specs.declared.AckSent.{AckSent}
 use Rattle.acks.specs.Acks.{ack_epoch, ack_content, ack_len, notice_state, notice_memory, ack_answer, ack_sent, nothing_sent, sent_ack, ack_memory}
 use Rattle.acks.proofs.Acks.{length-content}
-use Rattle.resend.specs.declared.Resent.{Resent}
+use Rattle.flight.specs.declared.Saved.{Saved}
 use Rattle.resend.specs.Tests.{closed_state, closed-range}
 use Rattle.resend.specs.Resend.{Laying, content_at, sent_again, again_answer, again_at, again_after, resend_state, resend_queue}
 use Rattle.resend_laws.specs.Steps.{Tables, beginning, reached, kept_content, number_again}
 use Rattle.resend_laws.specs.Whole.{Whole, answer_to}
 use Rattle.resend_laws.proofs.Whole.{resent-whole}
-use Rattle.send_keys.specs.Answer.{is_done}
+use Rattle.send_keys.specs.Answer.{SendAnswer, is_done}
 use Rattle.waiting_laws.specs.Queued.{Queued, laid_as, flat, Rows, Holds}
 use Rattle.waiting_laws.proofs.Sends.{record_of, sent_to, after_send, send_holds, sent-last}
 use Rattle.waiting_laws.proofs.Pieces.{Behind, behind-same, behind_twice, behind_send}
@@ -107,11 +106,11 @@ resend_holds a s f kept q ds h =
     let l : Laying = reached s f kept q f.saved in
     let us : List (List Queued) = again_sent kept (beginning s f q) f.saved ds in
     let all : Holds l.state l.queue us = again-all-holds kept (beginning s f q) f.saved ds (closed-holds s q ds h) in
-    let yes : Resent = record { answer = a; state = l.state; flight = l.flight } in
-    let not : Resent = record { answer = a; state = s; flight = f } in
+    let yes : Saved = record { answer = a; state = l.state; flight = l.flight } in
+    let not : Saved = record { answer = a; state = s; flight = f } in
     test_cases (is_done a)
-    (λ d. rw (if_true l.queue q d, if_true us ds d) (subst (λ (r : Resent). Holds r.state l.queue us) (sym (if_true yes not d)) all))
-    (λ d. rw (if_false l.queue q d, if_false us ds d) (subst (λ (r : Resent). Holds r.state q ds) (sym (if_false yes not d)) h))
+    (λ d. rw (if_true l.queue q d, if_true us ds d) (subst (λ (r : Saved). Holds r.state l.queue us) (sym (if_true yes not d)) all))
+    (λ d. rw (if_false l.queue q d, if_false us ds d) (subst (λ (r : Saved). Holds r.state q ds) (sym (if_false yes not d)) h))
 
 pub behind_resend : (a : SendAnswer) (s : Sending) (f : Flight) (kept q : List ℕ) (ds : List (List Queued)) → Behind (flat ds) (flat (after_resend a s f kept q ds))
 behind_resend a s f kept q ds =

@@ -1,6 +1,6 @@
 -- The sealing question, the host's bytes in the part that is lent, and the reply (01: "Sealings are asked oldest first and never
 -- cancelled"): the first record that waits becomes sealed, the others stay as they are. Assumes nothing.
-use Rattle.std.specs.Prelude.{Bool, ◌≡◌, refl, eqb}
+use Rattle.std.specs.Prelude.{Bool, ◌≡◌, refl, eqb, None, Ok, Err}
 use Rattle.std.proofs.Math.Bool.{true}
 use Rattle.std.proofs.lemmas.Bool.{false≢true}
 use mathlib.Core.List.{List}
@@ -20,11 +20,9 @@ use Rattle.send_keys.specs.Keys.{sealed_up_to}
 use Rattle.outgoing.specs.declared.Waiting.{Waiting}
 use Rattle.outgoing.specs.declared.Sending.{Sending}
 use Rattle.outgoing.specs.State.{no_waiting}
-use Rattle.sealing.specs.declared.SealAnswer.{SealAnswer}
-use Rattle.sealing.specs.declared.SealAnswer.TheVariants as reply
+use Rattle.sealing.specs.declared.SealError.TheVariants as reply
 use Rattle.sealing.specs.Seek.{seek}
-use Rattle.sealing.specs.Sealing.{is_span, is_held, is_asked, is_put, part_start, asked, nothing_asked, question_of, put_memory, masked_header, behind_oldest, seal_answer, is_sealed, after_sealing, sealed_state, sealed_memory, length-masked}
-use Rattle.sealing.specs.declared.SealQuestion.TheVariants as ask
+use Rattle.sealing.specs.Sealing.{SealAnswer, is_span, is_held, is_asked, is_put, part_start, asked, question_of, put_memory, masked_header, behind_oldest, seal_answer, is_sealed, after_sealing, sealed_state, sealed_memory, length-masked}
 use Rattle.waiting_laws.specs.Queued.{Queued, flat, waits_in, InOrder, oldest_in, oldest_of, Agrees, Holds}
 use Rattle.waiting_laws.proofs.Ring.{Outside, splice-outside, part_join, part_left, part_right}
 use Rattle.waiting_laws.proofs.Lists.{length-waits, length-sealed, any-waits}
@@ -158,11 +156,11 @@ module _ (s : Sending) (mem : List ℕ) (ds : List (List Queued)) (h : Holds s m
         }
 
     -- the next one that waits is the oldest then
-    pub next-waits : seek 2000 s.queue mem (behind_oldest s) ≡ oldest_of s.queue.first s.queue.limit 0 (first_of (seal_with m) ds) no_waiting
+    pub next-waits : seek 1999 s.queue mem (behind_oldest s) ≡ oldest_of s.queue.first s.queue.limit 0 (first_of (seal_with m) ds) no_waiting
     unfolding behind_oldest
     next-waits =
         rw h.oldest
-        (seek_exact s.queue mem h.range 0 2000 ds m (omega (arith, h.count)) h.rows h.order (some any) (steps_enough s.queue mem h.range 0 ds few h.rows))
+        (seek_exact s.queue mem h.range 0 1999 ds m (omega (arith, h.count)) h.rows h.order (some any) (steps_enough s.queue mem h.range 0 ds few h.rows))
 
     -- the first that waits is sealed, its part as it lies; the others stay as they are
     pub seal_in_holds : Holds (after_sealing s mem) (splice base header mem) (first_of (seal_with m) ds)
@@ -231,14 +229,14 @@ module _ (s : Sending) (mem : List ℕ) (ds : List (List Queued)) (h : Holds s m
       (λ b.
       rw (if_false (after_sealing s mem) s b, if_false (splice (s.waiting.slot * s.queue.mtu + s.waiting.start + sealed_head - sealed_head) header mem) mem b, if_false (first_of (seal_with m) ds) ds b) h)
 
-  pub seal_told : (n : ℕ) → seal_answer s (length mem) n ≡ choose (waits_in (flat ds)) (choose (eqb n s.waiting.length) reply.Done reply.NoQuestion) reply.NoQuestion
+  pub seal_told : (n : ℕ) → seal_answer s (length mem) n ≡ choose (waits_in (flat ds)) (choose (eqb n s.waiting.length) (Ok tt) (Err reply.NoQuestion)) (Err reply.NoQuestion)
   unfolding seal_answer
   seal_told n =
       if_true _ _ (ready_always s mem ds h) ∙ if_true _ _ (held-again s mem ds h)
-      ∙ ap (λ (b : Bool). choose b (choose (eqb n s.waiting.length) reply.Done reply.NoQuestion) reply.NoQuestion) (any_same s mem ds h)
+      ∙ ap (λ (b : Bool). choose b (choose (eqb n s.waiting.length) (Ok tt) (Err reply.NoQuestion)) (Err reply.NoQuestion)) (any_same s mem ds h)
 
-  pub question-told : question_of s ≡ choose (waits_in (flat ds)) (asked s) (nothing_asked ask.Nothing)
+  pub question-told : question_of s ≡ choose (waits_in (flat ds)) (asked s) (Ok None)
   unfolding question_of
   question-told =
       if_true _ _ (sound-again h.range) ∙ if_true _ _ (held-again s mem ds h)
-      ∙ ap (λ (b : Bool). choose b (asked s) (nothing_asked ask.Nothing)) (any_same s mem ds h)
+      ∙ ap (λ (b : Bool). choose b (asked s) (Ok None)) (any_same s mem ds h)

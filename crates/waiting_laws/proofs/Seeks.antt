@@ -1,6 +1,7 @@
 -- The search for the next record that waits is exact: from behind the oldest it passes plaintext records and finds the next one that
--- waits, with its epoch and number, or none where none does; 2,000 steps are enough. Assumes nothing.
-use Rattle.std.specs.Prelude.{true, false, ◌≡◌, get_or}
+-- waits, with its epoch and number, or none where none does; 1,999 steps are enough. Assumes nothing.
+use Rattle.std.specs.Prelude.{true, ◌≡◌, get_or}
+use Rattle.std.specs.declared.ops.ControlFlow.TheVariants.{Continue, Break}
 use Rattle.std.proofs.lemmas.Bool.{false≢true}
 use mathlib.Core.List.{List, [], ◌∷◌, ◌++◌, append_assoc}
 use Rattle.std.proofs.Math.Path.{refl, ap}
@@ -81,17 +82,14 @@ module _ (e t n : ℕ) (x r : List ℕ) (small : e < 65536) (short : n < 2814749
 
 -- the search at an offset of a datagram
 abbrev pub searching : ℕ → ℕ → Search
-searching i at = record { done = false; datagram = i; offset = at; found = no_waiting }
+searching i at = record { datagram = i; offset = at }
 
 module _ (q : Queue) (mem : List ℕ) where
   -- behind the last datagram nothing is found
-  seek-over : (i k : ℕ) → q.count ≤ i → 2 ≤ k → seek k q mem (searching i 0) ≡ no_waiting
+  seek-over : (i k : ℕ) → q.count ≤ i → 1 ≤ k → seek k q mem (searching i 0) ≡ no_waiting
   unfolding seek_step
   seek-over i zero h l = absurd (omega arith)
-  seek-over i (suc zero) h l = absurd (omega arith)
-  seek-over i (suc (suc k)) h l =
-      seek-on q mem (searching i 0) (suc k) refl ∙ ap (seek (suc k) q mem) (if_true _ _ (le-leb q.count i h))
-      ∙ seek-done q mem (record { done = true; datagram = i; offset = 0; found = no_waiting }) k refl
+  seek-over i (suc k) h l = seek-done q mem (searching i 0) k (if_true _ _ (le-leb q.count i h))
 
   module _ (i : ℕ) (low : i < q.count) where
     abbrev slot : ℕ
@@ -102,7 +100,7 @@ module _ (q : Queue) (mem : List ℕ) where
     step-in at = if_false _ _ (lt-leb q.count i low)
 
     -- at the end of a datagram, on to the next
-    step_end : (at : ℕ) → get_or q.lengths slot 0 ≤ at → seek_step q mem (searching i at) ≡ searching (i + 1) 0
+    step_end : (at : ℕ) → get_or q.lengths slot 0 ≤ at → seek_step q mem (searching i at) ≡ Continue (searching (i + 1) 0)
     unfolding beyond
     step_end at h = step-in at ∙ if_true _ _ (le-leb (get_or q.lengths slot 0) at h)
 
@@ -112,24 +110,19 @@ module _ (q : Queue) (mem : List ℕ) where
         step-in at ∙ if_false _ _ (lt-leb (get_or q.lengths slot 0) at h) ∙ ap (λ (b : List ℕ). step_of (parsed b) b slot (searching i at)) e
 
     step-plain : (at t n : ℕ) (x r : List ℕ) → at < get_or q.lengths slot 0 → record_at q mem slot at ≡ record_bytes 0 t n x ++ r → Plain t n x
-        → seek_step q mem (searching i at) ≡ searching i (at + length (record_bytes 0 t n x))
+        → seek_step q mem (searching i at) ≡ Continue (searching i (at + length (record_bytes 0 t n x)))
     unfolding step_of passed
     step-plain at t n x r h e s =
         step-read at (record_bytes 0 t n x ++ r) h e
         ∙ ap (λ (p : Parsed). step_of p (record_bytes 0 t n x ++ r) slot (searching i at)) (plain_back 0 t n x r refl (plain-kind t s.kind) (omega (arith, s.short)))
-        ∙ ap (λ (k : ℕ). searching i k) size
+        ∙ ap (λ (k : ℕ). Continue (searching i k)) size
       where
         size : at + (plain_head + length x) ≡ at + length (record_bytes 0 t n x)
         size = omega (arith, length-plain t n x)
 
     step_waits : (at e t n : ℕ) (x r : List ℕ) → at < get_or q.lengths slot 0 → record_at q mem slot at ≡ (unified_header e n (length x + sealed_tail) ++ (x ++ trailer_of t e n)) ++ r
         → Sealing e t n x (x ++ trailer_of t e n)
-        → seek_step q mem (searching i at) ≡ record {
-          done = true;
-          datagram = i;
-          offset = at;
-          found = record { any = true; slot = slot; start = at; length = length x + sealed_tail; epoch = e; number = n };
-        }
+        → seek_step q mem (searching i at) ≡ Break (record { any = true; slot = slot; start = at; length = length x + sealed_tail; epoch = e; number = n })
     unfolding step_of found_at
     step_waits at e t n x r h g s =
         let d : List ℕ = unified_header e n (length x + sealed_tail) ++ (x ++ trailer_of t e n) ++ r in
@@ -138,12 +131,7 @@ module _ (q : Queue) (mem : List ℕ) where
         step-read at d h g
         ∙ ap (λ (p : Parsed). step_of p d slot (searching i at)) back
         ∙ if_true _ _ (both_true refl ∙ le-leb sealed_tail (length x + sealed_tail) (omega arith))
-        ∙ λ j. record {
-          done = true;
-          datagram = i;
-          offset = at;
-          found = record { any = true; slot = slot; start = at; length = length x + sealed_tail; epoch = epoch-back e t n x r s.epoch s.number j; number = number-back e t n x r s.epoch s.number j };
-        }
+        ∙ λ j. Break (record { any = true; slot = slot; start = at; length = length x + sealed_tail; epoch = epoch-back e t n x r s.epoch s.number j; number = number-back e t n x r s.epoch s.number j })
 
     -- the rest of the datagram is what its records say
     rest-bytes : (at : ℕ) (rs : List Queued) → get_or q.lengths slot 0 ≡ at + length (bytes rs) → Lies mem (slot * q.mtu) at rs → record_at q mem slot at ≡ bytes rs
@@ -153,44 +141,30 @@ module _ (q : Queue) (mem : List ℕ) where
         size = omega arith
 
     -- from an offset on the search finds the first that waits; w is what it finds in the later datagrams
-    walk : (n : ℕ) (w : Waiting) → 2 ≤ n → ((j : ℕ) → n ≤ j → seek j q mem (searching (i + 1) 0) ≡ w)
+    walk : (n : ℕ) (w : Waiting) → ((j : ℕ) → n ≤ j → seek j q mem (searching (i + 1) 0) ≡ w)
         → (at k : ℕ) (rs : List Queued) → get_or q.lengths slot 0 ≡ at + length (bytes rs) → Lies mem (slot * q.mtu) at rs → AsLaid rs → length rs + 1 + n ≤ k
         → seek k q mem (searching i at) ≡ oldest_in slot at rs w
-    walk n w two next at zero rs e l a h = absurd (omega arith)
-    walk n w two next at (suc k) [] e l a h =
-        seek-on q mem (searching i at) k refl ∙ ap (seek k q mem) (step_end at (omega arith)) ∙ next k (omega arith)
-    walk n w two next at (suc k) (plain t m x ∷ rs) e l a h =
+    walk n w next at zero rs e l a h = absurd (omega arith)
+    walk n w next at (suc k) [] e l a h =
+        seek-on q mem (searching i at) k (step_end at (omega arith)) ∙ next k (omega arith)
+    walk n w next at (suc k) (plain t m x ∷ rs) e l a h =
         let b : List ℕ = record_bytes 0 t m x in
         let size = length-append b (bytes rs) in
-        seek-on q mem (searching i at) k refl
-        ∙ ap (seek k q mem) (step-plain at t m x (bytes rs) (omega (arith, length-plain t m x)) (rest-bytes at (plain t m x ∷ rs) e l) l.0.sound)
-        ∙ walk n w two next (at + length b) k rs (omega arith) l.1 a (omega arith)
-    walk n w two next at (suc zero) (waits f t m x p ∷ rs) e l a h = absurd (omega arith)
-    walk n w two next at (suc (suc k)) (waits f t m x p ∷ rs) e l a h =
+        seek-on q mem (searching i at) k (step-plain at t m x (bytes rs) (omega (arith, length-plain t m x)) (rest-bytes at (plain t m x ∷ rs) e l) l.0.sound)
+        ∙ walk n w next (at + length b) k rs (omega arith) l.1 a (omega arith)
+    walk n w next at (suc k) (waits f t m x p ∷ rs) e l a h =
         let b : List ℕ = unified_header f m (length x + sealed_tail) ++ p in
         let size = length-append b (bytes rs) in
         let head : record_at q mem slot at ≡ (unified_header f m (length x + sealed_tail) ++ (x ++ trailer_of t f m)) ++ bytes rs = rest-bytes at (waits f t m x p ∷ rs) e l ∙ ap (λ (v : List ℕ). (unified_header f m (length x + sealed_tail) ++ v) ++ bytes rs) a.0 in
-        seek-on q mem (searching i at) (suc k) refl
-        ∙ ap (seek (suc k) q mem)
-        (step_waits at f t m x (bytes rs) (omega (arith, length-waits f t m x p l.0.sound.part)) head (subst (Sealing f t m x) a.0 l.0.sound))
-        ∙ seek-done q mem (record {
-          done = true;
-          datagram = i;
-          offset = at;
-          found = record { any = true; slot = slot; start = at; length = length x + sealed_tail; epoch = f; number = m };
-        }) k refl
-    walk n w two next at (suc k) (sealed f t m x o p ∷ rs) e l a h = absurd a
+        seek-done q mem (searching i at) k (step_waits at f t m x (bytes rs) (omega (arith, length-waits f t m x p l.0.sound.part)) head (subst (Sealing f t m x) a.0 l.0.sound))
+    walk n w next at (suc k) (sealed f t m x o p ∷ rs) e l a h = absurd a
 
 -- ---- from behind the oldest
 
--- steps: one for each record, one for each datagram's end, two at the end of the queue
+-- steps: one for each record, one for each datagram's end, one at the end of the queue
 abbrev pub steps : List (List Queued) → ℕ
-steps [] = 2
+steps [] = 1
 steps (d ∷ ds) = length d + 1 + steps ds
-
-steps-two : (ds : List (List Queued)) → 2 ≤ steps ds
-steps-two [] = omega arith
-steps-two (d ∷ ds) = omega (arith, steps-two ds)
 
 lies-long : (mem : List ℕ) (base at : ℕ) (rs : List Queued) → Lies mem base at rs → plain_head * length rs ≤ length (bytes rs)
 lies-long mem base at [] l = omega arith
@@ -198,13 +172,13 @@ lies-long mem base at (r ∷ rs) l =
     omega (arith, lies-long mem base (at + length (bytes_of r)) rs l.1, length-append (bytes_of r) (bytes rs), long r l.0.sound)
 
 -- a datagram of 1,500 bytes has at most 115 records
-rows_few : (q : Queue) (mem : List ℕ) → q.mtu ≤ 1500 → (i : ℕ) (ds : List (List Queued)) → Rows q mem i ds → steps ds ≤ 116 * length ds + 2
+rows_few : (q : Queue) (mem : List ℕ) → q.mtu ≤ 1500 → (i : ℕ) (ds : List (List Queued)) → Rows q mem i ds → steps ds ≤ 116 * length ds + 1
 rows_few q mem h i [] r = omega arith
 rows_few q mem h i (d ∷ ds) r =
     omega (arith, rows_few q mem h (i + 1) ds r.1, lies-long mem (slot_of q.first q.limit i * q.mtu) 0 d r.0.lies, r.0.short)
 
--- so 2,000 steps are enough for a whole queue
-pub steps_enough : (q : Queue) (mem : List ℕ) → InRange q → (i : ℕ) (ds : List (List Queued)) → length ds ≤ q.limit → Rows q mem i ds → steps ds ≤ 2000
+-- so 1,999 steps are enough for a whole queue
+pub steps_enough : (q : Queue) (mem : List ℕ) → InRange q → (i : ℕ) (ds : List (List Queued)) → length ds ≤ q.limit → Rows q mem i ds → steps ds ≤ 1999
 steps_enough q mem g i ds h r = omega (arith, rows_few q mem g.high i ds r, g.limit)
 
 module _ (q : Queue) (mem : List ℕ) where
@@ -214,7 +188,7 @@ module _ (q : Queue) (mem : List ℕ) where
   seek-rows i k [] h r a l = seek-over q mem i k (omega arith) l
   seek-rows i k (d ∷ ds) h r a l =
       let b = laid-split d (flat ds) a in
-      walk q mem i (omega arith) (steps ds) (oldest_of q.first q.limit (i + 1) ds no_waiting) (steps-two ds)
+      walk q mem i (omega arith) (steps ds) (oldest_of q.first q.limit (i + 1) ds no_waiting)
       (λ j g. seek-rows (i + 1) j ds (omega arith) r.1 b.1 g) 0 k d (r.0.size ∙ omega arith) r.0.lies b.0 (omega arith)
 
   -- behind the first that waits in a datagram
@@ -238,7 +212,7 @@ module _ (q : Queue) (mem : List ℕ) where
       let size = length-append (bytes_of (waits f t n x p)) (bytes rs) in
       ap (λ (j : ℕ). seek k q mem (searching j (at + sealed_head + (length x + sealed_tail)))) (nth-slot q.first q.limit range.first i low)
       ∙ ap (λ (j : ℕ). seek k q mem (searching i j)) (over at (length x) (length (bytes_of (waits f t n x p))) len)
-      ∙ walk q mem i (omega arith) (steps ds) (oldest_of q.first q.limit (i + 1) ds no_waiting) (steps-two ds)
+      ∙ walk q mem i (omega arith) (steps ds) (oldest_of q.first q.limit (i + 1) ds no_waiting)
       (λ j v. seek-rows (i + 1) j ds (omega arith) r b.1 v) (at + length (bytes_of (waits f t n x p))) k rs (e ∙ omega arith) l.1 b.0 (omega arith)
       ∙ ap (λ (j : ℕ). oldest_in slot (at + j) rs (oldest_of q.first q.limit (i + 1) ds no_waiting)) (len ∙ sym len')
     where

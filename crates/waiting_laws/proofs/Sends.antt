@@ -15,13 +15,12 @@ use Rattle.queue.specs.Laid.{record_bytes, record_len, trailer_of, length_record
 use Rattle.send_keys.specs.Keys.{is_usable, is_keyed, next_of, used}
 use Rattle.outgoing.specs.declared.Waiting.{Waiting}
 use Rattle.outgoing.specs.declared.Sending.{Sending}
-use Rattle.send_keys.specs.declared.SendAnswer.{SendAnswer}
 use Rattle.outgoing.specs.State.{no_waiting, is_allowed, is_content_type, with_queue, with_keys, with_waiting}
 use Rattle.outgoing.specs.Send.{spot_of, waits_behind, laid_state, laid_memory, send_answer, send_state, send_memory, Clear, laid_at}
 use Rattle.outgoing.proofs.Send.{send_clear, clear-short}
 use Rattle.flight.specs.declared.Flight.{Flight}
 use Rattle.flight.specs.Save.{save_answer, save_state, save_queue, save_safe}
-use Rattle.send_keys.specs.Answer.{is_done}
+use Rattle.send_keys.specs.Answer.{SendAnswer, is_done}
 use Rattle.waiting_laws.specs.Queued.{Queued, bytes_of, laid_as, flat, waits_in, Sound, Rows, AsLaid, InOrder, oldest_in, oldest_of, Agrees, Holds}
 use Rattle.waiting_laws.proofs.Lists.{laid-bytes, order-append, none_of, some_of, any-waits, flat_snoc}
 use Rattle.waiting_laws.proofs.Growing.{joined, grown, flat-joined, flat-grown, length-joined, oldest-new, rows_new, rows-joined, oldest-joined}

@@ -1,6 +1,6 @@
 -- Taking the front datagram (01, refusals 12, 23, 16): 23 exactly if one of its records waits; what is handed out is its records' bytes, and
 -- the queue then means the datagrams behind it. Assumes nothing.
-use Rattle.std.specs.Prelude.{Bool, true, false, List, [], ◌∷◌, ◌++◌, ◌≡◌, refl, ℕ, ◌+◌, ◌*◌, ◌≤◌, ltb, eqb, length}
+use Rattle.std.specs.Prelude.{Bool, true, false, List, [], ◌∷◌, ◌++◌, ◌≡◌, refl, ℕ, ◌+◌, ◌*◌, ◌≤◌, ltb, eqb, length, Some, Ok, Err}
 use Rattle.std.proofs.lemmas.Bool.{false≢true}
 use Rattle.std.proofs.Common.{sym, ap, subst, ◌∙◌, arith, eq-eqb, ne_eqb, le-leb}
 use Rattle.base.specs.Choose.{choose, by_test, test_cases, if_true, if_false, both_true, both_false}
@@ -10,9 +10,8 @@ use Rattle.send_keys.specs.declared.SendKeys.{SendKeys}
 use Rattle.outgoing.specs.declared.Waiting.{Waiting}
 use Rattle.outgoing.specs.declared.Sending.{Sending}
 use Rattle.outgoing.specs.State.{no_waiting}
-use Rattle.taking.specs.declared.TakeAnswer.{TakeAnswer}
-use Rattle.taking.specs.declared.TakeAnswer.TheVariants as take
-use Rattle.taking.specs.Take.{front_len, is_front, next_slot, take_answer, is_taken, after_take, take_state, take_buffer}
+use Rattle.taking.specs.declared.TakeError.TheVariants as take
+use Rattle.taking.specs.Take.{TakeAnswer, front_len, is_front, next_slot, take_answer, is_taken, after_take, take_state, take_buffer}
 use Rattle.waiting_laws.specs.Queued.{Queued, plain, waits, sealed, bytes, flat, numbers_of, waits_in, Row, Rows, oldest_in, oldest_of, Under, Agrees, Holds}
 use Rattle.waiting_laws.proofs.Ring.{slot-front, slot_apart, slot_next, next-slot}
 use Rattle.waiting_laws.proofs.Lists.{order-later, none_in, any-waits, some_in}
@@ -136,8 +135,8 @@ take-told s mem (d ∷ ds) h have =
     if_true _ _ (ready_always s mem (d ∷ ds) h)
     ∙ if_false _ _ (ne_eqb s.queue.count 0 (λ z. omega (arith, h.count)))
     ∙ if_true _ _ (le-leb (front_len s) s.queue.mtu (omega (arith, size, (front_row s mem d ds h).short)))
-    ∙ ap (λ (b : Bool). choose b take.Unsealed (choose (ltb have (front_len s)) (take.Short (front_len s)) (take.Taken (front_len s)))) (front-waits s mem d ds h)
-    ∙ ap (λ (n : ℕ). choose (waits_in d) take.Unsealed (choose (ltb have n) (take.Short n) (take.Taken n))) size
+    ∙ ap (λ (b : Bool). choose b (Err take.Unsealed) (choose (ltb have (front_len s)) (Err (take.Short (front_len s))) (Ok (Some (front_len s))))) (front-waits s mem d ds h)
+    ∙ ap (λ (n : ℕ). choose (waits_in d) (Err take.Unsealed) (choose (ltb have n) (Err (take.Short n)) (Ok (Some n)))) size
 
 -- a datagram is handed out only if none of its records waits: each is plaintext or sealed
 pub taken-settled : (s : Sending) (mem : List ℕ) (d : List Queued) (ds : List (List Queued)) → Holds s mem (d ∷ ds) → (have : ℕ) → is_taken (take_answer s (length mem) have) ≡ true → waits_in d ≡ false

@@ -1,12 +1,11 @@
 -- What the host sees of each sending call: 01's number of the answer, and what is told besides.
-use Rattle.std.specs.Prelude.{ℕ, length}
+use Rattle.std.specs.Prelude.{ℕ, length, Some, None, Ok, Err, true, false}
 use Rattle.base.specs.Choose.{choose}
 use Rattle.outgoing.specs.Send.{send_answer}
 use Rattle.outgoing.specs.State.{keying_state}
 use Rattle.sealing.specs.Sealing.{refusal as sealRefusal, seal_answer}
-use Rattle.taking.specs.declared.TakeAnswer.{TakeAnswer}
-use Rattle.taking.specs.declared.TakeAnswer.TheVariants as took
-use Rattle.taking.specs.Take.{take_answer}
+use Rattle.taking.specs.declared.TakeError.TheVariants as took
+use Rattle.taking.specs.Take.{TakeAnswer, take_answer}
 use Rattle.flight.specs.Flight.{begun}
 use Rattle.flight.specs.Save.{save_answer}
 use Rattle.flight.specs.Status.{unacknowledged}
@@ -14,18 +13,15 @@ use Rattle.messages.specs.Message.{message_answer}
 use Rattle.process_ack.specs.Ack.{acked}
 use Rattle.process_ack.specs.Status.{newly_marked}
 use Rattle.acks.specs.declared.AckSent.{AckSent}
-use Rattle.acks.specs.declared.NoteAnswer.{NoteAnswer}
-use Rattle.acks.specs.declared.NoteAnswer.TheVariants as note
-use Rattle.acks.specs.Acks.{noted, sent_ack}
+use Rattle.acks.specs.Acks.{NoteAnswer, noted, sent_ack}
 use Rattle.resend.specs.Tests.{resend_answer}
-use Rattle.send_keys.specs.Answer.{is_done, refusal}
-use Rattle.send_keys.specs.declared.SendAnswer.{SendAnswer}
+use Rattle.send_keys.specs.Answer.{SendAnswer, is_done, refusal}
 use Rattle.waiting_laws.specs.Calls.{Stores, SendCall, key_send·, send·, save·, message·, begin_flight·, resend·, note·, send_ack·, ack·, fill·, sealed·, take·, Reply, only}
 
 abbrev pub note_reply : NoteAnswer → Reply
-note_reply note.Noted = record { number = 0; told = 1 }
-note_reply note.Full = record { number = 0; told = 0 }
-note_reply note.OutOfRange = record { number = 12; told = 0 }
+note_reply (Ok true) = record { number = 0; told = 1 }
+note_reply (Ok false) = record { number = 0; told = 0 }
+note_reply (Err e) = record { number = 12; told = 0 }
 
 abbrev pub ack_reply : AckSent → Reply
 ack_reply r = record { number = refusal r.answer; told = choose r.sent 1 0 }
@@ -35,11 +31,11 @@ abbrev pub resend_reply : SendAnswer → ℕ → Reply
 resend_reply a n = record { number = refusal a; told = choose (is_done a) n 0 }
 
 abbrev pub take_reply : TakeAnswer → Reply
-take_reply (took.Taken n) = record { number = 0; told = n }
-take_reply took.Nothing = record { number = 0; told = 0 }
-take_reply took.OutOfRange = record { number = 12; told = 0 }
-take_reply took.Unsealed = record { number = 23; told = 0 }
-take_reply (took.Short n) = record { number = 16; told = n }
+take_reply (Ok (Some n)) = record { number = 0; told = n }
+take_reply (Ok None) = record { number = 0; told = 0 }
+take_reply (Err took.OutOfRange) = record { number = 12; told = 0 }
+take_reply (Err took.Unsealed) = record { number = 23; told = 0 }
+take_reply (Err (took.Short n)) = record { number = 16; told = n }
 
 -- by the definitions that the calls' contracts cite; the host's own writing has no answer
 abbrev pub answered : Stores → SendCall → Reply

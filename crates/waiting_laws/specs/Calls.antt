@@ -1,13 +1,11 @@
 -- The calls of a sending end, and the state and memory that each leaves, by the definitions that the calls' contracts cite.
-use Rattle.std.specs.Prelude.{ℕ, ◌*◌, ◌<◌, eqb, length, List, ◌⊎◌}
+use Rattle.std.specs.Prelude.{ℕ, ◌*◌, ◌<◌, eqb, length, List, ◌⊎◌, Some, None, Ok, Err}
 use Rattle.base.specs.Choose.{choose}
 use Rattle.base.specs.Parts.{splice}
 use Rattle.outgoing.specs.declared.Sending.{Sending}
 use Rattle.outgoing.specs.Send.{send_answer, send_state, send_memory}
 use Rattle.outgoing.specs.State.{fresh_sending, keying_state}
-use Rattle.sealing.specs.declared.SealQuestion.TheVariants as ask
-use Rattle.sealing.specs.declared.SealQuestion.{SealQuestion}
-use Rattle.sealing.specs.Sealing.{question_of, seal_answer, sealed_state, sealed_memory}
+use Rattle.sealing.specs.Sealing.{Asked, question_of, seal_answer, sealed_state, sealed_memory}
 use Rattle.taking.specs.Take.{take_answer, take_state}
 use Rattle.flight.specs.declared.Flight.{Flight}
 use Rattle.flight.specs.Flight.{fresh_flight, begun}
@@ -54,10 +52,10 @@ abbrev pub only : ℕ → Reply
 only n = record { number = n; told = 0 }
 
 -- the host's own writing: as many bytes as the sealing question shows, in the place that it shows
-abbrev pub written_in : SealQuestion → List ℕ → List ℕ → List ℕ
-written_in (ask.Seal e n p l) v q = choose (eqb (length v) l) (splice p v q) q
-written_in ask.Nothing v q = q
-written_in ask.OutOfRange v q = q
+abbrev pub written_in : Asked → List ℕ → List ℕ → List ℕ
+written_in (Ok (Some x)) v q = choose (eqb (length v) x.length) (splice x.start v q) q
+written_in (Ok None) v q = q
+written_in (Err x) v q = q
 
 -- state and memory behind each call, by the definitions that the calls' contracts cite
 abbrev pub stored : Stores → SendCall → Stores
@@ -94,7 +92,7 @@ stored w send_ack· =
     let r = sent_ack w.state w.notes (length w.queue) in
     record { state = r.state; queue = ack_memory w.state w.notes w.queue; flight = w.flight; kept = w.kept; notes = r.notes }
 stored w (ack· d) = record { state = w.state; queue = w.queue; flight = (acked w.flight d).flight; kept = w.kept; notes = w.notes }
-stored w (fill· v) = record { state = w.state; queue = written_in (question_of w.state).question v w.queue; flight = w.flight; kept = w.kept; notes = w.notes }
+stored w (fill· v) = record { state = w.state; queue = written_in (question_of w.state) v w.queue; flight = w.flight; kept = w.kept; notes = w.notes }
 stored w (sealed· n m) =
     let a = seal_answer w.state (length w.queue) n in
     record { state = (sealed_state a w.state w.queue).state; queue = sealed_memory a w.state m w.queue; flight = w.flight; kept = w.kept; notes = w.notes }

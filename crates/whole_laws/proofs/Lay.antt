@@ -1,6 +1,6 @@
 -- The pieces of a handshake message laid one after the other, with no test, and why each of a message's sends is done. Assumes nothing.
 use Rattle.std.proofs.Math.Bool.{true}
-use Rattle.std.specs.Prelude.{List, [], ◌∷◌, ◌≡◌, ℕ, zero, suc, ◌+◌, ◌-◌, ◌*◌, ◌<◌, ◌≤◌, eqb}
+use Rattle.std.specs.Prelude.{List, [], ◌∷◌, ◌≡◌, ℕ, zero, suc, ◌+◌, ◌-◌, ◌*◌, ◌<◌, ◌≤◌, eqb, Ok}
 use Rattle.std.proofs.Math.Path.{refl, sym, ap}
 use Rattle.std.proofs.Common.{subst, ◌∙◌}
 use native.Mathlib.Omega.{arith}
@@ -14,7 +14,6 @@ use Rattle.queue.specs.Laid.{record_len, record_bytes, length_record, len_over, 
 use Rattle.send_keys.specs.declared.SendKeys.{SendKeys}
 use Rattle.send_keys.specs.Keys.{is_usable, is_keyed, next_of, used, used-next}
 use Rattle.outgoing.specs.declared.Sending.{Sending}
-use Rattle.send_keys.specs.declared.SendAnswer.TheVariants.{Done}
 use Rattle.outgoing.specs.State.{is_content_type, is_allowed}
 use Rattle.outgoing.specs.Send.{spot_of, laid_state, laid_memory}
 use Rattle.flight.specs.declared.Flight.{Flight}
@@ -109,7 +108,7 @@ module _ (k kind : ℕ) (body : List ℕ) (at : ℕ) (l : Laid) (a : Able (suc k
   unfolding pieces
   fresh = omega (arith, a.number)
 
-  pub piece-done : save_answer s f (length l.queue) (length l.kept) e 22 (12 + n) ≡ Done
+  pub piece-done : save_answer s f (length l.queue) (length l.kept) e 22 (12 + n) ≡ Ok tt
   unfolding save_answer is_kept
   piece-done =
       if_true _ _ (ready-again a.ready) ∙ if_true _ _ (both_true (le-leb f.saved 12 (omega (arith, few))) ∙ le-leb (12 * mtu) (length l.kept) a.space)
@@ -129,7 +128,7 @@ module _ (k kind : ℕ) (body : List ℕ) (at : ℕ) (l : Laid) (a : Able (suc k
         kept = if_true (saved_memory f mtu content l.kept) l.kept g i;
       }
 
-  answered : (piece_of kind body at n s f l.queue l.kept).saved.answer ≡ Done
+  answered : (piece_of kind body at n s f l.queue l.kept).saved.answer ≡ Ok tt
   unfolding piece_of save_state
   answered = piece-done
 

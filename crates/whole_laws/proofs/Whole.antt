@@ -1,5 +1,5 @@
 -- A handshake message is sent wholly or not at all (01, "Datagrams to send" and refusals 18, 19). Assumes nothing.
-use Rattle.std.specs.Prelude.{true, false, List, ◌≡◌, ℕ, zero, suc, ◌+◌, ◌-◌, ◌*◌, ◌<◌, ◌≤◌, max, eqb, length, get_or, take}
+use Rattle.std.specs.Prelude.{true, false, List, ◌≡◌, ℕ, zero, suc, ◌+◌, ◌-◌, ◌*◌, ◌<◌, ◌≤◌, max, eqb, length, get_or, take, Ok, Err}
 use Rattle.std.proofs.lemmas.Bool.{false≢true}
 use Rattle.std.proofs.Common.{sym, ap, subst, ◌∙◌, zero-add}
 use Rattle.std.proofs.Math.Nat.{max-zero}
@@ -13,8 +13,7 @@ use Rattle.queue.specs.Queue.{tail_of, place_of, grown, start_of, InRange, ready
 use Rattle.queue.specs.Laid.{record_len, record_bytes}
 use Rattle.send_keys.specs.Keys.{next_of}
 use Rattle.outgoing.specs.declared.Sending.{Sending}
-use Rattle.send_keys.specs.declared.SendAnswer.{SendAnswer}
-use Rattle.send_keys.specs.declared.SendAnswer.TheVariants.{Done, FlightFull, QueueFull}
+use Rattle.send_keys.specs.declared.SendError.TheVariants.{FlightFull, QueueFull}
 use Rattle.flight.specs.declared.Entry.{Entry}
 use Rattle.flight.specs.declared.Flight.{Flight}
 use Rattle.flight.specs.declared.Saved.{Saved}
@@ -24,7 +23,7 @@ use Rattle.messages.specs.Cut.{epoch_of, overhead, size_in, cut_next, pieces, pl
 use Rattle.outgoing.specs.State.{numbered}
 use Rattle.messages.specs.Message.{content_of, Laid, first_cut, count_of, reach_of, message_answer, beginning, sent_all, message_state, message_queue, message_kept}
 use Rattle.messages.specs.Laws as laws
-use Rattle.send_keys.specs.Answer.{is_done, refusal, is-done}
+use Rattle.send_keys.specs.Answer.{SendAnswer, is_done, refusal, is-done}
 use Rattle.whole_laws.specs.Lay.{lay_all, EachDone, Able, AllPlaced}
 use Rattle.whole_laws.proofs.Lay.{all_laid, each-done, all_placed}
 use Rattle.whole_laws.proofs.Queued.{places_of, Settled, lay_settled, lay-record}
@@ -90,7 +89,7 @@ done-able s f q m kind body slots =
 -- a message sent whole
 pub record Whole (s : Sending) (f : Flight) (q m : List ℕ) (kind : ℕ) (body : List ℕ) : Type 0 where
   -- every piece was sent and saved, and they are the whole body
-  pub answer : (left_state s f q m kind body).answer ≡ Done
+  pub answer : (left_state s f q m kind body).answer ≡ Ok tt
   pub each : EachDone kind body 0 (sizes_of s kind body) (beginning s f q m)
   pub all : total (sizes_of s kind body) ≡ length body
   pub some : 0 < length (sizes_of s kind body)
@@ -270,10 +269,10 @@ module _ (s : Sending) (f : Flight) (room kept kind n : ℕ) where
       (λ r. (λ z. absurd (omega arith), λ z. absurd (omega arith)))
 
   -- 18 only if the flight has no room for a record for each piece
-  pub flight_full : message_answer s f room kept kind n ≡ FlightFull → 12 < f.saved + count_of s kind n
+  pub flight_full : message_answer s f room kept kind n ≡ Err FlightFull → 12 < f.saved + count_of s kind n
   flight_full e = tells.0 (ap refusal e)
 
   -- 19 only if the pieces need a datagram beyond the limit
-  pub queue_full : message_answer s f room kept kind n ≡ QueueFull
+  pub queue_full : message_answer s f room kept kind n ≡ Err QueueFull
       → s.queue.limit < (tail_behind s.queue.mtu (overhead (epoch_of kind)) (pieces 13 s.queue.mtu (overhead (epoch_of kind)) (first_cut s n)) (tail_of s.queue)).count
   queue_full e = omega (arith, tells.1 (ap refusal e), reach-is 12 s.queue.mtu (overhead (epoch_of kind)) (first_cut s n))

@@ -1,11 +1,10 @@
 -- The pieces of a handshake message laid one after the other, with no test, and why each of a message's sends is done. Assumes nothing.
 use Rattle.std.proofs.Math.Bool.{true}
-use Rattle.std.specs.Prelude.{List, [], ◌∷◌, ◌≡◌, ℕ, ◌+◌, ◌-◌, ◌*◌, ◌<◌, ◌≤◌}
+use Rattle.std.specs.Prelude.{List, [], ◌∷◌, ◌≡◌, ℕ, ◌+◌, ◌-◌, ◌*◌, ◌<◌, ◌≤◌, Ok}
 use Rattle.std.proofs.Math.ListN.{length}
 use Rattle.queue.specs.Queue.{start_of, InRange, Ready, Fits}
 use Rattle.queue.specs.Laid.{record_len}
 use Rattle.send_keys.specs.Keys.{is_keyed, next_of}
-use Rattle.send_keys.specs.declared.SendAnswer.TheVariants.{Done}
 use Rattle.outgoing.specs.Send.{spot_of, laid_state, laid_memory}
 use Rattle.flight.specs.Flight.{saved_with, saved_memory}
 use Rattle.messages.specs.declared.Cut.{Cut}
@@ -16,7 +15,7 @@ use Rattle.messages.specs.Message.{content_of, Laid, piece_of, first_cut}
 unfoldable pub lay_one : ℕ → List ℕ → ℕ → ℕ → Laid → Laid
 lay_one kind body at n l = record {
   saved = record {
-    answer = Done;
+    answer = Ok tt;
     state = laid_state l.saved.state (epoch_of kind) (12 + n);
     flight = saved_with l.saved.flight 22 (epoch_of kind) (next_of l.saved.state.keys (epoch_of kind)) (12 + n);
   };
@@ -33,7 +32,7 @@ lay_all kind body at (n ∷ ns) l = lay_all kind body (at + n) ns (lay_one kind 
 abbrev pub EachDone : ℕ → List ℕ → ℕ → List ℕ → Laid → Type 0
 EachDone kind body at [] l = Unit {0}
 EachDone kind body at (n ∷ ns) l =
-    ((piece_of kind body at n l.saved.state l.saved.flight l.queue l.kept).saved.answer ≡ Done)
+    ((piece_of kind body at n l.saved.state l.saved.flight l.queue l.kept).saved.answer ≡ Ok tt)
     × EachDone kind body (at + n) ns (piece_of kind body at n l.saved.state l.saved.flight l.queue l.kept)
 
 -- one piece at its place

@@ -53,6 +53,7 @@ impl ReplayWindow {
     }
 
     // The window with a number marked. Call it only once the record is opened.
+    #[tactic(auto, unfolding(crate::specs::Window::marking, base::specs::Choose::choose))]
     pub fn update(self, seqno: u64) -> Self
         ensures { result ≡ marking self seqno }
     {

@@ -1,5 +1,5 @@
 -- Bytes packed into words, the first byte highest: what is packed reads back, for every number of bytes. Assumes nothing.
-use Rattle.std.specs.Prelude.{List, ◌++◌, ◌≡◌, ℕ, ◌+◌, length, set}
+use Rattle.std.specs.Prelude.{List, ◌++◌, ◌≡◌, ℕ, length, set}
 use Rattle.base.specs.Bytes.{be, be_at, Bytes}
 
 -- ---- an IV: its first four bytes in one word, the eight that a number is XORed onto in another

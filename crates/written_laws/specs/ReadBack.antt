@@ -3,8 +3,7 @@
 use Rattle.std.specs.Prelude.{true, List, [], ◌∷◌, ◌++◌, ◌≡◌, ℕ, ◌+◌, ◌%◌, ◌^◌, ◌<◌, length, take}
 use Rattle.std.proofs.Common.{append_assoc, sym, ap, ◌∙◌, arith, length-append}
 use Rattle.std.proofs.Math.Seq.{take-append-add}
-use Rattle.incoming.specs.Inner.{inner_of, inner_type}
-use Rattle.incoming.specs.declared.Inner.TheVariants as inner
+use Rattle.incoming.specs.Inner.{inner_of, inner_type, holding}
 use Rattle.record.specs.declared.Parsed.TheVariants as read
 use Rattle.record.specs.Laws.{unified_back, unified_content, unified_rest, plaintext-back, plaintext-content, plaintext-rest}
 use Rattle.record.specs.Record.{sealed_head, sealed_tail, is_type, parsed, content_of, rest_of, plaintext_header, unified_header}
@@ -56,7 +55,7 @@ pub plaintext-lent : (e t n : ℕ) (x : List ℕ) → take (length x + 1) (x ++ 
 unfolding trailer_of
 plaintext-lent e t n x = take-append-add x (trailer_of t e n) 1
 
-pub inner_back : (e t n : ℕ) (x : List ℕ) → (t ≡ 0 → ⊥) → inner_of (take (length x + 1) (x ++ trailer_of t e n)) ≡ inner.Found t (length x)
+pub inner_back : (e t n : ℕ) (x : List ℕ) → (t ≡ 0 → ⊥) → inner_of (take (length x + 1) (x ++ trailer_of t e n)) ≡ holding t (length x)
 inner_back e t n x typed = ap inner_of (plaintext-lent e t n x) ∙ inner_type x t typed
 
 -- a plaintext record, whatever follows it in its datagram

@@ -1,15 +1,19 @@
 -- `ack_calls::sent_told` meets its contract. Assumes nothing.
-use mathlib.Core.Path.{sym, ◌∙◌}
-use borrow.Author.Tests.{eq-eqb, ne_eqb}
-use Rattle.base.specs.Choose.{if_true, if_false}
+use mathlib.Core.Path.{◌≡◌, refl, sym, ap, ◌∙◌}
+use Rattle.std.specs.Prelude.{Bool, true, false, ℕ, eqb, not}
+use Rattle.std.specs.Int.{from_bool}
+use Rattle.base.specs.Choose.{choose, if_false, by_test}
+use Rattle.answers.specs.Told.{tells}
 use Rattle.ack_calls.specs.Calls.{both_told}
 use Rattle.ack_calls.proofs.sent_told.Goals as goal
 
-pub returns-then-noted-eq0 : goal.returns-then-noted-eq0
-returns-then-noted-eq0 c = c.told.ensures ∙ both_told c.refusal.ensures (sym (if_false _ _ (if_true _ _ (eq-eqb _ _ c.if-noted-eq0.true))))
+one : (b : Bool) → ◌≡◌ {A = ℕ} (from_bool (not b)) (choose (choose b false true) 1 0)
+unfolding choose
+one true = refl
+one false = refl
 
-pub returns-then-is_done : goal.returns-then-is_done
-returns-then-is_done c = c.told-then-is_done.ensures ∙ both_told c.refusal-then-is_done.ensures (sym (if_true _ _ (if_false _ _ (ne_eqb _ _ c.if-noted-eq0.false) ∙ (sym c.is_done.ensures ∙ c.if-is_done.true))))
+pub returns-in-Ok : goal.returns-in-Ok
+returns-in-Ok c = c.told.ensures ∙ rw c.in-Ok.is (ap (tells 0) (one (eqb c.args.noted 0)))
 
-pub returns : goal.returns
-returns c = c.told-2.ensures ∙ both_told c.refusal-2.ensures (sym (if_false _ _ (if_false _ _ (ne_eqb _ _ c.if-noted-eq0.false) ∙ (sym c.is_done.ensures ∙ c.if-is_done.false))))
+pub returns-in-Err : goal.returns-in-Err
+returns-in-Err c = c.told-in-Err.ensures ∙ rw c.in-Err.is (both_told c.from.ensures (sym (if_false _ _ (by_test (λ (b : Bool). b ≡ false) (λ z. refl) (λ z. refl)))))

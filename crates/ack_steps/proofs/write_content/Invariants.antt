@@ -1,6 +1,5 @@
 -- `ack_steps::write_content` meets its contract. The loop's invariant: the records so far are written behind the length. Assumes nothing.
 use Rattle.acks.specs.Acks.{pairs_of}
-use Prim.Native.Nat.{◌-◌, ◌≤◌}
 use mathlib.Core.Path.{◌≡◌}
 use lib.ListN.{length}
 use Rattle.base.specs.Parts.{splice}
@@ -8,7 +7,4 @@ use Rattle.ack_steps.specs.Steps.{tabled}
 use Rattle.ack_steps.proofs.write_content.Given as goal
 
 abbrev pub invariant-loop-i : goal.invariant-loop-i
-invariant-loop-i l = (l.i ≤ l.n) × (length l.d ≡ length l.initial.d) × (l.d ≡ splice 2 (pairs_of (tabled l.n l.epochs l.numbers) l.i) l.initial.d)
-
-abbrev pub decreases-loop-i : goal.decreases-loop-i
-decreases-loop-i l = l.n - l.i
+invariant-loop-i l = (length l.d ≡ length l.initial.d) × (l.d ≡ splice 2 (pairs_of (tabled l.n l.epochs l.numbers) l.i) l.initial.d)

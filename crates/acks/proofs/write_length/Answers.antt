@@ -1,13 +1,10 @@
--- `acks::write_length` meets its contract. Assumes nothing.
-use mathlib.Core.Path.{refl, ap, ◌∙◌}
-use native.Mathlib.Nat.{div-one}
-use Rattle.base.specs.Parts.{lent}
-use Rattle.base.specs.Bytes.{be}
-use borrow.Rule.Slice.PartMut.{put_mid}
-use mathlib.Core.List.{[], ◌∷◌}
-use Prim.Native.Nat.{◌/◌, ◌%◌}
-use mathlib.Core.Path.{◌≡◌}
+-- `acks::write_length` meets its contract: the last two of the number's eight bytes. Assumes nothing.
+use Rattle.std.specs.Prelude.{List, ℕ, ◌++◌, take, drop}
+use Rattle.std.proofs.Common.{ap, ◌∙◌}
+use Rattle.base.proofs.Bytes.{high_first-be}
+use Rattle.base.specs.Parts.{splice}
 use Rattle.acks.proofs.write_length.Goals as goal
 
 pub returns : goal.returns
-returns c = let n = c.args.n in let e : (n / 256 % 256) ∷ (n % 256) ∷ [] ≡ be 2 n = simp div-one in ap (put_mid 0 2 c.args.d.now) (c.copy.ensures ∙ e) ∙ lent 0 2 c.args.d.now (be 2 n) refl
+unfolding splice
+returns c = ap (λ (l : List ℕ). l ++ drop 2 c.args.d.now) (c.copy_from_slice.ensures.after ∙ ap (λ (l : List ℕ). take 2 (drop 6 l)) (c.to_be_bytes.ensures ∙ high_first-be 8 c.args.n))

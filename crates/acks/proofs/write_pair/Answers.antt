@@ -1,12 +1,13 @@
--- `acks::write_pair` meets its contract. Assumes nothing.
-use mathlib.Core.Path.{ap, ◌∙◌}
-use native.Mathlib.Omega.{arith}
+-- `acks::write_pair` meets its contract: epoch and number one behind the other. Assumes nothing.
+use Rattle.std.proofs.Common.{◌∙◌, arith}
+use Rattle.base.specs.Bytes.{be, length-be}
+use Rattle.base.proofs.Bytes.{high_first-be}
+use Rattle.queue.proofs.Writing.{two_parts}
 use Rattle.acks.specs.Acks.{pair_of}
-use Rattle.acks.proofs.Acks.{length-pair}
-use Rattle.base.specs.Parts.{lent}
-use borrow.Rule.Slice.PartMut.{put_mid}
-use Prim.Native.Nat.{◌+◌, ◌-◌}
 use Rattle.acks.proofs.write_pair.Goals as goal
 
 pub returns : goal.returns
-returns c = let a = c.args in ap (put_mid a.at (a.at + 16 - a.at) a.d.now) (c.copy.ensures ∙ c.pair-p.ensures) ∙ lent a.at (a.at + 16) a.d.now (pair_of a.epoch a.number) (omega (arith, length-pair a.epoch a.number))
+unfolding pair_of
+returns c = let a = c.args in
+    two_parts a.at 8 8 (be 8 a.epoch) (be 8 a.number) _ _ a.d.now (c.copy_from_slice.ensures.after ∙ c.to_be_bytes.ensures ∙ high_first-be 8 _) (c.copy_from_slice-2.ensures.after ∙ c.to_be_bytes-2.ensures ∙ high_first-be 8 _)
+    (length-be 8 a.epoch) (length-be 8 a.number) (omega (arith, c.requires))

@@ -4,4 +4,4 @@ use Rattle.assembly_steps.proofs.is_whole.Goals as goal
 
 pub returns : goal.returns
 unfolding is_whole
-returns c = c.covers_all.ensures
+returns c = rw (c.new.ensures.0, c.new.ensures.1) at c.covers_all.ensures

@@ -1,25 +1,18 @@
--- `base::same_bytes` meets its contract. Invariant: the bytes passed are the same. Assumes nothing.
-use borrow.Author.Rules.{rules}
-use mathlib.Core.Bool.{Bool, true, false, ◌&&◌}
-use mathlib.Core.Path.{◌≡◌, refl, sym, ap, ◌∙◌}
-use native.Mathlib.Omega.{arith}
-use Rattle.base.specs.Choose.{both}
-use Rattle.base.specs.Every.{same_to, same_next, same_none}
+-- `base::same_bytes` meets its contract: the library's test of equality is the test at each place. Assumes nothing.
+use Rattle.std.proofs.Common.{get_or, sym, ap, ◌∙◌, ◌≡◌, List, length, true, ℕ}
+use Rattle.std.proofs.Math.Dec.{eqb}
+use Rattle.std.proofs.lemmas.List.{ext_get_or}
+use Rattle.std.specs.Cmp.Lexicographic.{pointwise, bytes_decides}
+use Rattle.base.specs.Choose.{test_cases}
+use Rattle.base.specs.Every.{same_to, same-each, each_same}
 use Rattle.base.proofs.same_bytes.Goals as goal
 
--- the code's test of both
-and_both : (x y : Bool) → (x && y) ≡ both y x
-unfolding both
-and_both true true = refl
-and_both true false = refl
-and_both false true = refl
-and_both false false = refl
-
-pub loop-i-init : goal.loop-i-init
-loop-i-init c = (search rules, sym (same_none _ _))
-
-pub loop-i-preserved : goal.loop-i-preserved
-loop-i-preserved c = let v = c.loop-i.invariant in (search rules, and_both _ _ ∙ ap (both _) v.1 ∙ sym (same_next _ _ _))
+alike : (a b : List ℕ) → length a ≡ length b → pointwise eqb a b ≡ same_to a b (length a)
+alike a b e =
+    let listed = bytes_decides a b in
+    let each : a ≡ b → same_to a b (length a) ≡ true = λ p. each_same a b (length a) (λ i h. ap (λ l. get_or l i 0) p) in
+    test_cases (same_to a b (length a)) (λ t. listed.1 (ext_get_or 0 a b e (same-each a b (length a) t)) ∙ sym t)
+    (λ f. test_cases (pointwise eqb a b) (λ t. t ∙ sym (each (listed.0 t))) (λ q. q ∙ sym f))
 
 pub returns : goal.returns
-returns c = c.loop-i.invariant.1 ∙ ap (same_to _ _) (omega arith)
+returns c = c.eq.ensures ∙ alike _ _ c.requires

@@ -1,7 +1,7 @@
 -- `chacha::mask` meets its contract: the two low bytes of the block's first word. Assumes nothing.
-use Rattle.std.proofs.Common.{rules}
+use Rattle.std.proofs.Common.{refl}
 use Rattle.chacha.proofs.Laws.{mask_word}
 use Rattle.chacha.proofs.mask.Goals as goal
 
 pub returns : goal.returns
-returns c = cc (mask_word c.args.key c.args.sample)
+returns c = rw (mask_word c.args.key c.args.sample, c.to_le_bytes.ensures, c.block_word.ensures) refl

@@ -1,17 +1,16 @@
--- `flight_words::is_flat` meets its contract. Invariant: the verdict on the entries that are left is the verdict on all. Assumes nothing.
-use mathlib.Core.Path.{refl, sym, ◌∙◌}
-use native.Mathlib.Omega.{arith}
-use Rattle.flight_words.specs.Laws.{mark_bad, mark-good, mark-none}
+-- `flight_words::is_flat` meets its contract. Assumes nothing.
+use Rattle.std.proofs.Common.{refl, sym, ◌∙◌, rules, tests}
+use Rattle.std.proofs.lemmas.Iterator.{YieldsList-from_range}
+use Rattle.std.proofs.lemmas.Iterator.Search.{all_from_yields_List}
+use Rattle.std.proofs.lemmas.Bool.{lt-leb, le-leb}
+use Rattle.std.specs.Prelude.{Bool, ◌≡◌, leb, get_or}
+use Rattle.base.specs.Choose.{both, by_less, both_true, both_false}
+use Rattle.base.proofs.Ranges.{all_below}
+use Rattle.flight_words.specs.Words.{flat_to, marked-at}
 use Rattle.flight_words.proofs.is_flat.Goals as goal
 
-pub loop-i-init : goal.loop-i-init
-loop-i-init c = (omega arith, refl)
-
-pub returns-then-w-marked-gt1 : goal.returns-then-w-marked-gt1
-returns-then-w-marked-gt1 c = sym (mark_bad _ _ c.loop-i-test.true c.if-w-marked-gt1.true) ∙ c.loop-i.invariant.1
-
-pub loop-i-preserved : goal.loop-i-preserved
-loop-i-preserved c = (omega arith, sym (mark-good _ _ c.loop-i-test.true c.if-w-marked-gt1.false) ∙ c.loop-i.invariant.1)
-
 pub returns : goal.returns
-returns c = sym (mark-none _ _ c.loop-i-test.false) ∙ c.loop-i.invariant.1
+unfolding flat_to
+returns c = let w = c.args.w.now in
+    all_from_yields_List (λ i. leb (get_or w (marked-at i) 0) 1) _ _ _ c.all.ensures.ran (YieldsList-from_range 0 12 12 refl refl) (λ x b q k. search (rules, tests))
+    ∙ all_below (λ i. leb (get_or w (marked-at i) 0) 1) (flat_to w) refl (λ i. by_less (λ (z : Bool). z ≡ both (leb (get_or w (marked-at i) 0) 1) (flat_to w i)) 1 (get_or w (marked-at i) 0) (λ h. sym (both_false _ (lt-leb _ _ h))) (λ h. sym (both_true (le-leb _ _ h)))) 12

@@ -1,8 +1,9 @@
 -- `headers::unified_header` meets its contract: the bytes are those of the definition. Assumes nothing.
-use native.Mathlib.Nat.{div-one}
+use mathlib.Core.Path.{◌∙◌}
+use Rattle.base.proofs.Bytes.{high_first-be}
 use Rattle.record.specs.Record.{unified_header}
 use Rattle.headers.proofs.unified_header.Goals as goal
 
 pub returns : goal.returns
 unfolding unified_header
-returns c = simp div-one
+returns c = rw (c.to_be_bytes.ensures ∙ high_first-be 8 _, c.to_be_bytes-2.ensures ∙ high_first-be 2 _)

@@ -1,6 +1,6 @@
 -- `incoming::recover_inner_content_type` meets its contract. Invariant: what is cut off are zeros. Assumes nothing.
 use mathlib.Core.Path.{◌≡◌}
-use Prim.Native.Nat.{◌-◌, ◌≤◌}
+use Prim.Native.Nat.{◌≤◌}
 use lib.ListN.{length, take}
 use Rattle.incoming.specs.Inner.{inner_of}
 use Rattle.incoming.proofs.recover_inner_content_type.Given as goal

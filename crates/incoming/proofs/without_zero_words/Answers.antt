@@ -9,15 +9,15 @@ use Rattle.incoming.proofs.without_zero_words.Goals as goal
 pub loop-left-init : goal.loop-left-init
 loop-left-init c = (omega arith, refl)
 
-pub returns-then-be64-ne0 : goal.returns-then-be64-ne0
-returns-then-be64-ne0 c = let left = c.loop-left.left in
+pub returns-then-be-ne0 : goal.returns-then-be-ne0
+returns-then-be-ne0 c = let left = c.loop-left.left in
     let d = c.args.d.now in
-    let some : be_at word_len d (left - word_len) ≡ 0 → ⊥ = λ z. c.if-be64-ne0.true (omega (arith, c.be64.ensures, z)) in
+    let some : be_at word_len d (left - word_len) ≡ 0 → ⊥ = λ z. c.if-be-ne0.true (omega (arith, c.be.ensures.0, z)) in
     omega (arith, word-stays d left (left - word_len) (omega arith) some, c.loop-left.invariant.1)
 
 pub loop-left-preserved : goal.loop-left-preserved
 loop-left-preserved c = let left = c.loop-left.left in
-    let none = sym c.be64.ensures ∙ c.if-be64-ne0.false in
+    let none = sym c.be.ensures.0 ∙ c.if-be-ne0.false in
     (omega arith, sym (word_off _ left _ (omega arith) none) ∙ c.loop-left.invariant.1)
 
 pub returns : goal.returns

@@ -1,6 +1,6 @@
 -- `incoming::without_zero_words` meets its contract. Invariant: as many are left of those as of the first n. Assumes nothing.
 use mathlib.Core.Path.{◌≡◌}
-use Prim.Native.Nat.{◌-◌, ◌≤◌}
+use Prim.Native.Nat.{◌≤◌}
 use lib.ListN.{length}
 use Rattle.incoming.specs.Padding.{left_of}
 use Rattle.incoming.proofs.without_zero_words.Given as goal

@@ -6,14 +6,14 @@ use Rattle.mask_calls.proofs.go_on.Goals as goal
 
 pub mask_at-m-requires : goal.mask_at-m-requires
 mask_at-m-requires c = let a = c.args in
-    omega (arith, held_below (keys_of a.w.now) a.a.epoch _ a.k.now c.in-At.is c.keyed_entry.ensures)
+    omega (arith, held_below (keys_of a.w.now) a.a.epoch _ a.k.now c.in-Some.is c.keyed_entry.ensures)
 
-pub returns-in-At : goal.returns-in-At
-returns-in-At c = let s = c in
+pub returns-in-Some : goal.returns-in-Some
+returns-in-Some c = let s = c in
     let a = s.args in
-    with-key a.a a.w.now a.k.now _ _ _ a.d.now _ _ s.requires c.in-At.is c.keyed_entry.ensures c.mask_at-m.ensures c.mask.ensures
+    with-key a.a a.w.now a.k.now _ _ _ a.d.now _ _ s.requires c.in-Some.is c.keyed_entry.ensures c.mask_at-m.ensures c.mask.ensures
 
-pub returns-in-Nothing : goal.returns-in-Nothing
-returns-in-Nothing c = let s = c in
+pub returns-in-None : goal.returns-in-None
+returns-in-None c = let s = c in
     let a = s.args in
-    without_key a.a a.w.now a.k.now a.d.now s.requires c.in-Nothing.is c.keyed_entry.ensures
+    without_key a.a a.w.now a.k.now a.d.now s.requires c.in-None.is c.keyed_entry.ensures

@@ -1,14 +1,23 @@
 -- `mask_calls::key_send` meets its contract. Assumes nothing.
-use mathlib.Core.Path.{sym, ap, ◌∙◌}
+use mathlib.Core.Path.{refl, sym, ap, ◌∙◌}
 use Prim.Native.Nat.{ℕ}
-use borrow.Author.Tests.{eq-eqb, ne_eqb}
+use Rattle.std.specs.Prelude.{Err}
+use Rattle.std.proofs.lemmas.Result.{err_from_is_err_and}
 use Rattle.base.specs.Choose.{if_true, if_false}
+use Rattle.send_keys.specs.Answer.{refusal, is_done, done-number}
 use Rattle.mask_keys.specs.Keys.{send_slots, emptied}
 use Rattle.mask_keys.proofs.Laws.{emptied-at}
 use Rattle.mask_calls.proofs.key_send.Goals as goal
 
-pub returns-then-r-eq0 : goal.returns-then-r-eq0
-returns-then-r-eq0 c = let s = c.send_slot in let k = c.args.k.now in (c.key_send-r.ensures, c.empty.ensures ∙ emptied-at send_slots s.result k s.ensures.1 ∙ ap (λ (i : ℕ). emptied send_slots i k) s.ensures.0 ∙ sym (if_true _ _ (eq-eqb _ _ c.if-r-eq0.true)))
+pub returns-in_err-key_send : goal.returns-in_err-key_send
+returns-in_err-key_send c =
+    let e = c.key_send.ensures in
+    let p = err_from_is_err_and c.from_residual.result c.from_residual.ensures.1 in
+    ((ap refusal (p.1 ∙ ap Err p.2 ∙ sym c.in_err-key_send.was) ∙ e.0, e.1), sym (if_false _ _ (done-number c.from_residual.result ∙ ap is_done p.1)))
 
 pub returns : goal.returns
-returns c = (c.key_send-r.ensures, sym (if_false _ _ (ne_eqb _ _ c.if-r-eq0.false)))
+returns c =
+    let s = c.send_slot in
+    let k = c.args.k.now in
+    let e = c.key_send.ensures in
+    ((ap refusal (sym c.in_ok-key_send.was) ∙ e.0, e.1), c.empty.ensures ∙ emptied-at send_slots s.result k s.ensures.1 ∙ ap (λ (i : ℕ). emptied send_slots i k) s.ensures.0 ∙ sym (if_true _ _ refl))

@@ -2,8 +2,7 @@
 use mathlib.Core.Path.{refl, sym, subst, ◌∙◌}
 use borrow.Author.Tests.{eq-eqb, ne_eqb}
 use Rattle.base.specs.Choose.{if_true, if_false}
-use Rattle.recv_keys.specs.declared.Found.{Found}
-use Rattle.recv_keys.specs.Keys.{most_epochs}
+use Rattle.recv_keys.specs.Keys.{most_epochs, Found}
 use Rattle.recv_keys.specs.Laws.{Under}
 use Rattle.recv_words.specs.Words.{keys_of}
 use Rattle.mask_calls.specs.Calls.{MovesUp}

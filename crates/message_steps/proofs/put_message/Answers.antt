@@ -4,4 +4,4 @@ use Rattle.message_steps.specs.Create.{message-put}
 use Rattle.message_steps.proofs.put_message.Goals as goal
 
 pub returns : goal.returns
-returns c = message-put _ _ c.sized.ensures (omega (arith, c.requires))
+returns c = message-put _ _ (omega arith) (omega (arith, c.requires))

@@ -30,9 +30,6 @@ send_piece-a-requires c = (omega (arith, c.piece_size-size.ensures, size-rest (s
 pub overflow_add-at : goal.overflow_add-at
 overflow_add-at c = omega (arith, c.piece_size-size.ensures, size-rest (state_of c.loop-n.w).queue.mtu c.record_len-over.result c.last_len-used.result (length c.args.body.now - c.loop-n.at), (c.loop-n.invariant.0 []).inside, c.requires.1)
 
-pub overflow_add-n : goal.overflow_add-n
-overflow_add-n c = omega (arith, c.loop-n-test.true)
-
 pub overflow_sub-all : goal.overflow_sub-all
 overflow_sub-all c = omega (arith, c.piece_size-size.ensures, size-rest (state_of c.loop-n.w).queue.mtu c.record_len-over.result c.last_len-used.result (length c.args.body.now - c.loop-n.at), (c.loop-n.invariant.0 []).inside, c.requires.1)
 
@@ -49,9 +46,6 @@ returns-then-all c = let a = c.args in
     let s = rw (c.last_len-used.ensures.0, c.record_len-over.ensures, c.epoch_of.ensures) at c.piece_size-size.ensures in
     let i : b.at + c.piece_size-size.result ≤ length a.body.now = omega (arith, c.piece_size-size.ensures, size-rest (state_of c.loop-n.w).queue.mtu c.record_len-over.result c.last_len-used.result (length c.args.body.now - c.loop-n.at), (c.loop-n.invariant.0 []).inside, c.requires.1) in
     record { all = λ l. going_last (b.invariant.0 l) c.loop-n-test.true s (piece_is a.kind b.at c.piece_size-size.result a.body.now b.w _ b.f _ b.memory _ b.kept _ i y l) c.send_piece-a.auto.memory c.send_piece-a.auto.kept c.if-all.true; flat = λ z. y.flat (b.invariant.1 z); marks = λ z. y.marks (b.invariant.2 z) }
-
-pub loop-n-smaller : goal.loop-n-smaller
-loop-n-smaller c = omega (arith, c.loop-n-test.true)
 
 pub loop-n-preserved : goal.loop-n-preserved
 loop-n-preserved c = let a = c.args in

@@ -1,6 +1,6 @@
 -- `message_steps::send_all` meets its contract. The loop's invariant is `Going`, whatever the table of numbers: what is left gives the whole.
 -- Assumes nothing.
-use Prim.Native.Nat.{ℕ, ◌-◌}
+use Prim.Native.Nat.{ℕ}
 use mathlib.Core.Bool.{true}
 use mathlib.Core.List.{List}
 use mathlib.Core.Path.{◌≡◌}
@@ -11,7 +11,4 @@ use Rattle.message_steps.specs.Create.{laid_as}
 use Rattle.message_steps.proofs.send_all.Given as goal
 
 abbrev pub invariant-loop-n : goal.invariant-loop-n
-invariant-loop-n l = ((ns : List ℕ) → Going l.kind l.body (laid_as l.initial.a l.initial.w l.initial.f ns l.initial.memory l.initial.kept) l.n l.at (laid_as l.a l.w l.f ns l.memory l.kept)) × (is_flat l.initial.w ≡ true → is_flat l.w ≡ true) × (flat_to l.initial.f 12 ≡ true → flat_to l.f 12 ≡ true)
-
-abbrev pub decreases-loop-n : goal.decreases-loop-n
-decreases-loop-n l = 13 - l.n
+invariant-loop-n l = ((ns : List ℕ) → Going l.kind l.body (laid_as l.initial.a l.initial.w l.initial.f ns l.initial.memory l.initial.kept) l._n l.at (laid_as l.a l.w l.f ns l.memory l.kept)) × (is_flat l.initial.w ≡ true → is_flat l.w ≡ true) × (flat_to l.initial.f 12 ≡ true → flat_to l.f 12 ≡ true)

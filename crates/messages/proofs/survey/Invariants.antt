@@ -1,10 +1,6 @@
 -- `messages::survey` meets its contract. The loop's invariant is `Surveyed`: what is found from here on makes what is found from the start. Assumes nothing.
-use Prim.Native.Nat.{◌-◌}
 use Rattle.messages.specs.Cut.{Surveyed}
 use Rattle.messages.proofs.survey.Given as goal
 
 abbrev pub invariant-loop-n : goal.invariant-loop-n
 invariant-loop-n l = Surveyed l.mtu l.over l.initial.c l.n l.top l.c
-
-abbrev pub decreases-loop-n : goal.decreases-loop-n
-decreases-loop-n l = 13 - l.n

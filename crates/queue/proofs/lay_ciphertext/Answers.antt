@@ -10,5 +10,5 @@ use Rattle.queue.proofs.lay_ciphertext.Goals as goal
 
 pub returns : goal.returns
 returns c = let a = c.args in let n = length a.content.now in
-    three_parts a.at 5 n (unified_header a.epoch a.number (n + 17)) a.content.now _ _ a.d.now (c.copy.ensures ∙ c.unified_header-header.ensures) c.move_bytes.ensures (length_unified a.epoch a.number (n + 17)) refl
-    17 (trailer_of a.content_type a.epoch a.number) _ (c.copy-2.ensures ∙ c.trailer-behind.ensures) (length_trailer a.content_type a.epoch a.number) (omega (arith, c.requires.0))
+    three_parts a.at 5 n (unified_header a.epoch a.number (n + 17)) a.content.now _ _ a.d.now (c.copy_from_slice.ensures.after ∙ c.unified_header-header.ensures) c.move_bytes.ensures (length_unified a.epoch a.number (n + 17)) refl
+    17 (trailer_of a.content_type a.epoch a.number) _ (c.copy_from_slice-2.ensures.after ∙ c.trailer-behind.ensures) (length_trailer a.content_type a.epoch a.number) (omega (arith, c.requires.0))

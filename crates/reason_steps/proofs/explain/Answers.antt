@@ -10,9 +10,9 @@ returns-then-out-lt-LINES_ROOM c = let a = c.args in c.front.ensures ∙ sym (ex
 
 pub front-requires-2 : goal.front-requires-2
 front-requires-2 c = let a = c.args in
-    let p = c.put_history-n.ensures in
+    let p = c.put_lines-n.ensures in
     omega (arith, p.ends, printed-short a.input.now, put-length p (omega (arith, printed-short a.input.now, c.if-out-lt-LINES_ROOM.false)), c.if-out-lt-LINES_ROOM.false)
 
 pub returns : goal.returns
 returns c = let a = c.args in
-    c.front-2.ensures ∙ front-put a.input.now c.if-out-lt-LINES_ROOM.false c.put_history-n.ensures ∙ sym (explained-all a.input.now _ c.if-out-lt-LINES_ROOM.false)
+    c.front-2.ensures ∙ front-put a.input.now c.if-out-lt-LINES_ROOM.false c.put_lines-n.ensures ∙ sym (explained-all a.input.now _ c.if-out-lt-LINES_ROOM.false)

@@ -9,12 +9,12 @@ pub find_epoch-f-requires : goal.find_epoch-f-requires
 find_epoch-f-requires c = (mask-ready c.requires.0).keys.count
 
 pub mask_at-requires : goal.mask_at-requires
-mask_at-requires c = (c.requires.0, found-keyed _ _ _ _ (sym c.find_epoch-f.ensures ∙ c.in-At.is), c.requires.1)
+mask_at-requires c = (c.requires.0, found-keyed _ _ _ _ (sym c.find_epoch-f.ensures ∙ c.in-Some.is), c.requires.1)
 
-pub returns-in-Nothing : goal.returns-in-Nothing
+pub returns-in-None : goal.returns-in-None
 unfolding masked_by
-returns-in-Nothing c = rw (sym (rw c.low-epoch.ensures at c.find_epoch-f.ensures) ∙ c.in-Nothing.is) ((c.no_reply.ensures, refl, refl, c.requires.0.flat), refl)
+returns-in-None c = rw (sym (rw c.low-epoch.ensures at c.find_epoch-f.ensures) ∙ c.in-None.is) ((c.no_reply.ensures, refl, refl, c.requires.0.flat), refl)
 
-pub returns-in-At : goal.returns-in-At
+pub returns-in-Some : goal.returns-in-Some
 unfolding masked_by
-returns-in-At c = rw (sym (rw c.low-epoch.ensures at c.find_epoch-f.ensures) ∙ c.in-At.is) c.mask_at.ensures
+returns-in-Some c = rw (sym (rw c.low-epoch.ensures at c.find_epoch-f.ensures) ∙ c.in-Some.is) c.mask_at.ensures

@@ -10,12 +10,12 @@ pub find_epoch-f-requires : goal.find_epoch-f-requires
 find_epoch-f-requires c = (open_ready c.requires).keys.count
 
 pub open_at-requires : goal.open_at-requires
-open_at-requires c = (c.requires, omega (arith, found-keyed _ _ _ _ (sym c.find_epoch-f.ensures ∙ c.in-At.is), (open_ready c.requires).keys.count))
+open_at-requires c = (c.requires, omega (arith, found-keyed _ _ _ _ (sym c.find_epoch-f.ensures ∙ c.in-Some.is), (open_ready c.requires).keys.count))
 
-pub returns-in-Nothing : goal.returns-in-Nothing
+pub returns-in-None : goal.returns-in-None
 unfolding opened_by
-returns-in-Nothing c = rw (sym (rw c.low-epoch.ensures at c.find_epoch-f.ensures) ∙ c.in-Nothing.is) (c.told.ensures, refl, refl, c.requires.flat)
+returns-in-None c = rw (sym (rw c.low-epoch.ensures at c.find_epoch-f.ensures) ∙ c.in-None.is) (c.told.ensures, refl, refl, c.requires.flat)
 
-pub returns-in-At : goal.returns-in-At
+pub returns-in-Some : goal.returns-in-Some
 unfolding opened_by
-returns-in-At c = rw (sym (rw c.low-epoch.ensures at c.find_epoch-f.ensures) ∙ c.in-At.is) c.open_at.ensures
+returns-in-Some c = rw (sym (rw c.low-epoch.ensures at c.find_epoch-f.ensures) ∙ c.in-Some.is) c.open_at.ensures

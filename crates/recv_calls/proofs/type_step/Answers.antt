@@ -2,10 +2,10 @@
 use Rattle.opening_reply.specs.Opening.{typed}
 use Rattle.recv_calls.proofs.type_step.Goals as goal
 
-pub returns-in-Nothing : goal.returns-in-Nothing
+pub returns-in-None : goal.returns-in-None
 unfolding typed
-returns-in-Nothing c = rw c.in-Nothing.is (c.told.ensures, c.skip.ensures.keys, c.skip.ensures.datagram, c.skip.ensures.flat c.requires.0)
+returns-in-None c = rw c.in-None.is (c.told.ensures, c.skip.ensures.keys, c.skip.ensures.datagram, c.skip.ensures.flat c.requires.0)
 
-pub returns-in-Found : goal.returns-in-Found
+pub returns-in-Some : goal.returns-in-Some
 unfolding typed
-returns-in-Found c = rw c.in-Found.is c.count.ensures
+returns-in-Some c = rw c.in-Some.is c.count.ensures

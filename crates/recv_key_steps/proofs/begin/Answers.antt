@@ -16,7 +16,7 @@ returns-then-long c = as_kept _ _ _ (if_true _ _ (sym (rw c.datagram_of-b.ensure
 
 pub returns-then-is_sound : goal.returns-then-is_sound
 unfolding begin_of
-returns-then-is_sound c = let p = c.put_datagram.ensures in let z = c.sized.ensures in let f = c.requires in as_made _ _ _ _ _ _ (if_true _ _ (sym (rw c.datagram_of-b.ensures at c.is_sound.ensures) ∙ c.if-is_sound.true) ∙ if_false _ _ (le-ltb _ _ c.if-long.false)) (put-keys p z) (put-datagram p z) (put-flat p z f ∙ sym f)
+returns-then-is_sound c = let p = c.put_datagram.ensures in let z = c.told-w in let f = c.requires in as_made _ _ _ _ _ _ (if_true _ _ (sym (rw c.datagram_of-b.ensures at c.is_sound.ensures) ∙ c.if-is_sound.true) ∙ if_false _ _ (le-ltb _ _ c.if-long.false)) (put-keys p z) (put-datagram p z) (put-flat p z f ∙ sym f)
 
 pub returns : goal.returns
 unfolding begin_of

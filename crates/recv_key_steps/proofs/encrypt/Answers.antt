@@ -11,7 +11,7 @@ is_sound-requires c = c.datagram_of-b.ensures
 
 pub returns-then-is_sound : goal.returns-then-is_sound
 unfolding encrypt_of
-returns-then-is_sound c = let z = c.sized.ensures in let f = c.requires in as_made _ _ _ _ _ _ (if_true _ _ (sym (rw c.datagram_of-b.ensures at c.is_sound.ensures) ∙ c.if-is_sound.true)) (encrypts _ z).0 (encrypts _ z).1 (encrypt_flat _ z f ∙ sym f)
+returns-then-is_sound c = let z = c.told-w in let f = c.requires in as_made _ _ _ _ _ _ (if_true _ _ (sym (rw c.datagram_of-b.ensures at c.is_sound.ensures) ∙ c.if-is_sound.true)) (encrypts _ z).0 (encrypts _ z).1 (encrypt_flat _ z f ∙ sym f)
 
 pub returns : goal.returns
 unfolding encrypt_of

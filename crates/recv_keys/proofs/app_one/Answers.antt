@@ -10,6 +10,6 @@ pub returns-then-epoch-ge3 : goal.returns-then-epoch-ge3
 unfolding app_one
 returns-then-epoch-ge3 c = (sym (if_true _ _ (le-leb _ _ c.if-epoch-ge3.true)), omega arith)
 
-pub returns : goal.returns
+pub returns-else-epoch-ge3 : goal.returns-else-epoch-ge3
 unfolding app_one
-returns c = (sym (if_false _ _ (lt-leb _ _ c.if-epoch-ge3.false)), omega arith)
+returns-else-epoch-ge3 c = (sym (if_false _ _ (lt-leb _ _ c.if-epoch-ge3.false)), omega arith)

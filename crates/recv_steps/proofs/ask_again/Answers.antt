@@ -6,12 +6,12 @@ use Rattle.records.specs.Records.{asked_again}
 use Rattle.recv_steps.proofs.ask_again.Goals as goal
 
 pub entry_at-requires : goal.entry_at-requires
-entry_at-requires c = omega (arith, found-keyed _ _ _ _ (sym c.find_epoch-f.ensures ∙ c.in-At.is), c.requires)
+entry_at-requires c = omega (arith, found-keyed _ _ _ _ (sym c.find_epoch-f.ensures ∙ c.in-Some.is), c.requires)
 
-pub returns-in-Nothing : goal.returns-in-Nothing
+pub returns-in-None : goal.returns-in-None
 unfolding asked_again
-returns-in-Nothing c = rw (sym c.find_epoch-f.ensures ∙ c.in-Nothing.is) c.tell.ensures
+returns-in-None c = rw (sym c.find_epoch-f.ensures ∙ c.in-None.is) c.tell.ensures
 
-pub returns-in-At : goal.returns-in-At
+pub returns-in-Some : goal.returns-in-Some
 unfolding asked_again
-returns-in-At c = rw (sym c.find_epoch-f.ensures ∙ c.in-At.is) (rw c.entry_at.ensures at c.ask_opening.ensures)
+returns-in-Some c = rw (sym c.find_epoch-f.ensures ∙ c.in-Some.is) (rw c.entry_at.ensures at c.ask_opening.ensures)

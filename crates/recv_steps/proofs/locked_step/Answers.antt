@@ -9,19 +9,19 @@ use Rattle.recv_steps.proofs.locked_step.Goals as goal
 
 pub returns-then-short : goal.returns-then-short
 unfolding locked_step
-returns-then-short c = rw (sym c.resolve_epoch-f.ensures ∙ c.in-At.is) (c.pass-then-short.ensures ∙ sym (if_true _ _ (lt-ltb _ _ c.if-short.true)))
+returns-then-short c = rw (sym c.resolve_epoch-f.ensures ∙ c.in-Some.is) (c.pass-then-short.ensures ∙ sym (if_true _ _ (lt-ltb _ _ c.if-short.true)))
 
 pub returns-then-length-w : goal.returns-then-length-w
 unfolding locked_step
-returns-then-length-w c = rw (sym c.resolve_epoch-f.ensures ∙ c.in-At.is) (c.pass-then-length-w.ensures ∙ sym (if_false _ _ (le-ltb _ _ c.if-short.false) ∙ if_true _ _ (lt-ltb _ _ c.if-length-w.true)))
+returns-then-length-w c = rw (sym c.resolve_epoch-f.ensures ∙ c.in-Some.is) (c.pass-then-length-w.ensures ∙ sym (if_false _ _ (le-ltb _ _ c.if-short.false) ∙ if_true _ _ (lt-ltb _ _ c.if-length-w.true)))
 
 pub epoch_at-requires : goal.epoch_at-requires
-epoch_at-requires c = omega (arith, resolve-keyed _ _ _ (sym c.resolve_epoch-f.ensures ∙ c.in-At.is), c.requires.0)
+epoch_at-requires c = omega (arith, resolve-keyed _ _ _ (sym c.resolve_epoch-f.ensures ∙ c.in-Some.is), c.requires.0)
 
-pub returns-in-Nothing : goal.returns-in-Nothing
+pub returns-in-None : goal.returns-in-None
 unfolding locked_step
-returns-in-Nothing c = rw (sym c.resolve_epoch-f.ensures ∙ c.in-Nothing.is) c.pass.ensures
+returns-in-None c = rw (sym c.resolve_epoch-f.ensures ∙ c.in-None.is) c.pass.ensures
 
 pub returns-else-length-w : goal.returns-else-length-w
 unfolding locked_step
-returns-else-length-w c = rw (sym c.resolve_epoch-f.ensures ∙ c.in-At.is) (rw c.epoch_at.ensures at c.ask_mask.ensures ∙ sym (if_false _ _ (le-ltb _ _ c.if-short.false) ∙ if_false _ _ (le-ltb _ _ c.if-length-w.false)))
+returns-else-length-w c = rw (sym c.resolve_epoch-f.ensures ∙ c.in-Some.is) (rw c.epoch_at.ensures at c.ask_mask.ensures ∙ sym (if_false _ _ (le-ltb _ _ c.if-short.false) ∙ if_false _ _ (le-ltb _ _ c.if-length-w.false)))

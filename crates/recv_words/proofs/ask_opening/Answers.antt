@@ -3,4 +3,4 @@ use Rattle.recv_words.specs.Laws.{opening-put}
 use Rattle.recv_words.proofs.ask_opening.Goals as goal
 
 pub returns : goal.returns
-returns c = opening-put _ _ c.sized.ensures
+returns c = opening-put _ _ c.told-w

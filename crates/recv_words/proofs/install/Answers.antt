@@ -1,6 +1,7 @@
 -- `recv_words::install` meets its contract. Assumes nothing.
+use Rattle.std.proofs.Common.{rules}
 use Rattle.recv_words.specs.Entries.{installs}
 use Rattle.recv_words.proofs.install.Goals as goal
 
 pub returns : goal.returns
-returns c = rw c.wide.ensures.0 (installs _ _ _ _ _ (rw c.new-v.ensures at c.put_entry.ensures) c.requires.1 (rw c.wide.ensures.0 at c.wide.ensures.1))
+returns c = rw c.from.ensures (installs _ _ _ _ _ (rw c.new-v.ensures at c.put_entry.ensures) c.requires.1 (search rules))

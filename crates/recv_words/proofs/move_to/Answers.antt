@@ -3,4 +3,4 @@ use Rattle.recv_words.specs.Laws.{move_put}
 use Rattle.recv_words.proofs.move_to.Goals as goal
 
 pub returns : goal.returns
-returns c = move_put _ _ _ c.sized.ensures
+returns c = move_put _ _ _ c.told-w

