@@ -1,78 +1,18 @@
 -- What a walk over the pieces held says of the bytes that they cover. Assumes nothing.
-use Rattle.std.specs.Prelude.{Option, Some, None, Bool, true, false, List, [], ◌∷◌, ◌++◌, ◌≡◌, refl, ℕ, zero, suc, ◌+◌, ◌-◌, ◌≤◌, ◌<◌, ◌&&◌, ◌||◌, cond, eqb, leb, min, length, get_or, drop}
-use Rattle.std.specs.Option.{option_map}
-use Rattle.std.specs.List.{find, fold, list_any, list_all, range_with_len}
+use Rattle.std.specs.Prelude.{Some, Bool, true, false, List, [], ◌∷◌, ◌++◌, ◌≡◌, refl, ℕ, zero, suc, ◌+◌, ◌-◌, ◌≤◌, ◌<◌, leb, min, length, get_or, drop}
+use Rattle.std.specs.List.{fold}
 use Rattle.std.proofs.lemmas.Bool.{false≢true}
 use Rattle.std.proofs.lemmas.List.Sums.{sum_by_push}
-use Rattle.std.proofs.lemmas.Option.{none-some}
 use Rattle.std.proofs.Math.Seq.{take-suc}
 use Rattle.std.proofs.Common.{⊎_elim, sym, ap, ◌∙◌, arith, leb-true, length-drop, get_or-drop}
 use Rattle.base.specs.Choose.{both, either, by_less, test_cases, both_left, both_right, either_true, either-false, lt-or_ge}
 use Rattle.base.specs.Parts.{part, length_part, part_at}
-use Rattle.assembly.specs.Spans.{start_of, span_of, within, covered, is_same, offset_at, length_at}
-use Rattle.assembly.proofs.Covering.{within_from, within_to, is_within, not_from, not_to}
+use Rattle.assembly.specs.Spans.{start_of, span_of, within, covered, offset_at, length_at}
+use Rattle.assembly.proofs.Covering.{is_within, not_from, not_to}
 use Rattle.assembly_steps.specs.Parts.{ahead, apart, Holder, Reach}
 use Rattle.assembly_steps.specs.Sums.{sum_to, lengths_of}
 
--- ---- walks over numbers from a on
-
-module _ (q : ℕ → Bool) where
-  none-head : (b : Bool) (a : ℕ) {o : Option ℕ} → cond b (Some a) o ≡ None → (b ≡ false) × (o ≡ None)
-  none-head true a e = absurd (none-some a (sym e))
-  none-head false a e = (refl, e)
-
-  pub find-none : (a n : ℕ) → find q (range_with_len a n) ≡ None → (x : ℕ) → a ≤ x → x < a + n → q x ≡ false
-  find-none a zero e x l h = absurd (omega arith)
-  find-none a (suc n) e x l h =
-      let f = none-head (q a) a e in
-      ⊎_elim (λ p. let z : x ≡ a = omega arith in ap q z ∙ f.0) (λ p. find-none (a + 1) n f.1 x p (omega arith)) (lt-or_ge x (a + 1))
-
-  some-head : (b : Bool) (a k n : ℕ) {o : Option ℕ} → q a ≡ b → cond b (Some a) o ≡ Some k → (o ≡ Some k → (k < a + 1 + n) × (q k ≡ true)) → (k < a + suc n) × (q k ≡ true)
-  some-head true a k n g e f = let z : a ≡ k = cc in (omega arith, ap q (sym z) ∙ g)
-  some-head false a k n g e f = let t = f e in (omega (arith, t.0), t.1)
-
-  pub find_some : (a n k : ℕ) → find q (range_with_len a n) ≡ Some k → (k < a + n) × (q k ≡ true)
-  find_some a zero k e = absurd (none-some k e)
-  find_some a (suc n) k e = some-head (q a) a k n refl e (find_some (a + 1) n k)
-
-  and-parts : (a b : Bool) → (a && b) ≡ true → (a ≡ true) × (b ≡ true)
-  and-parts true b e = (refl, e)
-  and-parts false b e = absurd (false≢true e)
-
-  pub all-each : (a n : ℕ) → list_all q (range_with_len a n) ≡ true → (x : ℕ) → a ≤ x → x < a + n → q x ≡ true
-  all-each a zero e x l h = absurd (omega arith)
-  all-each a (suc n) e x l h =
-      let f = and-parts (q a) (list_all q (range_with_len (a + 1) n)) e in
-      ⊎_elim (λ p. let z : x ≡ a = omega arith in ap q z ∙ f.0) (λ p. all-each (a + 1) n f.1 x p (omega arith)) (lt-or_ge x (a + 1))
-
-  or-false : (b : Bool) → (b || false) ≡ b
-  or-false true = refl
-  or-false false = refl
-
-  or-assoc : (a b c : Bool) → (a || (b || c)) ≡ ((a || b) || c)
-  or-assoc true b c = refl
-  or-assoc false b c = refl
-
-  any-next : (a n : ℕ) → list_any q (range_with_len a (suc n)) ≡ (list_any q (range_with_len a n) || q (a + n))
-  any-next a zero = let z : a ≡ a + 0 = omega arith in or-false (q a) ∙ ap q z
-  any-next a (suc n) =
-      let z : a + 1 + n ≡ a + suc n = omega arith in
-      ap (λ (b : Bool). q a || b) (any-next (a + 1) n) ∙ or-assoc (q a) (list_any q (range_with_len (a + 1) n)) (q (a + 1 + n))
-      ∙ ap (λ (x : ℕ). (q a || list_any q (range_with_len (a + 1) n)) || q x) z
-
 -- ---- one of the pieces held
-
-or-either : (a b : Bool) → (a || b) ≡ either b a
-unfolding either
-or-either true true = refl
-or-either true false = refl
-or-either false true = refl
-or-either false false = refl
-
-and-both : (a b : Bool) → (a && b) ≡ both a b
-unfolding both
-and-both true b = refl
-and-both false b = refl
 
 either-no : (a b : Bool) → either a b ≡ false → (a ≡ false) × (b ≡ false)
 unfolding either
@@ -85,17 +25,6 @@ either-any true e = refl
 either-any false e = e
 
 module _ (w : List ℕ) where
-  pub any-same : (o l n : ℕ) → list_any (λ k. eqb (start_of w k) o && eqb (span_of w k) l) (range_with_len 0 n) ≡ is_same w n o l
-  unfolding is_same
-  any-same o l zero = refl
-  any-same o l (suc n) =
-      let z : 0 + n ≡ n = omega arith in
-      any-next (λ k. eqb (start_of w k) o && eqb (span_of w k) l) 0 n
-      ∙ ap (λ (x : ℕ). list_any (λ k. eqb (start_of w k) o && eqb (span_of w k) l) (range_with_len 0 n) || (eqb (start_of w x) o && eqb (span_of w x) l)) z
-      ∙ or-either (list_any (λ k. eqb (start_of w k) o && eqb (span_of w k) l) (range_with_len 0 n)) (eqb (start_of w n) o && eqb (span_of w n) l)
-      ∙ ap (λ (b : Bool). either b (list_any (λ k. eqb (start_of w k) o && eqb (span_of w k) l) (range_with_len 0 n))) (and-both (eqb (start_of w n) o) (eqb (span_of w n) l))
-      ∙ ap (either (both (eqb (start_of w n) o) (eqb (span_of w n) l))) (any-same o l n)
-
   module _ (i : ℕ) where
     abbrev has : ℕ → Bool
     has k = within (start_of w k) (span_of w k) i
@@ -118,24 +47,6 @@ module _ (w : List ℕ) where
         let f = either-no (has n) (covered w n i) e in
         ⊎_elim (λ l. covered-not n f.1 k l) (λ l. let z : k ≡ n = omega arith in ap has z ∙ f.0) (lt-or_ge k n)
 
-    module _ (n : ℕ) where
-      reach-none : None ≡ find has (range_with_len 0 n) → covered w n i ≡ false
-      reach-none e = covered-none n (λ k h. find-none has 0 n (sym e) k (omega arith) (omega arith))
-
-      -- a piece found: where it lies
-      found_in : (k : ℕ) → Some k ≡ find has (range_with_len 0 n) → k < n
-      found_in k e = let t = find_some has 0 n k (sym e) in omega (arith, t.0)
-
-      found_from : (k : ℕ) → Some k ≡ find has (range_with_len 0 n) → start_of w k ≤ i
-      found_from k e = within_from (start_of w k) (span_of w k) i (find_some has 0 n k (sym e)).1
-
-      found_to : (k : ℕ) → Some k ≡ find has (range_with_len 0 n) → i - start_of w k < span_of w k
-      found_to k e = within_to (start_of w k) (span_of w k) i (find_some has 0 n k (sym e)).1
-
-  pub holder_is : (n i : ℕ) (o : Option ℕ) → option_map (λ x. x) o ≡ find (has i) (range_with_len 0 n) → Holder w n i o
-  holder_is n i None e = reach-none i n e
-  holder_is n i (Some k) e = (found_in i n k e, found_from i n k e, found_to i n k e)
-
   pub reach_some : (n i k : ℕ) → Holder w n i (Some k) → Reach w n i (Some (span_of w k - (i - start_of w k)))
   reach_some n i k e =
       let from = e.1 in
@@ -144,7 +55,7 @@ module _ (w : List ℕ) where
 
 -- ---- bytes that lie apart
 
-apart-not : (s l o e i : ℕ) → apart s l o e ≡ true → o ≤ i → i < e → within s l i ≡ false
+pub apart-not : (s l o e i : ℕ) → apart s l o e ≡ true → o ≤ i → i < e → within s l i ≡ false
 unfolding either apart
 apart-not s l o e i t p q =
     test_cases (leb e s) (λ u. let a = leb-true e s u in not_from s l i (omega arith))
@@ -152,10 +63,6 @@ apart-not s l o e i t p q =
     let a = leb-true s o (both_left _ _ v) in
     let b = leb-true l (o - s) (both_right (leb s o) _ v) in
     not_to s l i (omega arith) (omega arith))
-
-pub bare : (w : List ℕ) (n o e : ℕ) → list_all (λ k. apart (start_of w k) (span_of w k) o e) (range_with_len 0 n) ≡ true → (i : ℕ) → o ≤ i → i < e → covered w n i ≡ false
-bare w n o e t i p q =
-    covered-none w i n (λ k h. apart-not (start_of w k) (span_of w k) o e i (all-each (λ k. apart (start_of w k) (span_of w k) o e) 0 n t k (omega arith) (omega arith)) p q)
 
 -- ---- the bytes before the next piece
 

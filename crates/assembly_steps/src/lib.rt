@@ -112,20 +112,30 @@ impl<'a> Pieces<'a> {
         Pieces { words, count }
     }
 
-    // Whether one of them has this offset and this length.
+    // Whether one of them has this offset and this length. From the last on, as the two below: a piece that comes twice is mostly the newest.
     fn is_same(self, o: u64, l: u64) -> bool
         ensures { result ≡ is_same self.entry.words.now self.entry.count o l }
     {
         let w = self.words;
-        (0..self.count).any(|k| w[OFFSETS + k] == o && w[LENGTHS + k] == l)
+        for k in (0..self.count).rev() {
+            if w[OFFSETS + k] == o && w[LENGTHS + k] == l {
+                return true;
+            }
+        }
+        false
     }
 
-    // The first of them that has byte i.
+    // The last of them that has byte i.
     fn holder(self, i: u64) -> Option<usize>
         ensures { Holder self.entry.words.now self.entry.count i result }
     {
         let w = self.words;
-        (0..self.count).find(|k| is_within(w[OFFSETS + *k], w[LENGTHS + *k], i))
+        for k in (0..self.count).rev() {
+            if is_within(w[OFFSETS + k], w[LENGTHS + k], i) {
+                return Some(k);
+            }
+        }
+        None
     }
 
     // How many bytes from byte i on one of them covers, if one covers it.
@@ -204,7 +214,12 @@ impl<'a> Pieces<'a> {
         ensures { result ≡ true → (i : ℕ) → o ≤ i → i < e → covered self.entry.words.now self.entry.count i ≡ false }
     {
         let w = self.words;
-        (0..self.count).all(|k| is_apart(w[OFFSETS + k], w[LENGTHS + k], o, e))
+        for k in (0..self.count).rev() {
+            if !is_apart(w[OFFSETS + k], w[LENGTHS + k], o, e) {
+                return false;
+            }
+        }
+        true
     }
 
     // Whether each byte of a body that goes to o on is as the buffer has it, where one of them covers it. By place: each round goes on where the run of

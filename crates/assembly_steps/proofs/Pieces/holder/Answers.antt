@@ -1,14 +1,15 @@
--- `assembly_steps::Pieces::holder` meets its contract. Assumes nothing.
-use Rattle.std.proofs.Common.{rules, tests, refl, arith}
-use Rattle.std.proofs.lemmas.Iterator.{YieldsList-from_range}
-use Rattle.std.proofs.lemmas.Iterator.Search.{find_from_yields_List}
-use Rattle.assembly.specs.Spans.{start_of, span_of, within}
-use Rattle.assembly_steps.proofs.Held.{holder_is}
+-- `assembly_steps::Pieces::holder` meets its contract. Invariant: whether byte i is covered is settled by the pieces that are left. Assumes nothing.
+use Rattle.std.proofs.Common.{sym, ◌∙◌, arith}
+use Rattle.assembly.proofs.Covering.{covered_miss, covered_none, within_from, within_to}
 use Rattle.assembly_steps.proofs.Pieces.holder.Goals as goal
 
-pub returns : goal.returns
-returns c =
+pub returns-then-is_within : goal.returns-then-is_within
+returns-then-is_within c = let t = sym c.is_within.ensures ∙ c.if-is_within.true in (omega arith, within_from _ _ _ t, within_to _ _ _ t)
+
+pub loop-k-preserved : goal.loop-k-preserved
+loop-k-preserved c =
     let a = c.args in
-    holder_is a.self.words.now a.self.count a.i c.find.result
-    (find_from_yields_List (λ k. within (start_of a.self.words.now k) (span_of a.self.words.now k) a.i) c.find.new.self _ _ c.find.ensures.ran
-    (YieldsList-from_range 0 a.self.count a.self.count refl (omega arith)) (λ x b q k. search (rules, tests)))
+    sym (covered_miss a.self.words.now a.i c.loop-k.k c.loop-k-test.true (sym c.is_within.ensures ∙ c.if-is_within.false)) ∙ c.loop-k.invariant
+
+pub returns : goal.returns
+returns c = let a = c.args in sym c.loop-k.invariant ∙ covered_none a.self.words.now a.i c.loop-k.k c.loop-k-test.false

@@ -1,15 +1,13 @@
--- `assembly_steps::Pieces::is_bare` meets its contract. Assumes nothing.
-use Rattle.std.proofs.Common.{rules, tests, refl, sym, ◌∙◌, arith}
-use Rattle.std.proofs.lemmas.Iterator.{YieldsList-from_range}
-use Rattle.std.proofs.lemmas.Iterator.Search.{all_from_yields_List}
-use Rattle.assembly.specs.Spans.{start_of, span_of}
-use Rattle.assembly_steps.specs.Parts.{apart}
-use Rattle.assembly_steps.proofs.Held.{bare}
+-- `assembly_steps::Pieces::is_bare` meets its contract. Invariant: the pieces passed have none of the bytes. Assumes nothing.
+use Rattle.std.proofs.Common.{sym, ◌∙◌}
+use Rattle.assembly.proofs.Covering.{covered_miss, covered_none}
+use Rattle.assembly_steps.proofs.Held.{apart-not}
 use Rattle.assembly_steps.proofs.Pieces.is_bare.Goals as goal
 
-pub returns : goal.returns
-returns c t =
+pub loop-k-preserved : goal.loop-k-preserved
+loop-k-preserved c i p q =
     let a = c.args in
-    let e = all_from_yields_List (λ k. apart (start_of a.self.words.now k) (span_of a.self.words.now k) a.o a.e) c.all.new.self _ _ c.all.ensures.ran
-    (YieldsList-from_range 0 a.self.count a.self.count refl (omega arith)) (λ x b q k. search (rules, tests)) in
-    bare a.self.words.now a.self.count a.o a.e (sym e ∙ t)
+    sym (covered_miss a.self.words.now i c.loop-k.k c.loop-k-test.true (apart-not _ _ a.o a.e i (sym c.is_apart.ensures ∙ c.if-not-is_apart.false) p q)) ∙ c.loop-k.invariant i p q
+
+pub returns : goal.returns
+returns c t i p q = let a = c.args in sym (c.loop-k.invariant i p q) ∙ covered_none a.self.words.now i c.loop-k.k c.loop-k-test.false
