@@ -44,14 +44,14 @@ impl<'a> Pairs<'a> {
         Some(Pairs { content, count })
     }
 
-    // Whether the i-th pair has this epoch and number.
+    // Whether the i-th pair has this epoch and number. The number first: the records of an ACK are mostly of one epoch.
     #[tactic(auto, unfolding(crate::specs::Ack::is_pair, base::specs::Choose::both))]
     fn is_pair(self, i: usize, epoch: u64, number: u64) -> bool
         requires { i < self.count }
         ensures { result ≡ is_pair self.entry.content.now i epoch number }
     {
         let at = 2 + i * RECORD_NUMBER_LEN;
-        base::be::<8>(self.content, at) == epoch && base::be::<8>(self.content, at + 8) == number
+        base::be::<8>(self.content, at + 8) == number && base::be::<8>(self.content, at) == epoch
     }
 
     // Whether one of the pairs has this epoch and number.
@@ -61,7 +61,7 @@ impl<'a> Pairs<'a> {
         (0..self.count).any(|i| self.is_pair(i, epoch, number))
     }
 
-    // Whether one of the first k numbers that the i-th saved record remembers is named.
+    // Whether one of the first k numbers that the i-th saved record remembers is named. The newest first: an ACK that crosses a resend names it.
     fn names_remembered(self, numbers: &[u64; NUMBERS], i: usize, epoch: u64, k: usize) -> bool
         requires { (i < 12) × (k ≤ 32) }
         ensures { result ≡ is_remembered self.entry.content.now self.entry.count numbers.now i epoch k }
@@ -69,6 +69,7 @@ impl<'a> Pairs<'a> {
         let start = i * REMEMBERED;
         numbers[start..start + k]
             .iter()
+            .rev()
             .any(|x| self.names(epoch, *x))
     }
 
