@@ -59,9 +59,11 @@ pub fn unmarked(f: &[u64; flight_words::WORDS], n: usize) -> usize
     requires { n ≤ 12 }
     ensures { ((m : List ℕ) → result ≡ unmarked_after (flight_of f.now m) n) × (result ≤ n) }
 {
-    (0..n)
-        .filter(|i| !flight_words::entry_of(f, *i).marked)
-        .count()
+    let mut count: usize = 0;
+    for i in 0..n {
+        count += !flight_words::entry_of(f, i).marked as usize;
+    }
+    count
 }
 
 // ---- the calls

@@ -1,25 +1,32 @@
--- `status_calls::unmarked` meets its contract: the chain counts as the definition does. Assumes nothing.
-use Rattle.std.specs.Prelude.{Bool, true, false, not, List, [], ◌≡◌, ℕ, ◌+◌}
-use Rattle.std.proofs.Common.{refl, sym, ap, ◌∙◌, add-one, arith, rules, tests}
-use Rattle.std.proofs.lemmas.Iterator.{YieldsList-from_range}
-use Rattle.std.proofs.lemmas.Iterator.Consumers.{YieldsList-at, YieldsList-from_filter, count_from_yields_List}
+-- `status_calls::unmarked` meets its contract. The loop's invariant: the count is that of the records so far. Assumes nothing.
+use mir.Val.{bool_byte}
+use Rattle.std.specs.Prelude.{Bool, true, false, not, ◌≡◌, ℕ, ◌+◌, ◌≤◌}
+use Rattle.std.proofs.Common.{refl, ap, ◌∙◌, arith}
 use Rattle.base.specs.Choose.{choose}
-use Rattle.base.proofs.Ranges.{count_below}
-use Rattle.flight.specs.Status.{unmarked_after, unmarked-few}
-use Rattle.flight_words.specs.Words.{entry_at, flight_of}
+use Rattle.flight.specs.declared.Entry.{Entry}
+use Rattle.flight.specs.Status.{unmarked_after}
 use Rattle.status_calls.specs.Calls.{unmarked-more}
 use Rattle.status_calls.proofs.unmarked.Goals as goal
 
-not-one : (b : Bool) → ◌≡◌ {A = ℕ} (choose b 0 1) (choose (not b) 1 0)
+one-unmarked : (b : Bool) → ◌≡◌ {A = ℕ} (bool_byte (not b)) (choose b 0 1)
 unfolding choose
-not-one true = refl
-not-one false = refl
+one-unmarked true = refl
+one-unmarked false = refl
 
-pub returns : goal.returns
+one-most : (b : Bool) → bool_byte b ≤ 1
+one-most true = omega arith
+one-most false = omega arith
+
+pub loop-i-init : goal.loop-i-init
 unfolding unmarked_after
-returns c = let w = c.args.f.now in
-    let n = c.args.n in
-    let t = λ (i : ℕ). not (entry_at w i).marked in
-    let e = λ (m : List ℕ). count_from_yields_List c.filter.result _ c.count.ensures.ran (YieldsList-from_filter _ t (YieldsList-at c.filter.ensures.source (YieldsList-from_range 0 n n refl (omega arith))) c.filter.ensures.closure (λ x b q k. search (rules, tests)))
-    ∙ count_below t (unmarked_after (flight_of w m)) refl n (λ i l. ap (unmarked_after (flight_of w m)) (sym (add-one i)) ∙ sym (unmarked-more i w m (omega (arith, l, c.requires)) refl) ∙ ap (λ (x : ℕ). unmarked_after (flight_of w m) i + x) (not-one (entry_at w i).marked)) in
-    (e, omega (arith, e [], unmarked-few (flight_of w []) n))
+loop-i-init c = (omega arith, λ m. refl)
+
+pub loop-i-preserved : goal.loop-i-preserved
+loop-i-preserved c =
+    let v = c.loop-i.invariant in
+    let marked = c.entry_of.result.marked in
+    let most = one-most (not marked) in (
+      omega (arith, most, v.0),
+      λ m. ap (λ (k : ℕ). c.loop-i.count + k) (one-unmarked marked ∙ ap (λ (e : Entry). choose e.marked 0 1) c.entry_of.ensures)
+          ∙ unmarked-more c.loop-i.i c.args.f.now m (omega (arith, c.loop-i-test.true, c.requires)) (v.1 m),
+    )
