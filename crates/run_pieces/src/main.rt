@@ -8,7 +8,6 @@ use assembly::PieceError;
 use assembly_calls::HuskPiece;
 use assembly_steps::{COUNT, EXPECTED, HEADER_LENGTH, TOTAL, TYPE, WORDS};
 use run_lines::{front, u16_at, u32_at, u64_at};
-use std::alloc::{AllocError, Global};
 use std::io;
 use std::io::Read;
 
@@ -22,7 +21,8 @@ const CONTENT_ROOM: usize = 20480;
 #[derive(Drop)]
 struct Host {
     w: [u64; WORDS],
-    content: Vec<u8>,
+    content: [u8; CONTENT_ROOM],
+    laid: usize,
     message: [u8; 16640],
 }
 
@@ -64,13 +64,12 @@ fn bare(refusal: u8) -> HuskPiece {
 }
 
 // The fields of an answer, the checksum of a message's body and that of the whole buffer.
-fn lay(alloc: Global, p: HuskPiece, d: &[u8]) -> Result<Vec<u8>, AllocError> {
-    let mut out = vec![in alloc; p.kind, p.refusal, p.msg_type]?;
-    out.extend_from_slice(&p.number.to_be_bytes())?;
-    out.extend_from_slice(&low4(p.length as u64))?;
-    out.extend_from_slice(&low4(body_checksum(p, d)))?;
-    out.extend_from_slice(&low4(checksum(base::fragment(d, 0, MESSAGE_ROOM))))?;
-    Ok(out)
+fn lay(p: HuskPiece, d: &[u8], out: &mut [u8]) -> usize {
+    let mut n = run_lines::push_all(out, 0, &[p.kind, p.refusal, p.msg_type]);
+    n = run_lines::push_all(out, n, &p.number.to_be_bytes());
+    n = run_lines::push_all(out, n, &low4(p.length as u64));
+    n = run_lines::push_all(out, n, &low4(body_checksum(p, d)));
+    run_lines::push_all(out, n, &low4(checksum(base::fragment(d, 0, MESSAGE_ROOM))))
 }
 
 // A line has a number: that of a refusal, or 0.
@@ -90,35 +89,29 @@ fn body_byte(offset: u64, i: usize, salt: u8) -> u8 {
 }
 
 impl Host {
-    fn new(alloc: Global) -> Host {
+    fn new() -> Host {
         Host {
             w: [0; WORDS],
-            content: Vec::new(alloc),
+            content: [0; CONTENT_ROOM],
+            laid: 0,
             message: [0; 16640],
         }
     }
 
-    // How many bytes more the content may have.
-    fn room(&self) -> usize {
-        CONTENT_ROOM.saturating_sub(self.content.len())
-    }
-
     // Bytes behind what is laid.
-    fn lay(&mut self, d: &[u8]) -> Result<(), AllocError> {
-        let n = self.room();
-        self.content.extend_from_slice(base::fragment(d, 0, n))
+    fn lay(&mut self, d: &[u8]) {
+        self.laid = run_lines::push_all(&mut self.content, self.laid, d);
     }
 
     // A piece behind what is laid: its header as it is given, and as many bytes of the body as the header says.
-    fn lay_piece(&mut self, input: &[u8]) -> Result<(), AllocError> {
-        self.lay(base::fragment(input, 0, HEADER_LENGTH))?;
+    fn lay_piece(&mut self, input: &[u8]) {
+        self.lay(base::fragment(input, 0, HEADER_LENGTH));
         let offset = u32_at(input, 6) as u64 / 256;
         let length = (u32_at(input, 8) % 0x100_0000) as usize;
         let salt = run_lines::get1(input, HEADER_LENGTH);
-        for i in 0..length.min(self.room()) {
-            self.content.push(body_byte(offset, i, salt))?;
+        for i in 0..length.min(CONTENT_ROOM) {
+            self.lay(&[body_byte(offset, i, salt)]);
         }
-        Ok(())
     }
 
     fn fresh(&mut self) {
@@ -136,7 +129,7 @@ impl Host {
     // The next piece, with so many bytes of the message's buffer lent.
     fn take(&mut self, lent: usize) -> HuskPiece {
         let d = front(&mut self.message, lent);
-        assembly_calls::take_piece(&mut self.w, &self.content, d)
+        assembly_calls::take_piece(&mut self.w, base::fragment(&self.content, 0, self.laid), d)
     }
 
     // The number expected and, in the place of the refusal, how many pieces are held; with one, type and total of the first.
@@ -152,35 +145,37 @@ impl Host {
     }
 
     // A step that lays content, is a call, or shows or sets what calls keep.
-    fn step(&mut self, letter: u8, input: &[u8]) -> Result<HuskPiece, AllocError> {
+    fn step(&mut self, letter: u8, input: &[u8]) -> HuskPiece {
         match letter {
-            b'e' => self.content.clear(),
-            b'p' => self.lay_piece(input)?,
-            b'x' => self.lay(input)?,
-            b's' => self.content.truncate(u16_at(input, 0) as usize),
+            b'e' => self.laid = 0,
+            b'p' => self.lay_piece(input),
+            b'x' => self.lay(input),
+            b's' => self.laid = self.laid.min(u16_at(input, 0) as usize),
             b'f' => self.fresh(),
             b'w' => self.set_word(run_lines::get1(input, 0) as usize, u64_at(input, 1)),
-            b'b' => return Ok(begun(assembly_calls::begin(&mut self.w, self.content.len()))),
-            b'n' => return Ok(begun(assembly_calls::begin(&mut self.w, u64_at(input, 0) as usize))),
-            b't' => return Ok(self.take(u16_at(input, 0) as usize)),
-            b'v' => return Ok(self.view()),
+            b'b' => return begun(assembly_calls::begin(&mut self.w, self.laid)),
+            b'n' => return begun(assembly_calls::begin(&mut self.w, u64_at(input, 0) as usize)),
+            b't' => return self.take(u16_at(input, 0) as usize),
+            b'v' => return self.view(),
             _ => {}
         }
-        Ok(bare(0))
+        bare(0)
     }
 }
 
-// Each line of input is answered on standard output.
+// Each line of input is answered on standard output. The buffers are fixed: no input is refused for want of memory.
 fn main(rt: HostRuntime) -> io::Result<()> {
-    let mut host = Host::new(rt.alloc());
-    let mut text = Vec::new(rt.alloc());
-    rt.reader().take(65536).read_to_end(&mut text)?;
-    for line in text.split_inclusive(|b| *b == b'\n') {
-        let mut space = [0; 256];
+    let mut host = Host::new();
+    let mut text = [0; 65536];
+    let mut room: &mut [u8] = &mut text;
+    let n = io::copy(&mut rt.reader().take(65536), &mut room)?;
+    let mut space = [0; 256];
+    let mut found = [0; 32];
+    for line in base::fragment(&text, 0, n as usize).split_inclusive(|b| *b == b'\n') {
         let (letter, input) = run_lines::read(line, &mut space);
-        let p = host.step(letter, input)?;
-        let found = lay(rt.alloc(), p, &host.message)?;
-        rt.write_all(run_lines::line(letter, &found, &mut [0; 128]))?;
+        let p = host.step(letter, input);
+        let k = lay(p, &host.message, &mut found);
+        rt.write_all(run_lines::line(letter, base::fragment(&found, 0, k), &mut [0; 128]))?;
     }
     Ok(())
 }

@@ -8,7 +8,6 @@ use datagram::{Datagram, Question};
 use receiving::Refusal;
 use recv_calls::HuskReading;
 use recv_words::{COUNT, WORDS};
-use std::alloc::{AllocError, Global};
 use std::io;
 use std::io::Read;
 
@@ -70,22 +69,23 @@ fn line_reason(r: HuskReading) -> u8 {
 }
 
 // The 30 bytes before the bytes shown, of which the last two are their number, then these.
-fn lay(alloc: Global, r: HuskReading, shown: &[u8]) -> Result<Vec<u8>, AllocError> {
-    let mut out = vec![in alloc; line_refusal(r), line_kind(r), line_reason(r)]?;
-    out.extend_from_slice(&r.epoch.to_be_bytes())?;
-    out.extend_from_slice(&r.number.to_be_bytes())?;
-    out.push(r.content_type)?;
-    out.extend_from_slice(&((r.start % 0x1_0000) as u16).to_be_bytes())?;
-    out.extend_from_slice(&r.nonce)?;
-    out.extend_from_slice(&((shown.len() % 0x1_0000) as u16).to_be_bytes())?;
-    out.extend_from_slice(shown)?;
-    Ok(out)
+fn lay(r: HuskReading, shown: &[u8], out: &mut [u8]) -> usize {
+    let mut n = run_lines::push_all(out, 0, &[line_refusal(r), line_kind(r), line_reason(r)]);
+    n = run_lines::push_all(out, n, &r.epoch.to_be_bytes());
+    n = run_lines::push_all(out, n, &r.number.to_be_bytes());
+    n = run_lines::push(out, n, r.content_type);
+    n = run_lines::push_all(out, n, &((r.start % 0x1_0000) as u16).to_be_bytes());
+    n = run_lines::push_all(out, n, &r.nonce);
+    n = run_lines::push_all(out, n, &((shown.len() % 0x1_0000) as u16).to_be_bytes());
+    run_lines::push_all(out, n, shown)
 }
 
 // An answer on standard output.
-fn say(rt: &impl Print, alloc: Global, letter: u8, r: HuskReading, shown: &[u8]) -> io::Result<()> {
-    let found = lay(alloc, r, shown)?;
-    rt.write_all(run_lines::line(letter, &found, &mut [0; 33536]))
+fn say(rt: &impl Print, letter: u8, r: HuskReading, shown: &[u8]) -> io::Result<()> {
+    let mut found = [0; 16640];
+    let mut text = [0; 33536];
+    let n = lay(r, shown, &mut found);
+    rt.write_all(run_lines::line(letter, base::fragment(&found, 0, n), &mut text))
 }
 
 // The bytes that a reading names in the datagram: of an opening question, the header.
@@ -256,25 +256,18 @@ impl Host {
     }
 
     // The letter d shows the datagram as it lies.
-    fn step(&mut self, rt: &impl Print, alloc: Global, letter: u8, input: &[u8]) -> io::Result<()> {
+    fn step(&mut self, rt: &impl Print, letter: u8, input: &[u8]) -> io::Result<()> {
         let size = self.size();
         match letter {
             b'm' | b'o' | b'r' => {
                 let r = self.reading(letter, input);
                 let d = base::fragment(&self.d, 0, size);
-                say(rt, alloc, letter, r, shown(d, r))
+                say(rt, letter, r, shown(d, r))
             }
-            b'd' => say(
-                rt,
-                alloc,
-                letter,
-                bare(0, 0),
-                base::fragment(&self.d, 0, size),
-            ),
-            b'b' => say(rt, alloc, letter, answered(self.begin(input)), b""),
+            b'd' => say(rt, letter, bare(0, 0), base::fragment(&self.d, 0, size)),
+            b'b' => say(rt, letter, answered(self.begin(input)), b""),
             _ => say(
                 rt,
-                alloc,
                 letter,
                 answered(host_step(&mut self.w, letter, input)),
                 b"",
@@ -283,15 +276,16 @@ impl Host {
     }
 }
 
-// Of each line of input 16,640 bytes are read.
+// Of each line of input 16,640 bytes are read. The buffers are fixed: no input is refused for want of memory.
 fn main(rt: HostRuntime) -> io::Result<()> {
     let mut host = Host::new();
-    let mut text = Vec::new(rt.alloc());
-    rt.reader().take(65536).read_to_end(&mut text)?;
-    for line in text.split_inclusive(|b| *b == b'\n') {
-        let mut space = [0; 16640];
+    let mut text = [0; 65536];
+    let mut room: &mut [u8] = &mut text;
+    let n = io::copy(&mut rt.reader().take(65536), &mut room)?;
+    let mut space = [0; 16640];
+    for line in base::fragment(&text, 0, n as usize).split_inclusive(|b| *b == b'\n') {
         let (letter, input) = run_lines::read(line, &mut space);
-        host.step(&rt, rt.alloc(), letter, input)?;
+        host.step(&rt, letter, input)?;
     }
     Ok(())
 }

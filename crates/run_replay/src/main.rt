@@ -7,7 +7,6 @@ use handshake::Header;
 use incoming::Inner;
 use record::Parsed;
 use run_lines::{u16_at, u32_at, u64_at};
-use std::alloc::{AllocError, Global};
 use std::io;
 use std::io::Read;
 use window::{ReplayWindow, Verdict};
@@ -20,19 +19,19 @@ fn verdict_number(v: Verdict) -> u8 {
     }
 }
 
-// A script of steps over a new window, nine bytes each: 1 marks a number, 0 asks for the verdict on it.
-fn windows(alloc: Global, d: &[u8]) -> Result<Vec<u8>, AllocError> {
+// A script of steps over a new window, nine bytes each: 1 marks a number, 0 asks for the verdict on it. How many bytes the verdicts have.
+fn windows(d: &[u8], out: &mut [u8]) -> usize {
     let mut w = ReplayWindow::new();
-    let mut verdicts = Vec::new(alloc);
+    let mut n = 0;
     for step in d.chunks_exact(9) {
         let seqno = u64_at(step, 1);
         if run_lines::get1(step, 0) == 1 {
             w = w.update(seqno);
         } else {
-            verdicts.push(verdict_number(w.check(seqno)))?;
+            n = run_lines::push(out, n, verdict_number(w.check(seqno)));
         }
     }
-    Ok(verdicts)
+    n
 }
 
 fn sequences(d: &[u8]) -> [u8; 8] {
@@ -96,13 +95,12 @@ impl From<Parsed> for Summary {
     }
 }
 
-fn records(alloc: Global, d: &[u8]) -> Result<Vec<u8>, AllocError> {
+fn records(d: &[u8], out: &mut [u8]) -> usize {
     let t = Summary::from(record::parse(d));
-    let mut answer = vec![in alloc; t.kind, t.content_type, t.bits, t.s_flag as u8]?;
-    answer.extend_from_slice(&t.number.to_be_bytes())?;
-    answer.extend_from_slice(&((t.head % 0x1_0000) as u16).to_be_bytes())?;
-    answer.extend_from_slice(&((t.length % 0x1_0000) as u16).to_be_bytes())?;
-    Ok(answer)
+    let mut n = run_lines::push_all(out, 0, &[t.kind, t.content_type, t.bits, t.s_flag as u8]);
+    n = run_lines::push_all(out, n, &t.number.to_be_bytes());
+    n = run_lines::push_all(out, n, &((t.head % 0x1_0000) as u16).to_be_bytes());
+    run_lines::push_all(out, n, &((t.length % 0x1_0000) as u16).to_be_bytes())
 }
 
 fn plaintext_headers(d: &[u8]) -> [u8; 13] {
@@ -153,31 +151,34 @@ fn inner_told(p: Option<Inner>) -> [u8; 4] {
     }
 }
 
-// The answer of the leaf that a letter names.
-fn answer(alloc: Global, letter: u8, d: &[u8]) -> Result<Vec<u8>, AllocError> {
+// The answer of the leaf that a letter names, in a lent buffer, and its length.
+fn answer(letter: u8, d: &[u8], out: &mut [u8]) -> usize {
     match letter {
-        b'w' => windows(alloc, d),
-        b's' => sequences(d).to_vec(alloc),
-        b'n' => nonces(d).to_vec(alloc),
-        b'p' => records(alloc, d),
-        b'q' => plaintext_headers(d).to_vec(alloc),
-        b'u' => unified_headers(d).to_vec(alloc),
-        b'h' => handshake_headers(d).to_vec(alloc),
-        b'g' => header_told(Header::parse_header(d)).to_vec(alloc),
-        b't' => inner_told(incoming::recover_inner_content_type(d)).to_vec(alloc),
-        _ => Ok(Vec::new(alloc)),
+        b'w' => windows(d, out),
+        b's' => run_lines::push_all(out, 0, &sequences(d)),
+        b'n' => run_lines::push_all(out, 0, &nonces(d)),
+        b'p' => records(d, out),
+        b'q' => run_lines::push_all(out, 0, &plaintext_headers(d)),
+        b'u' => run_lines::push_all(out, 0, &unified_headers(d)),
+        b'h' => run_lines::push_all(out, 0, &handshake_headers(d)),
+        b'g' => run_lines::push_all(out, 0, &header_told(Header::parse_header(d))),
+        b't' => run_lines::push_all(out, 0, &inner_told(incoming::recover_inner_content_type(d))),
+        _ => 0,
     }
 }
 
-// Each line of input is answered on standard output.
+// Each line of input is answered on standard output. The buffers are fixed: no input is refused for want of memory.
 fn main(rt: HostRuntime) -> io::Result<()> {
-    let mut text = Vec::new(rt.alloc());
-    rt.reader().take(65536).read_to_end(&mut text)?;
-    for line in text.split_inclusive(|b| *b == b'\n') {
-        let mut space = [0; 32768];
+    let mut input = [0; 65536];
+    let mut room: &mut [u8] = &mut input;
+    let n = io::copy(&mut rt.reader().take(65536), &mut room)?;
+    let mut space = [0; 32768];
+    let mut found = [0; 4096];
+    let mut text = [0; 16384];
+    for line in base::fragment(&input, 0, n as usize).split_inclusive(|b| *b == b'\n') {
         let (letter, d) = run_lines::read(line, &mut space);
-        let found = answer(rt.alloc(), letter, d)?;
-        rt.write_all(run_lines::line(letter, &found, &mut [0; 16384]))?;
+        let k = answer(letter, d, &mut found);
+        rt.write_all(run_lines::line(letter, base::fragment(&found, 0, k), &mut text))?;
     }
     Ok(())
 }

@@ -9,7 +9,6 @@ use send_words::{
     APPLICATION, APPLICATION_NEXT, APPLICATION_SEALED, CLOSED, COUNT, FIRST, HANDSHAKE_NEXT,
     HANDSHAKE_SEALED, LIMIT, MESSAGE, MTU, PLAINTEXT_NEXT, WORDS,
 };
-use std::alloc::{AllocError, Global};
 use std::io;
 use std::io::Read;
 
@@ -50,24 +49,24 @@ fn bare(refusal: u8, kind: u8, length: usize) -> HuskSealing {
 }
 
 // The 35 bytes before the bytes shown, of which the last two are their number, then these.
-fn lay(alloc: Global, t: HuskSealing, shown: &[u8]) -> Result<Vec<u8>, AllocError> {
-    let mut out = vec![in alloc; t.refusal, t.kind]?;
-    out.extend_from_slice(&t.epoch.to_be_bytes())?;
-    out.extend_from_slice(&t.number.to_be_bytes())?;
-    out.extend_from_slice(&low2(t.start as u64))?;
-    out.extend_from_slice(&low2(t.length as u64))?;
-    out.extend_from_slice(&t.nonce)?;
-    out.extend_from_slice(&t.header)?;
-    out.extend_from_slice(&low2(shown.len() as u64))?;
-    out.extend_from_slice(shown)?;
-    Ok(out)
+fn lay(t: HuskSealing, shown: &[u8], out: &mut [u8]) -> usize {
+    let mut n = run_lines::push_all(out, 0, &[t.refusal, t.kind]);
+    n = run_lines::push_all(out, n, &t.epoch.to_be_bytes());
+    n = run_lines::push_all(out, n, &t.number.to_be_bytes());
+    n = run_lines::push_all(out, n, &low2(t.start as u64));
+    n = run_lines::push_all(out, n, &low2(t.length as u64));
+    n = run_lines::push_all(out, n, &t.nonce);
+    n = run_lines::push_all(out, n, &t.header);
+    n = run_lines::push_all(out, n, &low2(shown.len() as u64));
+    run_lines::push_all(out, n, shown)
 }
 
 // An answer on standard output, of 2,048 bytes at most.
-fn say(rt: &impl Print, alloc: Global, letter: u8, t: HuskSealing, shown: &[u8]) -> io::Result<()> {
-    let found = lay(alloc, t, shown)?;
-    let told = base::fragment(&found, 0, 2048);
-    rt.write_all(run_lines::line(letter, told, &mut [0; 4352]))
+fn say(rt: &impl Print, letter: u8, t: HuskSealing, shown: &[u8]) -> io::Result<()> {
+    let mut found = [0; 2048];
+    let mut text = [0; 4352];
+    let n = lay(t, shown, &mut found);
+    rt.write_all(run_lines::line(letter, base::fragment(&found, 0, n), &mut text))
 }
 
 // ---- the parts that steps show
@@ -82,13 +81,12 @@ fn length_at(w: &[u64; WORDS], i: usize) -> u64 {
     0
 }
 
-fn lay_keys(alloc: Global, w: &[u64; WORDS]) -> Result<Vec<u8>, AllocError> {
-    let mut out = w[PLAINTEXT_NEXT].to_be_bytes().to_vec(alloc)?;
-    out.extend_from_slice(&w[HANDSHAKE_NEXT].to_be_bytes())?;
-    out.extend_from_slice(&low2(w[APPLICATION]))?;
-    out.extend_from_slice(&w[APPLICATION_NEXT].to_be_bytes())?;
-    out.extend_from_slice(&low2(w[MESSAGE]))?;
-    Ok(out)
+fn lay_keys(w: &[u64; WORDS], out: &mut [u8]) -> usize {
+    let mut n = run_lines::push_all(out, 0, &w[PLAINTEXT_NEXT].to_be_bytes());
+    n = run_lines::push_all(out, n, &w[HANDSHAKE_NEXT].to_be_bytes());
+    n = run_lines::push_all(out, n, &low2(w[APPLICATION]));
+    n = run_lines::push_all(out, n, &w[APPLICATION_NEXT].to_be_bytes());
+    run_lines::push_all(out, n, &low2(w[MESSAGE]))
 }
 
 // A number that a saved record remembers.
@@ -279,67 +277,69 @@ impl Host {
         bare(a.refusal, (a.refusal == 0 && a.told == 0) as u8, 0)
     }
 
-    fn take(&mut self, rt: &impl Print, alloc: Global, input: &[u8]) -> io::Result<()> {
+    fn take(&mut self, rt: &impl Print, input: &[u8]) -> io::Result<()> {
         let mut buffer = [0xEEu8; 1600];
         let n = u16_at(input, 0) as usize;
         let queue = front(&mut self.queue, self.queue_lent);
         let r = send_calls::take(&mut self.w, front(&mut buffer, n), queue);
         let t = bare(r.refusal, r.kind, r.length);
-        say(rt, alloc, b't', t, base::fragment(&buffer, 0, n))
+        say(rt, b't', t, base::fragment(&buffer, 0, n))
     }
 
-    fn question(&self, rt: &impl Print, alloc: Global) -> io::Result<()> {
+    fn question(&self, rt: &impl Print) -> io::Result<()> {
         let mut q = send_calls::sealing(&self.w);
         if q.kind == 2 {
             q.kind = 3;
         }
         let queue = base::fragment(&self.queue, 0, self.queue_lent);
-        say(rt, alloc, b'q', q, base::fragment(queue, q.start, q.length))
+        say(rt, b'q', q, base::fragment(queue, q.start, q.length))
     }
 
     // The next numbers, the queue's lengths, how many records are saved and noted.
-    fn view(&self, rt: &impl Print, alloc: Global) -> io::Result<()> {
+    fn view(&self, rt: &impl Print) -> io::Result<()> {
         let w = &self.w;
-        let mut out = lay_keys(alloc, w)?;
-        out.extend_from_slice(&low2(w[COUNT]))?;
-        out.extend_from_slice(&low2(w[CLOSED]))?;
+        let mut out = [0; 128];
+        let mut n = lay_keys(w, &mut out);
+        n = run_lines::push_all(&mut out, n, &low2(w[COUNT]));
+        n = run_lines::push_all(&mut out, n, &low2(w[CLOSED]));
         for i in 0..w[COUNT] as usize {
-            out.extend_from_slice(&low2(length_at(w, i)))?;
+            n = run_lines::push_all(&mut out, n, &low2(length_at(w, i)));
         }
-        out.extend_from_slice(&low2(self.f[flight_words::SAVED]))?;
-        out.extend_from_slice(&low2(self.count[0]))?;
-        say(rt, alloc, b'v', bare(0, 0, 0), base::fragment(&out, 0, 128))
+        n = run_lines::push_all(&mut out, n, &low2(self.f[flight_words::SAVED]));
+        n = run_lines::push_all(&mut out, n, &low2(self.count[0]));
+        say(rt, b'v', bare(0, 0, 0), base::fragment(&out, 0, n))
     }
 
     // A saved record: type, epoch, number, whether it was acknowledged, what it remembers, its content.
-    fn entry(&self, rt: &impl Print, alloc: Global, i: usize) -> io::Result<()> {
+    fn entry(&self, rt: &impl Print, i: usize) -> io::Result<()> {
         if 12 <= i {
             return Ok(());
         }
         let e = flight_words::entry_of(&self.f, i);
         let start = content_start(self.w[MTU] as usize, i);
         let kept = base::fragment(&self.kept, 0, self.kept_lent);
-        let mut out = vec![in alloc; 0, e.marked as u8]?;
-        out.extend_from_slice(&low2(e.remembered as u64))?;
+        let mut out = [0; 2000];
+        let mut n = run_lines::push_all(&mut out, 0, &[0, e.marked as u8]);
+        n = run_lines::push_all(&mut out, n, &low2(e.remembered as u64));
         for k in 0..e.remembered {
-            out.extend_from_slice(&remembered(&self.numbers, i, k).to_be_bytes())?;
+            n = run_lines::push_all(&mut out, n, &remembered(&self.numbers, i, k).to_be_bytes());
         }
-        out.extend_from_slice(base::fragment(kept, start, e.length))?;
+        n = run_lines::push_all(&mut out, n, base::fragment(kept, start, e.length));
         let mut t = bare(0, e.content_type, e.length);
         t.epoch = e.epoch;
         t.number = e.number;
-        say(rt, alloc, b'e', t, base::fragment(&out, 0, 2000))
+        say(rt, b'e', t, base::fragment(&out, 0, n))
     }
 
-    fn step(&mut self, rt: &impl Print, alloc: Global, letter: u8, input: &[u8]) -> io::Result<()> {
+    fn step(&mut self, rt: &impl Print, letter: u8, input: &[u8]) -> io::Result<()> {
         match letter {
-            b'n' => say(rt, alloc, letter, self.note(input), b""),
-            b'c' => say(rt, alloc, letter, self.send_ack(), b""),
-            b't' => self.take(rt, alloc, input),
-            b'q' => self.question(rt, alloc),
-            b'v' => self.view(rt, alloc),
-            b'e' => self.entry(rt, alloc, run_lines::get1(input, 0) as usize),
-            _ => say(rt, alloc, letter, bare(self.call(letter, input), 0, 0), b""),
+            b'n' => say(rt, letter, self.note(input), b""),
+            b'c' => say(rt, letter, self.send_ack(), b""),
+            b't' => self.take(rt, input),
+            b'q' => self.question(rt),
+            b'v' => self.view(rt),
+            b'e' => self.entry(rt, run_lines::get1(input, 0) as usize),
+            _ => say(rt, letter, bare(self.call(letter, input), 0, 0), b""),
         }
     }
 }
@@ -354,35 +354,37 @@ fn pattern_at(d: &[u8], i: usize) -> u8 {
 }
 
 // The bytes before a content, the last two of which are its length; then the content, of which a pattern is given.
-fn fill(alloc: Global, input: &[u8], head: usize, n: u16) -> Result<Vec<u8>, AllocError> {
+fn fill(input: &[u8], head: usize, n: u16, out: &mut [u8]) -> usize {
     let pattern = base::behind(input, head);
-    let mut whole = base::fragment(input, 0, head).to_vec(alloc)?;
+    let mut m = run_lines::push_all(out, 0, base::fragment(input, 0, head));
     for i in 0..n as usize {
-        whole.push(pattern_at(pattern, i))?;
+        m = run_lines::push(out, m, pattern_at(pattern, i));
     }
-    Ok(whole)
+    m
 }
 
 // A line's bytes with its content whole.
-fn expand(alloc: Global, letter: u8, input: &[u8]) -> Result<Vec<u8>, AllocError> {
+fn expand(letter: u8, input: &[u8], out: &mut [u8]) -> usize {
     match letter {
-        b'd' | b'p' => fill(alloc, input, 5, u16_at(input, 3)),
-        b'h' => fill(alloc, input, 3, u16_at(input, 1)),
-        b's' => fill(alloc, input, 4, u16_at(input, 2)),
-        _ => input.to_vec(alloc),
+        b'd' | b'p' => fill(input, 5, u16_at(input, 3), out),
+        b'h' => fill(input, 3, u16_at(input, 1), out),
+        b's' => fill(input, 4, u16_at(input, 2), out),
+        _ => run_lines::push_all(out, 0, input),
     }
 }
 
-// Of each line of input 16,640 bytes are read.
+// Of each line of input 16,640 bytes are read, and as many with its content whole. The buffers are fixed: no input is refused for want of memory.
 fn main(rt: HostRuntime) -> io::Result<()> {
     let mut host = Host::new();
-    let mut text = Vec::new(rt.alloc());
-    rt.reader().take(65536).read_to_end(&mut text)?;
-    for line in text.split_inclusive(|b| *b == b'\n') {
-        let mut space = [0; 16640];
+    let mut text = [0; 65536];
+    let mut room: &mut [u8] = &mut text;
+    let n = io::copy(&mut rt.reader().take(65536), &mut room)?;
+    let mut space = [0; 16640];
+    let mut whole = [0; 16640];
+    for line in base::fragment(&text, 0, n as usize).split_inclusive(|b| *b == b'\n') {
         let (letter, d) = run_lines::read(line, &mut space);
-        let input = expand(rt.alloc(), letter, d)?;
-        host.step(&rt, rt.alloc(), letter, base::fragment(&input, 0, 16640))?;
+        let m = expand(letter, d, &mut whole);
+        host.step(&rt, letter, base::fragment(&whole, 0, m))?;
     }
     Ok(())
 }
