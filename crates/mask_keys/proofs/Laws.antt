@@ -1,13 +1,13 @@
 -- What a slot holds once it, or another, is filled or emptied, or one goes. Assumes nothing.
-use Rattle.std.specs.Prelude.{true, false, List, [], ◌∷◌, ◌≡◌, refl, ℕ, zero, suc, ◌+◌, ◌*◌, ◌<◌, ◌≤◌, eqb, length, take, drop, get_or, replicate}
-use Rattle.std.proofs.Common.{⊎_elim, sym, ap, ◌∙◌, add-zero, arith, length-take, length-drop, drop-drop, ext_get_or, lt-ltb, le-ltb}
+use Rattle.std.specs.Prelude.{true, false, List, [], ◌∷◌, ◌≡◌, refl, ℕ, zero, suc, ◌+◌, ◌*◌, ◌<◌, ◌≤◌, ltb, eqb, length, take, drop, get_or, set, replicate}
+use Rattle.std.proofs.Common.{⊎_elim, sym, ap, ◌∙◌, add-zero, arith, length-take, length-drop, length-set, drop-drop, get_or-set_same, get_or-set_other, ext_get_or, lt-ltb, le-ltb}
 use Rattle.std.proofs.lemmas.List.{get_or-replicate, get_or_append_left, get_or-append-add}
 use Rattle.std.specs.List.{SameBelow, CopiedTo}
 use Prim.Native.Nat.{◌-◌}
 use mathlib.Core.List.{◌++◌}
 use Rattle.std.proofs.Common.{get_or-drop}
 use Rattle.std.proofs.Math.ListN.{get_or-eq_default}
-use Rattle.base.specs.Choose.{if_true, if_false, by_less, lt-or_ge}
+use Rattle.base.specs.Choose.{choose, if_true, if_false, by_less, lt-or_ge, eq-or_ne}
 use Rattle.base.specs.Parts.{part, splice, length_part, part_at, length-splice, splice_at, splice_front, splice-here, splice-before, splice-after}
 use Rattle.mask_keys.specs.Keys.{key_size, slot_size, sample_size, slot_at, has_key, key_at, filled, emptied, moved_up}
 
@@ -175,3 +175,67 @@ padded s i =
     ∙ get_or-drop (length s) (replicate sample_size 0) (i - length s) 0 ∙ ap (λ (j : ℕ). get_or (replicate sample_size 0) j 0) (sym e) ∙ zeros
     ∙ sym (get_or-eq_default s 0 g))
     (lt-or_ge i (length s))
+
+-- ---- byte by byte: what holds of a slot moved up, and of a sample laid, at each place in between
+
+-- the bytes of k before place j moved up, in m
+abbrev pub Moving : ℕ → List ℕ → ℕ → List ℕ → Type 0
+Moving i k j m = (slot_at i ≤ j) × (length m ≡ length k) × ((n : ℕ) → get_or m n 0 ≡ choose (ltb n j) (moved_up i k n) (get_or k n 0))
+
+pub moving_none : (i : ℕ) (k : List ℕ) → Moving i k (slot_at i) k
+moving_none i k = (
+  omega arith,
+  refl,
+  λ n. by_less (λ (x : ℕ). get_or k n 0 ≡ x) n (slot_at i) (λ h. sym (if_true _ _ (lt-ltb n (slot_at i) h))) (λ h. refl),
+)
+
+pub moving_next : (i j b : ℕ) (m k : List ℕ) → j < length m → b ≡ get_or m (j + slot_size) 0 → Moving i k j m → Moving i k (j + 1) (set m j b)
+moving_next i j b m k l e (a, size, f) = (
+  omega arith,
+  length-set m j b ∙ size,
+  λ n. ⊎_elim
+      (λ (q : n ≡ j). rw q
+      (get_or-set_same m j b 0 l ∙ e ∙ f (j + slot_size) ∙ if_false _ _ (le-ltb (j + slot_size) j (omega arith))
+      ∙ sym (if_true _ _ (lt-ltb j (j + 1) (omega arith)) ∙ if_false _ _ (le-ltb j (slot_at i) a))))
+      (λ (q : n ≡ j → ⊥). get_or-set_other m j n b 0 q ∙ f n
+      ∙ by_less (λ (x : ℕ). x ≡ choose (ltb n (j + 1)) (moved_up i k n) (get_or k n 0)) n j
+      (λ h. sym (if_true _ _ (lt-ltb n (j + 1) (omega arith)))) (λ h. sym (if_false _ _ (le-ltb n (j + 1) (omega arith)))))
+      (eq-or_ne n j),
+)
+
+pub moving_all : (i j : ℕ) (m k : List ℕ) → length m ≤ j → Moving i k j m → (n : ℕ) → get_or m n 0 ≡ moved_up i k n
+moving_all i j m k l (a, size, f) n =
+    f n
+    ∙ by_less (λ (x : ℕ). x ≡ moved_up i k n) n j (λ h. refl)
+    (λ h. get_or-eq_default k 0 (omega arith)
+    ∙ sym (if_false _ _ (le-ltb n (slot_at i) (omega arith)) ∙ get_or-eq_default k 0 (omega arith)))
+
+-- the first i bytes of s in 16, and zeros behind
+abbrev pub Sampled : List ℕ → ℕ → List ℕ → Type 0
+Sampled s i m = (i ≤ length s) × (length s ≤ sample_size) × (length m ≡ sample_size) × ((n : ℕ) → get_or m n 0 ≡ choose (ltb n i) (get_or s n 0) 0)
+
+pub sampled_none : (s : List ℕ) → length s ≤ sample_size → Sampled s 0 (replicate sample_size 0)
+sampled_none s l = (
+  omega arith,
+  l,
+  refl,
+  λ n. ⊎_elim (λ h. get_or-replicate sample_size n 0 0 h) (λ h. get_or-eq_default (replicate sample_size 0) 0 h) (lt-or_ge n sample_size)
+      ∙ sym (if_false _ _ (le-ltb n 0 (omega arith))),
+)
+
+pub sampled_next : (s m : List ℕ) (i : ℕ) → i < length s → Sampled s i m → Sampled s (i + 1) (set m i (get_or s i 0))
+sampled_next s m i l (a, b, size, f) = (
+  omega arith,
+  b,
+  length-set m i (get_or s i 0) ∙ size,
+  λ n. ⊎_elim
+      (λ (q : n ≡ i). rw q (get_or-set_same m i (get_or s i 0) 0 (omega arith) ∙ sym (if_true _ _ (lt-ltb i (i + 1) (omega arith)))))
+      (λ (q : n ≡ i → ⊥). get_or-set_other m i n (get_or s i 0) 0 q ∙ f n
+      ∙ by_less (λ (x : ℕ). x ≡ choose (ltb n (i + 1)) (get_or s n 0) 0) n i
+      (λ h. sym (if_true _ _ (lt-ltb n (i + 1) (omega arith)))) (λ h. sym (if_false _ _ (le-ltb n (i + 1) (omega arith)))))
+      (eq-or_ne n i),
+)
+
+pub sampled_all : (s m : List ℕ) (i : ℕ) → length s ≤ i → Sampled s i m → (n : ℕ) → get_or m n 0 ≡ get_or s n 0
+sampled_all s m i l (a, b, size, f) n =
+    f n ∙ by_less (λ (x : ℕ). x ≡ get_or s n 0) n i (λ h. refl) (λ h. sym (get_or-eq_default s 0 (omega arith)))
